@@ -312,7 +312,7 @@ module _ (origin : Origin) where
       let is = own_is sightings all gathered wanted in
       let are = all_mine sightings gathered.made (subst (λ (w : Wanted). AreMade w sightings gathered.made) wanted gathered.taken.are_made)
       (sound_of gathered.made (sym (ap (λ (d : Own). d.lack) is) ∙ none)) in
-      let few = one_sender_at_most origin.sender origin.place sightings are.mine are.are_made in record {
+      let few = one_sender_at_most origin.sender origin.place false sightings are.mine are.are_made in record {
         gathering = record {
           wanted = own;
           names = all.names;

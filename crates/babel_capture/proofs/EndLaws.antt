@@ -13,7 +13,7 @@ use Rattle.babel_capture.specs.Blocks.{Sighting, sight_in, sighting_of, skipped_
 use Rattle.babel_capture.specs.Contents.{Captured, Content, file, section, describes, holds, skips, nothing}
 use Rattle.babel_capture.specs.Counts.{Made}
 use Rattle.babel_capture.specs.Findings.{Found, passed, untold, left, refused, lacked, found, Finds, is_in_turn}
-use Rattle.babel_capture.specs.Gathering.{AreMade, BlockNeedsMemory, OriginIs, dump_of, octets_found, origin_added, origin_found}
+use Rattle.babel_capture.specs.Gathering.{AreMade, BlockNeedsMemory, OriginIs, dump_of, octets_found, origin_noted, origin_found}
 use Rattle.babel_capture.specs.Times.{Came, time_of}
 use Rattle.babel_capture.specs.PacketEnds.{time_told, AreEnds, end_found, ends_from, ends_of, is_noted, is_packet}
 use Rattle.babel_capture.specs.Sight.{Sight, other}
@@ -117,15 +117,17 @@ with-one wanted taken made one ends new are is = record {
   are_ends = is;
 }
 
-one-more : (wanted : Wanted) (taken more : List ℕ) (made : List Made) (one : Made) (origin : Option Origin) (ends : List PacketEnd) → origin ≡ origin_added wanted one.what
+one-more : (wanted : Wanted) (taken more : List ℕ) (made : List Made) (one : Made) (origin : Option Origin) (ends : List PacketEnd) → origin ≡ origin_noted wanted one.what
     → taken ++ more ≡ dump_of wanted (made ++ one ∷ []) → AreEnds wanted taken made ends
     → AreEnds wanted taken (made ++ one ∷ []) (noted (is_in_turn wanted) (end_at (length more) one.number one.came origin) ends)
 one-more wanteds.Everyone taken more made one origin ends is is_more are =
     with-one wanteds.Everyone taken made one ends _ are (ap (λ (o : Option Origin). noted false (end_at (length more) one.number one.came o) ends) is ∙ are.are_ends)
 one-more wanteds.Each taken more made one origin ends is is_more are =
     with-one wanteds.Each taken made one ends _ are (ap (λ (o : Option Origin). noted false (end_at (length more) one.number one.came o) ends) is ∙ are.are_ends)
-one-more (wanteds.Sender sender place) taken more made one origin ends is is_more are =
-    with-one (wanteds.Sender sender place) taken made one ends _ are (ap (λ (o : Option Origin). noted false (end_at (length more) one.number one.came o) ends) is
+one-more (wanteds.Sender sender place false) taken more made one origin ends is is_more are =
+    with-one (wanteds.Sender sender place false) taken made one ends _ are (ap (λ (o : Option Origin). noted false (end_at (length more) one.number one.came o) ends) is ∙ are.are_ends)
+one-more (wanteds.Sender sender place true) taken more made one origin ends is is_more are =
+    with-one (wanteds.Sender sender place true) taken made one ends _ are (ap (λ (o : Option Origin). noted false (end_at (length more) one.number one.came o) ends) is
     ∙ dump-more false taken more are.gone are.kept one ends are.taken_is (is_more ∙ ap (λ (m : List Made). octets_made (m ++ one ∷ [])) are.whole) are.are_ends)
 one-more (wanteds.InTurn sender place) taken more made one origin ends is is_more are =
     with-one (wanteds.InTurn sender place) taken made one ends _ are (ap (λ (o : Option Origin). noted true (end_at (length more) one.number one.came o) ends) is
@@ -152,7 +154,7 @@ packet-after wanted taken more number count origin here before made others ends 
         (let same : made ≡ last.front = made_one wanted before made last.front are last.are_front in
         let whole : others ≡ made ++ last.one ∷ [] = last.whole ∙ ap (λ (m : List Made). m ++ last.one ∷ []) (sym same) in
         let is_last : last.one.number ≡ count = last.number ∙ numbered ∙ omega (arith, is_number, is_count, length-append before (here ∷ [])) in
-        let added : origin ≡ origin_added wanted last.one.what = is ∙ ap (origin_added wanted) (finds_one wanted here.what what last.one.what finds last.finds) in
+        let added : origin ≡ origin_noted wanted last.one.what = is ∙ ap (origin_noted wanted) (finds_one wanted here.what what last.one.what finds last.finds) in
         subst (λ (m : List Made). AreEnds wanted taken m (noted (is_in_turn wanted) (end_at (length more) count here.came origin) ends)) (sym whole)
         (subst (λ (n : ℕ). AreEnds wanted taken (made ++ last.one ∷ []) (noted (is_in_turn wanted) (end_at (length more) n here.came origin) ends)) is_last
         (subst (λ (c : Came). AreEnds wanted taken (made ++ last.one ∷ []) (noted (is_in_turn wanted) (end_at (length more) last.one.number c origin) ends)) last.came
@@ -190,12 +192,13 @@ found_in wanted sight (left reason) origin finds is = absurd cc
 found_in wanted sight (refused lack) origin finds is = absurd cc
 found_in wanted sight (lacked place sender lack) origin finds is = absurd cc
 
-added-needs : (wanted : Wanted) (senders : Senders) (packet : Captured) (what : Found) (origin : Origin) → Finds wanted (sight_in packet) what → Some origin ≡ origin_added wanted what
+added-needs : (wanted : Wanted) (senders : Senders) (packet : Captured) (what : Found) (origin : Origin) → Finds wanted (sight_in packet) what → Some origin ≡ origin_noted wanted what
     → BlockNeedsMemory wanted senders (holds packet)
 added-needs wanteds.Everyone senders packet what origin finds is = absurd cc
 added-needs wanteds.Each senders packet what origin finds is = absurd cc
-added-needs (wanteds.Sender sender place) senders packet what origin finds is =
-    let there = found_in (wanteds.Sender sender place) (sight_in packet) what origin finds is in inl (there.0, there.1, there.2, tt)
+added-needs (wanteds.Sender sender place false) senders packet what origin finds is = absurd cc
+added-needs (wanteds.Sender sender place true) senders packet what origin finds is =
+    let there = found_in (wanteds.Sender sender place true) (sight_in packet) what origin finds is in inl (there.0, there.1, there.2, tt)
 added-needs (wanteds.InTurn sender place) senders packet what origin finds is = inr (inr refl)
 
 not-told : (origin : Option Origin) → origin ≡ None → IsTrue (is_noted false origin) → ⊥
@@ -246,5 +249,6 @@ ends-gone wanted taken dump made is = record {
     none : (w : Wanted) → [] ≡ ends_of w []
     none wanteds.Everyone = refl
     none wanteds.Each = refl
-    none (wanteds.Sender sender place) = refl
+    none (wanteds.Sender sender place true) = refl
+    none (wanteds.Sender sender place false) = refl
     none (wanteds.InTurn sender place) = refl

@@ -1,6 +1,6 @@
 -- What packets give, taken one by one.
 use Rattle.std.proofs.Common.{◌≡◌, ◌≤◌, ℕ, List, [], ◌∷◌, ◌++◌, ◌+◌, length, refl, sym, ap, subst, ◌∙◌, append_assoc, inl, inr}
-use Rattle.std.specs.Prelude.{Option, Some, None, Result, Ok, Err, OnOk, IfOk, IfErr, ◌⊎◌}
+use Rattle.std.specs.Prelude.{true, false, Option, Some, None, Result, Ok, Err, OnOk, IfOk, IfErr, ◌⊎◌}
 use Rattle.std.specs.List.{flat_map}
 use Rattle.babel_prefix.specs.Address.{Address}
 use Rattle.babel_capture.specs.declared.reason.Reason.{Reason}
@@ -21,7 +21,7 @@ use Rattle.babel_capture.specs.Counting.{counted, counted_at, counted_with, shor
 use Rattle.babel_capture.specs.Findings.{CarriedIs, Found, LackIs, PayloadIs, passed, untold, left, refused, lacked, found, Finds}
 use Rattle.babel_capture.specs.Lack.{lack_fault}
 use Rattle.babel_capture.specs.Sight.{Carried, Sight, carries, datagram, lacking, not_link_local, other, other_port, too_short}
-use Rattle.babel_capture.specs.Gathering.{AreMade, BlockNeedsMemory, PacketNeedsMemory, IsTaken, Gathering, IsGathered, IsRefusedPacket, octets_found, dump_of, dump_with, origin_added, origin_found}
+use Rattle.babel_capture.specs.Gathering.{AreMade, BlockNeedsMemory, PacketNeedsMemory, IsTaken, Gathering, IsGathered, IsRefusedPacket, octets_found, dump_of, dump_with, origin_noted, origin_found}
 use Rattle.babel_capture.specs.Dumps.{Dumps, dumps_by, dumps_of, dumps_with}
 use Rattle.babel_capture.specs.Tallies.{Senders, IsOneTooMany, senders_with, senders_of, tallied}
 use Rattle.babel_capture.specs.Times.{time_of}
@@ -48,7 +48,7 @@ octets-push made dump one is =
 dump-push : (wanted : Wanted) (made : List Made) (dump : List ℕ) (one : Made) → dump ≡ dump_of wanted made → dump_with wanted dump (octets_found one.what) ≡ dump_of wanted (made ++ one ∷ [])
 dump-push wanteds.Everyone made dump one is = is
 dump-push wanteds.Each made dump one is = is
-dump-push (wanteds.Sender sender place) made dump one is = octets-push made dump one is
+dump-push (wanteds.Sender sender place ends) made dump one is = octets-push made dump one is
 dump-push (wanteds.InTurn sender place) made dump one is = octets-push made dump one is
 
 dumps-push : (wanted : Wanted) (made : List Made) (one : Made) → dumps_of wanted (made ++ one ∷ []) ≡ dumps_with wanted (dumps_of wanted made) one.number one.what
@@ -86,20 +86,20 @@ gathered-push before next old new what same dump dumps report senders few takes 
 pub dump-after : (wanted : Wanted) (taken dump octets : List ℕ) → taken ++ dump_with wanted dump octets ≡ dump_with wanted (taken ++ dump) octets
 dump-after wanteds.Everyone taken dump octets = refl
 dump-after wanteds.Each taken dump octets = refl
-dump-after (wanteds.Sender sender place) taken dump octets = sym (append_assoc taken dump octets)
+dump-after (wanteds.Sender sender place ends) taken dump octets = sym (append_assoc taken dump octets)
 dump-after (wanteds.InTurn sender place) taken dump octets = sym (append_assoc taken dump octets)
 
 -- what is no packet leaves the dump
 pub dump-stays : (wanted : Wanted) (dump : List ℕ) → dump ≡ dump_with wanted dump []
 dump-stays wanteds.Everyone dump = refl
 dump-stays wanteds.Each dump = refl
-dump-stays (wanteds.Sender sender place) dump = sym (append-nil dump)
+dump-stays (wanteds.Sender sender place ends) dump = sym (append-nil dump)
 dump-stays (wanteds.InTurn sender place) dump = sym (append-nil dump)
 
 dumps-stay : (wanted : Wanted) (dumps : Dumps) (number : ℕ) (what : Found) → dumps_by dumps number what ≡ dumps → dumps ≡ dumps_with wanted dumps number what
 dumps-stay wanteds.Everyone dumps number what same = refl
 dumps-stay wanteds.Each dumps number what same = sym same
-dumps-stay (wanteds.Sender sender place) dumps number what same = refl
+dumps-stay (wanteds.Sender sender place ends) dumps number what same = refl
 dumps-stay (wanteds.InTurn sender place) dumps number what same = refl
 
 pub on-ok4 : {T E : Type 0} {P Q R S U : Type 0} (r : Result T E) → (P → Q → R → S → U) → OnOk r P → OnOk r Q → OnOk r R → OnOk r S → OnOk r U
@@ -120,7 +120,7 @@ few_kept before old new same gathered = subst (λ (s : Senders). length s ≤ 65
 
 -- what is seen adds a packet of this origin to the dump, or none
 abbrev pub AddsOrigin : Wanted → Sight → Option Origin → Type 0
-AddsOrigin wanted sight origin = (what : Found) × Finds wanted sight what × (origin ≡ origin_added wanted what)
+AddsOrigin wanted sight origin = (what : Found) × Finds wanted sight what × (origin ≡ origin_noted wanted what)
 
 -- the same as the code meets them
 module _ (before : List Sighting) (next : Sighting) (old new : Gathering) (finding : Found) where
@@ -169,7 +169,7 @@ module _ (before : List Sighting) (next : Sighting) (old new : Gathering) (findi
 lacked_each : (wanted : Wanted) (place there : Place) (sender from : Address) (lack which : Lack) → LackIs wanted place sender lack (lacked there from which) → wanted ≡ wanteds.Each
 lacked_each wanteds.Everyone place there sender from lack which is = absurd cc
 lacked_each wanteds.Each place there sender from lack which is = refl
-lacked_each (wanteds.Sender only at) place there sender from lack which is = absurd cc
+lacked_each (wanteds.Sender only at ends) place there sender from lack which is = absurd cc
 lacked_each (wanteds.InTurn None at) place there sender from lack which is = absurd cc
 lacked_each (wanteds.InTurn (Some only) at) place there sender from lack which is = absurd cc
 
@@ -223,16 +223,17 @@ found-needs (Err fault) wanted before here senders packet origin octets finding 
 )
 
 -- whose packet was added to the dump
-pub none-added : (wanted : Wanted) (what : Found) → origin_found what ≡ None → None ≡ origin_added wanted what
+pub none-added : (wanted : Wanted) (what : Found) → origin_found what ≡ None → None ≡ origin_noted wanted what
 none-added wanteds.Everyone what none = refl
 none-added wanteds.Each what none = refl
-none-added (wanteds.Sender sender place) what none = sym none
+none-added (wanteds.Sender sender place true) what none = sym none
+none-added (wanteds.Sender sender place false) what none = refl
 none-added (wanteds.InTurn sender place) what none = sym none
 
 pub no-origin : (wanted : Wanted) (sight : Sight) (finding what : Found) → finding ≡ what → origin_found what ≡ None → Finds wanted sight finding → AddsOrigin wanted sight None
 no-origin wanted sight finding what is none finds = (what, subst (Finds wanted sight) is finds, none-added wanted what none)
 
 pub some-origin : {E : Type 0} (r : Result (Option Origin) E) (wanted : Wanted) (sight : Sight) (finding what : Found) (added : Option Origin) → finding ≡ what → Finds wanted sight finding
-    → added ≡ origin_added wanted what → IfOk r (λ origin. origin ≡ added) → IfOk r (λ origin. AddsOrigin wanted sight origin)
+    → added ≡ origin_noted wanted what → IfOk r (λ origin. origin ≡ added) → IfOk r (λ origin. AddsOrigin wanted sight origin)
 some-origin (Ok origin) wanted sight finding what added is finds whose told = (what, subst (Finds wanted sight) is finds, told ∙ whose)
 some-origin (Err fault) wanted sight finding what added is finds whose told = tt

@@ -9,6 +9,7 @@ pub mod FramingLaws
 pub mod GatherLaws
 pub mod LaidOutLaws
 pub mod MemoryLaws
+pub mod NotedEnds
 pub mod NumberLaws
 pub mod OctetLaws
 pub mod OneCapture

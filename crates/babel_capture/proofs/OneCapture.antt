@@ -92,7 +92,7 @@ lack_one : (wanted : Wanted) (place : Place) (sender : Address) (lack : Lack) (w
     → what ≡ again
 lack_one wanteds.Everyone place sender lack what again is is_again = is ∙ sym is_again
 lack_one wanteds.Each place sender lack what again is is_again = is ∙ sym is_again
-lack_one (wanteds.Sender only there) place sender lack what again is is_again = is ∙ sym is_again
+lack_one (wanteds.Sender only there ends) place sender lack what again is is_again = is ∙ sym is_again
 lack_one (wanteds.InTurn None there) place sender lack what again is is_again = is ∙ sym is_again
 lack_one (wanteds.InTurn (Some only) there) place sender lack what again is is_again = is ∙ sym is_again
 

@@ -1,6 +1,6 @@
 -- One sender on one interface has one tally at most.
 use Rattle.std.proofs.Common.{◌≡◌, ◌≤◌, ◌⊎◌, ℕ, List, [], ◌∷◌, Option, length, refl, sym, ap, subst, ◌∙◌, inl, inr, arith}
-use Rattle.std.specs.Prelude.{Some, fold}
+use Rattle.std.specs.Prelude.{Bool, Some, fold}
 use Rattle.std.specs.declared.cmp.Ordering.{Ordering}
 use Rattle.std.specs.declared.cmp.Ordering.TheVariants.{Equal}
 use Rattle.std.specs.BTreeMap.{insert_entry}
@@ -46,7 +46,7 @@ payload_of at from payload place sender packet (inr (inl (short, is))) = absurd 
 payload_of at from payload place sender packet (inr (inr (inl (long, magic, is)))) = absurd cc
 payload_of at from payload place sender packet (inr (inr (inr (long, magic, version, is)))) = absurd cc
 
-module _ (wanted : Address) (at : Place) where
+module _ (wanted : Address) (at : Place) (ends : Bool) where
   abbrev origin : Origin
   origin = record { place = at; sender = wanted }
 
@@ -54,14 +54,14 @@ module _ (wanted : Address) (at : Place) where
   IsOneAtMost senders = (senders ≡ []) ⊎ ((tally : Tally) × (senders ≡ (origin, tally) ∷ []))
 
   carried_of : (there : Place) (from : Address) (carried : Carried) (place : Place) (sender : Address) (packet : List ℕ)
-      → CarriedIs (wanteds.Sender wanted (Some at)) there from carried (found place sender packet) → (place ≡ there) × (sender ≡ from)
+      → CarriedIs (wanteds.Sender wanted (Some at) ends) there from carried (found place sender packet) → (place ≡ there) × (sender ≡ from)
   carried_of there from other_port place sender packet is = absurd cc
   carried_of there from not_link_local place sender packet is = absurd cc
   carried_of there from (lacking lack) place sender packet is = absurd cc
   carried_of there from (carries payload) place sender packet is = payload_of there from payload place sender packet is
 
   found_of : (sight : Sight) (place : Place) (sender : Address) (packet : List ℕ)
-      → Finds (wanteds.Sender wanted (Some at)) sight (found place sender packet) → (place ≡ at) × (sender ≡ wanted)
+      → Finds (wanteds.Sender wanted (Some at) ends) sight (found place sender packet) → (place ≡ at) × (sender ≡ wanted)
   found_of other place sender packet is = absurd cc
   found_of too_short place sender packet is = absurd cc
   found_of (datagram there from carried) place sender packet (inl (wants, is)) =
@@ -82,7 +82,7 @@ module _ (wanted : Address) (at : Place) where
   tallied_at_most : (senders : Senders) (time : Option ℕ) (packet : List ℕ) → IsOneAtMost senders → IsOneAtMost (tallied senders origin time packet)
   tallied_at_most senders time packet most = put_at_most senders _ most
 
-  with_at_most : (sight : Sight) (senders : Senders) (time : Option ℕ) (what : Found) → Finds (wanteds.Sender wanted (Some at)) sight what
+  with_at_most : (sight : Sight) (senders : Senders) (time : Option ℕ) (what : Found) → Finds (wanteds.Sender wanted (Some at) ends) sight what
       → IsOneAtMost senders → IsOneAtMost (senders_with senders time what)
   with_at_most sight senders time passed finds most = most
   with_at_most sight senders time untold finds most = most
@@ -94,7 +94,7 @@ module _ (wanted : Address) (at : Place) where
       subst (λ (p : Place). IsOneAtMost (tallied senders (record { place = p; sender = sender }) time packet)) (sym is.0)
       (subst (λ (a : Address). IsOneAtMost (tallied senders (record { place = at; sender = a }) time packet)) (sym is.1) (tallied_at_most senders time packet most))
 
-  all_at_most : (sightings : List Sighting) (made : List Made) (senders : Senders) → AreMade (wanteds.Sender wanted (Some at)) sightings made → IsOneAtMost senders
+  all_at_most : (sightings : List Sighting) (made : List Made) (senders : Senders) → AreMade (wanteds.Sender wanted (Some at) ends) sightings made → IsOneAtMost senders
       → IsOneAtMost (fold (λ (s : Senders) (one : Made). senders_with s (time_of one.came) one.what) senders made)
   all_at_most [] made senders are most =
       subst (λ (ms : List Made). IsOneAtMost (fold (λ (s : Senders) (one : Made). senders_with s (time_of one.came) one.what) senders ms)) (sym are) most
@@ -106,13 +106,13 @@ module _ (wanted : Address) (at : Place) where
   few senders (inl none) = omega (arith, ap length none)
   few senders (inr (tally, is)) = omega (arith, ap length is)
 
-pub one_sender_at_most : (sender : Address) (place : Place) (sightings : List Sighting) (made : List Made) → AreMade (wanteds.Sender sender (Some place)) sightings made
+pub one_sender_at_most : (sender : Address) (place : Place) (ends : Bool) (sightings : List Sighting) (made : List Made) → AreMade (wanteds.Sender sender (Some place) ends) sightings made
     → length (senders_of made) ≤ 1
-one_sender_at_most sender place sightings made are = few sender place (senders_of made) (all_at_most sender place sightings made [] are (inl refl))
+one_sender_at_most sender place ends sightings made are = few sender place ends (senders_of made) (all_at_most sender place ends sightings made [] are (inl refl))
 
 pub named_is_one : NamedIsOne
-named_is_one limit octets gathering cut sender place read wanted =
+named_is_one limit octets gathering cut sender place ends read wanted =
     let gathered = read.is_read.gathered in
     subst (λ (s : Senders). length s ≤ 1) (sym gathered.senders)
-    (one_sender_at_most sender place (sightings_of read.is_read.blocks) gathered.made
+    (one_sender_at_most sender place ends (sightings_of read.is_read.blocks) gathered.made
     (subst (λ (w : Wanted). AreMade w (sightings_of read.is_read.blocks) gathered.made) wanted gathered.taken.are_made))

@@ -45,7 +45,7 @@ in_payload place sender payload what (inr (inr (inr (header, magic, version, is)
 in_lack : (wanted : Wanted) (place : Place) (sender : Address) (lack : Lack) (what : Found) → LackIs wanted place sender lack what → ArePackets (octets_found what)
 in_lack wanteds.Everyone place sender lack what is = nothing_found (octets_found what) (ap octets_found is)
 in_lack wanteds.Each place sender lack what is = nothing_found (octets_found what) (ap octets_found is)
-in_lack (wanteds.Sender only there) place sender lack what is = nothing_found (octets_found what) (ap octets_found is)
+in_lack (wanteds.Sender only there ends) place sender lack what is = nothing_found (octets_found what) (ap octets_found is)
 in_lack (wanteds.InTurn None there) place sender lack what is = nothing_found (octets_found what) (ap octets_found is)
 in_lack (wanteds.InTurn (Some only) there) place sender lack what is = nothing_found (octets_found what) (ap octets_found is)
 
@@ -73,7 +73,7 @@ in_made wanted (sighting ∷ later) made (one, others, is, number, link, came, f
 in_dump : (wanted : Wanted) (sightings : List Sighting) (made : List Made) → AreMade wanted sightings made → ArePackets (dump_of wanted made)
 in_dump wanteds.Everyone sightings made are = nothing_found [] refl
 in_dump wanteds.Each sightings made are = nothing_found [] refl
-in_dump (wanteds.Sender sender place) sightings made are = in_made (wanteds.Sender sender place) sightings made are
+in_dump (wanteds.Sender sender place ends) sightings made are = in_made (wanteds.Sender sender place ends) sightings made are
 in_dump (wanteds.InTurn sender place) sightings made are = in_made (wanteds.InTurn sender place) sightings made are
 
 pub dump_packets : (limit : Extent) (octets : List ℕ) (gathering : Gathering) → IsRead limit octets gathering → ArePackets gathering.dump

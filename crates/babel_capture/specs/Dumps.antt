@@ -55,7 +55,7 @@ dumps_by dumps number (found place sender packet) =
 abbrev pub dumps_with : Wanted → Dumps → ℕ → Found → Dumps
 dumps_with wanteds.Everyone dumps number what = dumps
 dumps_with wanteds.Each dumps number what = dumps_by dumps number what
-dumps_with (wanteds.Sender sender place) dumps number what = dumps
+dumps_with (wanteds.Sender sender place ends) dumps number what = dumps
 dumps_with (wanteds.InTurn sender place) dumps number what = dumps
 
 -- each sender at each place of which a packet was found, or a datagram that is not all there, by

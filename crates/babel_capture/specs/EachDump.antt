@@ -1,6 +1,6 @@
 -- Laws of the definitions: where the dumps of all senders are wanted, each is that of its sender.
 -- They are this project's own.
-use Rattle.std.specs.Prelude.{◌≡◌, ℕ, List, Option, None, Some}
+use Rattle.std.specs.Prelude.{◌≡◌, ℕ, false, List, Option, None, Some}
 use Rattle.babel_capture.specs.Capture.{IsReadToCut}
 use Rattle.babel_capture.specs.Dumps.{dump_at}
 use Rattle.babel_capture.specs.Gathering.{Gathering}
@@ -12,7 +12,7 @@ use Rattle.babel_capture.specs.Window.{Extent}
 
 -- the datagrams of this sender alone, at this place
 abbrev pub only : Origin → Wanted
-only origin = wanteds.Sender origin.sender (Some origin.place)
+only origin = wanteds.Sender origin.sender (Some origin.place) false
 
 -- a dump that lacks nothing is the one that the same octets give where it alone is wanted
 abbrev pub EachIsOwn : Type 0

@@ -46,15 +46,15 @@ IsOrAny (Some named) one = one ≡ named
 abbrev pub IsWanted : Wanted → Address → Place → Type 0
 IsWanted wanteds.Everyone sender place = Unit {0}
 IsWanted wanteds.Each sender place = Unit {0}
-IsWanted (wanteds.Sender wanted None) sender place = sender ≡ wanted
-IsWanted (wanteds.Sender wanted (Some there)) sender place = (sender ≡ wanted) × (place ≡ there)
+IsWanted (wanteds.Sender wanted None ends) sender place = sender ≡ wanted
+IsWanted (wanteds.Sender wanted (Some there) ends) sender place = (sender ≡ wanted) × (place ≡ there)
 IsWanted (wanteds.InTurn wanted there) sender place = IsOrAny wanted sender × IsOrAny there place
 
 -- packets are told as they come
 abbrev pub is_in_turn : Wanted → Bool
 is_in_turn wanteds.Everyone = false
 is_in_turn wanteds.Each = false
-is_in_turn (wanteds.Sender sender place) = false
+is_in_turn (wanteds.Sender sender place ends) = false
 is_in_turn (wanteds.InTurn sender place) = true
 
 -- one claim or the other, as this holds or not
@@ -76,7 +76,7 @@ PayloadIs place sender payload what =
 abbrev pub LackIs : Wanted → Place → Address → Lack → Found → Type 0
 LackIs wanteds.Everyone place sender lack what = what ≡ left (lack_reason lack)
 LackIs wanteds.Each place sender lack what = what ≡ lacked place sender lack
-LackIs (wanteds.Sender wanted there) place sender lack what = what ≡ refused lack
+LackIs (wanteds.Sender wanted there ends) place sender lack what = what ≡ refused lack
 LackIs (wanteds.InTurn None there) place sender lack what = what ≡ left (lack_reason lack)
 LackIs (wanteds.InTurn (Some wanted) there) place sender lack what = what ≡ refused lack
 

@@ -1,6 +1,6 @@
 -- What is gathered of the packets of a capture.
 use Rattle.std.specs.Prelude.{◌≡◌, ◌≤◌, ℕ, List, [], ◌∷◌, ◌++◌, ◌⊎◌, length, slice_get}
-use Rattle.std.specs.Prelude.{IsTrue, Option, None, Some}
+use Rattle.std.specs.Prelude.{IsTrue, Option, None, Some, true, false}
 use Rattle.std.specs.List.{flat_map}
 use Rattle.std.specs.Option.{unwrap_or}
 use Rattle.babel_capture.specs.declared.fault.Fault.{Fault}
@@ -65,27 +65,28 @@ origin_found (found place sender packet) = Some (record { place = place; sender 
 abbrev pub dump_of : Wanted → List Made → List ℕ
 dump_of wanteds.Everyone made = []
 dump_of wanteds.Each made = []
-dump_of (wanteds.Sender sender place) made = flat_map (λ one. octets_found one.what) made
+dump_of (wanteds.Sender sender place ends) made = flat_map (λ one. octets_found one.what) made
 dump_of (wanteds.InTurn sender place) made = flat_map (λ one. octets_found one.what) made
 
 -- the dump with these octets, if one is wanted
 abbrev pub dump_with : Wanted → List ℕ → List ℕ → List ℕ
 dump_with wanteds.Everyone dump octets = dump
 dump_with wanteds.Each dump octets = dump
-dump_with (wanteds.Sender sender place) dump octets = dump ++ octets
+dump_with (wanteds.Sender sender place ends) dump octets = dump ++ octets
 dump_with (wanteds.InTurn sender place) dump octets = dump ++ octets
 
--- whose packet is added to it
-abbrev pub origin_added : Wanted → Found → Option Origin
-origin_added wanteds.Everyone what = None
-origin_added wanteds.Each what = None
-origin_added (wanteds.Sender sender place) what = origin_found what
-origin_added (wanteds.InTurn sender place) what = origin_found what
+-- whose packet is added to it, where its end is noted
+abbrev pub origin_noted : Wanted → Found → Option Origin
+origin_noted wanteds.Everyone what = None
+origin_noted wanteds.Each what = None
+origin_noted (wanteds.Sender sender place true) what = origin_found what
+origin_noted (wanteds.Sender sender place false) what = None
+origin_noted (wanteds.InTurn sender place) what = origin_found what
 
--- the block adds a packet of this origin to it, or none
+-- the block adds a packet of this origin to it, whose end is noted, or none
 abbrev pub OriginIs : Wanted → Content → Option Origin → Type 0
 OriginIs wanted (holds packet) origin =
-    (what : Found) × Finds wanted (sight_in packet) what × (origin ≡ origin_added wanted what)
+    (what : Found) × Finds wanted (sight_in packet) what × (origin ≡ origin_noted wanted what)
 OriginIs wanted content origin = origin ≡ None
 
 -- what was gathered so far, and the names of the interfaces, which are empty where they have none
@@ -134,7 +135,7 @@ abbrev pub PacketNeedsMemory : Wanted → Senders → Origin → List ℕ → Ty
 PacketNeedsMemory wanteds.Everyone senders origin packet =
     CountNeedsMemory (tally_of senders origin) packet
 PacketNeedsMemory wanteds.Each senders origin packet = Unit {0}
-PacketNeedsMemory (wanteds.Sender sender place) senders origin packet = Unit {0}
+PacketNeedsMemory (wanteds.Sender sender place ends) senders origin packet = Unit {0}
 PacketNeedsMemory (wanteds.InTurn sender place) senders origin packet = Unit {0}
 
 -- and for a block: it describes an interface, or holds such a packet, or what a dump lacks, of

@@ -21,6 +21,7 @@ pub mod Layers
 pub mod Lengths
 pub mod Link
 pub mod LinkHeaders
+pub mod NotedEnds
 pub mod Numbers
 pub mod OneCapture
 pub mod Options

@@ -1,6 +1,6 @@
 -- A law of the definitions: one sender at one place has one tally at most. It is this project's
 -- own.
-use Rattle.std.specs.Prelude.{◌≡◌, ◌≤◌, ℕ, List, length, Option, Some}
+use Rattle.std.specs.Prelude.{◌≡◌, ◌≤◌, ℕ, Bool, List, length, Option, Some}
 use Rattle.babel_prefix.specs.Address.{Address}
 use Rattle.babel_capture.specs.Capture.{IsReadToCut}
 use Rattle.babel_capture.specs.Gathering.{Gathering}
@@ -12,5 +12,5 @@ use Rattle.babel_capture.specs.Window.{Extent}
 abbrev pub NamedIsOne : Type 0
 NamedIsOne =
     (limit : Extent) (octets : List ℕ) (gathering : Gathering) (cut : Option ℕ) (sender : Address)
-    (place : Place) → IsReadToCut limit octets gathering cut
-    → gathering.wanted ≡ wanteds.Sender sender (Some place) → length gathering.senders ≤ 1
+    (place : Place) (ends : Bool) → IsReadToCut limit octets gathering cut
+    → gathering.wanted ≡ wanteds.Sender sender (Some place) ends → length gathering.senders ≤ 1

@@ -48,11 +48,12 @@ ends_from in_turn at (one ∷ later) =
     end_found in_turn at one.number (time_of one.came) one.what
     ++ ends_from in_turn (at + length (octets_found one.what)) later
 
--- those of a dump
+-- those of a dump that are noted
 abbrev pub ends_of : Wanted → List Made → List PacketEnd
 ends_of wanteds.Everyone made = []
 ends_of wanteds.Each made = []
-ends_of (wanteds.Sender sender place) made = ends_from false 0 made
+ends_of (wanteds.Sender sender place true) made = ends_from false 0 made
+ends_of (wanteds.Sender sender place false) made = []
 ends_of (wanteds.InTurn sender place) made = ends_from true 0 made
 
 -- These octets of the dump were taken out, those of the first packets: the ends are those of the

@@ -122,7 +122,8 @@ impl Capture {
     }
 
     /// Where each packet of the dump ends, of those that were not taken out, and which packet of
-    /// the capture it came from.
+    /// the capture it came from, where that is noted: for one sender where `Wanted` asks for it,
+    /// and in turn.
     pub fn ends(&self) -> &[PacketEnd]
         ensures { result.now ≡ self.now.progress.ends }
     {

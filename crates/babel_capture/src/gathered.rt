@@ -7,7 +7,7 @@ ghost use Rattle.babel_capture.specs.Gathering.{BlockNeedsMemory, IsGathered, Is
 ghost use Rattle.babel_capture.specs.Findings.{found};
 ghost use Rattle.babel_capture.specs.Dumps.{dump_added, dump_at, dumps_with};
 ghost use Rattle.babel_capture.specs.Gathering.{PacketNeedsMemory, dump_with, name_of};
-ghost use Rattle.babel_capture.specs.Gathering.{origin_added, with_taken};
+ghost use Rattle.babel_capture.specs.Gathering.{origin_noted, with_taken};
 ghost use Rattle.babel_capture.specs.PacketEnds.{is_packet};
 ghost use Rattle.babel_capture.specs.Sight.{other};
 ghost use Rattle.babel_capture.specs.Tallies.{IsOneTooMany, tallied};
@@ -152,7 +152,7 @@ impl Gathered {
         self.senders.as_map()
     }
 
-    /// Takes the packet in the block at this offset: whose it is, if it is added to the dump.
+    /// Takes the packet in the block at this offset: whose it is, if its end is noted.
     fn take_packet(&mut self, at: u64, packet: &Packet<'_>) -> Result<Option<Origin>, Fault>
         requires { self.old.report.packets + 1 < 2 ^ 64 }
         ensures wanted { self.new.wanted ≡ self.old.wanted }
@@ -210,8 +210,8 @@ impl Gathered {
         }
     }
 
-    /// Takes the packet that the block at this offset says, if it says one: whose it is, if it is
-    /// added to the dump.
+    /// Takes the packet that the block at this offset says, if it says one: whose it is, if its end
+    /// is noted.
     pub fn take_said(&mut self, at: u64, said: &Block<'_>) -> Result<Option<Origin>, Fault>
         requires { self.old.report.packets + 1 < 2 ^ 64 }
         ensures wanted { self.new.wanted ≡ self.old.wanted }
@@ -295,8 +295,8 @@ impl Gathered {
         Ok(None)
     }
 
-    /// Counts a packet for its sender, and adds it to a dump, if one is wanted: whose it is, if it
-    /// is added to the one dump.
+    /// Counts a packet for its sender, and adds it to a dump, if one is wanted: whose it is, if its
+    /// end in the one dump is noted.
     fn add(
         &mut self,
         at: u64,
@@ -316,7 +316,7 @@ impl Gathered {
             self.old.report.packets (found origin.place origin.sender packet.now)) }
         ensures senders { OnOk result (self.new.senders
             ≡ tallied self.old.senders origin time packet.now) }
-        ensures origin { IfOk result (λ told. told ≡ origin_added self.old.wanted
+        ensures origin { IfOk result (λ told. told ≡ origin_noted self.old.wanted
             (found origin.place origin.sender packet.now)) }
         ensures few { OnOk result (length self.new.senders ≤ 65536) }
         ensures err { IfErr result (λ fault. (fault ≡ Fault.Memory)
@@ -326,17 +326,17 @@ impl Gathered {
     {
         let came = time;
         self.senders.add(at, origin, time, packet, updates)?;
-        match self.wanted {
-            Wanted::Everyone => Ok(None),
+        let is_noted = match self.wanted {
+            Wanted::Everyone => return Ok(None),
             Wanted::Each => {
                 let known = came.unwrap_or(Time::first());
                 self.dumps.add(&origin, packet, Some(known), None)?;
-                Ok(None)
+                return Ok(None);
             }
-            Wanted::Sender { .. } | Wanted::InTurn { .. } => {
-                self.dump.extend_from_slice(packet)?;
-                Ok(Some(origin))
-            }
-        }
+            Wanted::Sender { ends, .. } => ends,
+            Wanted::InTurn { .. } => true,
+        };
+        self.dump.extend_from_slice(packet)?;
+        Ok(if is_noted { Some(origin) } else { None })
     }
 }

@@ -5,6 +5,7 @@ ghost use Rattle.babel_capture.specs.EachDump.{EachIsOwn, LackingIsNone};
 ghost use Rattle.babel_capture.specs.Gathering.{Gathering};
 ghost use Rattle.babel_capture.specs.OneCapture.{CaptureIsOne, CutCaptureIsOne};
 ghost use Rattle.babel_capture.specs.OneFault.{CutIsTheFault, FaultIsOne, ReadHasNoFault};
+ghost use Rattle.babel_capture.specs.NotedEnds.{EndsChangeNothing};
 ghost use Rattle.babel_capture.specs.OneOrigin.{NamedIsOne};
 ghost use Rattle.babel_capture.specs.Packets.{ArePackets, IsPastEnd};
 ghost use Rattle.babel_capture.specs.PcapFiles.{IsPcap, IsReadAs, PcapFile};
@@ -172,6 +173,11 @@ pub fn outcome_is_one()
 pub fn each_is_own()
     ensures whole { EachIsOwn }
     ensures lacking { LackingIsNone }
+{}
+
+/// Whether the ends of a sender's packets are noted changes nothing of what is gathered.
+pub fn ends_change_nothing()
+    ensures { EndsChangeNothing }
 {}
 
 /// Where the datagrams of one sender at one place are wanted, there is one tally at most.

@@ -11,10 +11,12 @@ pub enum Wanted {
     Everyone,
     /// Those of each sender, for its dump at each place.
     Each,
-    /// Those of one sender: at one place where it is named, and else at all.
+    /// Those of one sender, for its dump: at one place where it is named, and else at all. Where
+    /// `ends` is set, the end of each packet in the dump is noted: `Capture::ends`.
     Sender {
         sender: Addr,
         place: Option<Place>,
+        ends: bool,
     },
     /// Those of each sender, or of one where it is named, at each place or at one, in one dump, as
     /// they come.
@@ -34,10 +36,12 @@ impl Wanted {
             Wanted::Sender {
                 sender,
                 place: None,
+                ..
             } => from == *sender,
             Wanted::Sender {
                 sender,
                 place: Some(place),
+                ..
             } => from == *sender && at == *place,
             Wanted::InTurn { sender, place } => {
                 from == sender.unwrap_or(from) && at == place.unwrap_or(at)

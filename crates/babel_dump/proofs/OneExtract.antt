@@ -15,9 +15,9 @@ to_cut false limit octets gathering cut read = (None, uncut limit octets gatheri
 to_cut true limit octets gathering cut read = (cut, read)
 
 pub named_is_not_several : NamedIsNotSeveral
-named_is_not_several reader sender place interfaces named several =
+named_is_not_several reader sender place ends interfaces named several =
     let given = several.gave.given in
     let read = to_cut reader.reading.accept_cut (extent_of reader.reading) given.octets several.gathering several.cut given.is_read in
     let few : length several.gathering.senders ≤ 1 =
-    named_is_one (extent_of reader.reading) given.octets several.gathering read.0 sender place read.1 (given.wanted ∙ named) in
+    named_is_one (extent_of reader.reading) given.octets several.gathering read.0 sender place ends read.1 (given.wanted ∙ named) in
     omega (arith, few, several.several)

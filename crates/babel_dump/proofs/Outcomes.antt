@@ -513,7 +513,7 @@ says_one (jobs.Senders reading format file quiet) octets other one two one_other
     capture_says_one reading wanteds.Everyone octets one two has has_too (senders_in format) (λ g. senders_status g.senders) says.gathering again.gathering says.cut again.cut
     text text_too outcome outcome_too says.gave again.gave says.text_is says.outcome_is again.text_is again.outcome_is
 says_one (jobs.Extract reading sender place hex file quiet) octets other one two one_other two_other text text_too outcome outcome_too has has_too other_has other_has_too says again =
-    capture_says_one reading (wanteds.Sender sender place) octets one two has has_too (λ g. dump_text hex g.dump) (λ g. dump_status g.dump) says.gathering again.gathering says.cut again.cut
+    capture_says_one reading (wanteds.Sender sender place false) octets one two has has_too (λ g. dump_text hex g.dump) (λ g. dump_status g.dump) says.gathering again.gathering says.cut again.cut
     text text_too outcome outcome_too says.gave again.gave says.text_is says.outcome_is again.text_is again.outcome_is
 
 -- ---- the fault that a job has of octets
@@ -593,7 +593,7 @@ FaultOf (jobs.CompareRoutes reading other_reading view listed format file anothe
 FaultOf (jobs.Diff reading other_reading view style file another quiet) octets other fault = FaultOfBoth reading other_reading octets other fault
 FaultOf (jobs.Senders reading format file quiet) octets other fault = FaultAt sides.First (FaultOfCapture reading wanteds.Everyone octets) fault
 FaultOf (jobs.Extract reading sender place hex file quiet) octets other fault =
-    FaultAt sides.First (FaultOfCapture reading (wanteds.Sender sender place) octets) fault
+    FaultAt sides.First (FaultOfCapture reading (wanteds.Sender sender place false) octets) fault
 
 -- a fault of octets that a run answers is that of its job
 of_dump : (reading : Reading) (reader : Reads) (dump : Contents) (fault : InputFault) → HasContents reader.old dump → IsOfDump fault
@@ -753,7 +753,7 @@ cause_of (jobs.Diff reading other_reading view style file another quiet) reader 
 cause_of (jobs.Senders reading format file quiet) reader second untouched octets other fault has other_has is cause =
     at_first _ _ fault (λ f is cause. of_capture reading wanteds.Everyone reader octets _ f has is cause) is cause
 cause_of (jobs.Extract reading sender place hex file quiet) reader second untouched octets other fault has other_has is cause =
-    at_first _ _ fault (λ f is cause. of_capture reading (wanteds.Sender sender place) reader octets _ f has is cause) is cause
+    at_first _ _ fault (λ f is cause. of_capture reading (wanteds.Sender sender place false) reader octets _ f has is cause) is cause
 
 -- ---- where a job says something of octets it has no fault of them, and it has one at most
 
@@ -860,7 +860,7 @@ says_no_fault (jobs.Diff reading other_reading view style file another quiet) re
 says_no_fault (jobs.Senders reading format file quiet) reader second octets other text outcome fault has other_has says (of_input, is, is_fault) =
     sound_leaves_none reading wanteds.Everyone octets reader has says.gathering says.cut says.gave of_input is_fault
 says_no_fault (jobs.Extract reading sender place hex file quiet) reader second octets other text outcome fault has other_has says (of_input, is, is_fault) =
-    sound_leaves_none reading (wanteds.Sender sender place) octets reader has says.gathering says.cut says.gave of_input is_fault
+    sound_leaves_none reading (wanteds.Sender sender place false) octets reader has says.gathering says.cut says.gave of_input is_fault
 
 -- octets have one fault
 dump_fault_one : (reading : Reading) (dump : Contents) (fault too : InputFault) → FaultOfDump reading dump fault → FaultOfDump reading dump too → fault ≡ too
@@ -933,7 +933,7 @@ fault_one (jobs.CompareRoutes reading other_reading view listed format file anot
 fault_one (jobs.Diff reading other_reading view style file another quiet) octets other fault too one two = both_fault_one reading other_reading octets other fault too one two
 fault_one (jobs.Senders reading format file quiet) octets other fault too one two = at_side_one sides.First _ fault too (capture_fault_one reading wanteds.Everyone octets) one two
 fault_one (jobs.Extract reading sender place hex file quiet) octets other fault too one two =
-    at_side_one sides.First _ fault too (capture_fault_one reading (wanteds.Sender sender place) octets) one two
+    at_side_one sides.First _ fault too (capture_fault_one reading (wanteds.Sender sender place false) octets) one two
 
 -- ---- the laws
 

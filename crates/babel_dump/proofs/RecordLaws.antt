@@ -59,7 +59,7 @@ payload_whole place sender payload what (inr (inr (inr (header, magic, version, 
 lack_whole : (wanted : Wanted) (place : Place) (sender : Address) (lack : Lack) (what : Found) → LackIs wanted place sender lack what → FoundWhole what
 lack_whole wanteds.Everyone place sender lack what is = subst FoundWhole (sym is) tt
 lack_whole wanteds.Each place sender lack what is = subst FoundWhole (sym is) tt
-lack_whole (wanteds.Sender only there) place sender lack what is = subst FoundWhole (sym is) tt
+lack_whole (wanteds.Sender only there ends) place sender lack what is = subst FoundWhole (sym is) tt
 lack_whole (wanteds.InTurn None there) place sender lack what is = subst FoundWhole (sym is) tt
 lack_whole (wanteds.InTurn (Some only) there) place sender lack what is = subst FoundWhole (sym is) tt
 

@@ -31,7 +31,7 @@ dump_extent reading =
 
 -- the datagrams of the dump's sender, at its place if one is named
 abbrev pub wanted_by : Reading → Wanted
-wanted_by reading = wanteds.Sender reading.sender reading.place
+wanted_by reading = wanteds.Sender reading.sender reading.place true
 
 -- ---- how a capture ends
 

@@ -1,5 +1,5 @@
 -- What the run of a job promises: this project's own.
-use Rattle.std.specs.Prelude.{ℕ, List, Option, None, Some, Result}
+use Rattle.std.specs.Prelude.{ℕ, false, List, Option, None, Some, Result}
 use Rattle.babel_capture.specs.declared.wanted.Wanted.{Wanted}
 use Rattle.babel_capture.specs.declared.wanted.Wanted.TheVariants as wanteds
 use Rattle.babel_dump.specs.AnySource.{LooksUpAnySource}
@@ -59,7 +59,7 @@ SaysBy (jobs.Diff reading other_reading view style file another quiet) reader ot
 SaysBy (jobs.Senders reading format file quiet) reader other =
     ListsSenders (capture_of reader reading wanteds.Everyone) format
 SaysBy (jobs.Extract reading sender place hex file quiet) reader other =
-    Extracts (capture_of reader reading (wanteds.Sender sender place)) hex
+    Extracts (capture_of reader reading (wanteds.Sender sender place false)) hex
 
 -- why it says nothing; `untouched` says that the other reader is as it was
 abbrev pub CauseBy : Job → (reader other : Reads) → (untouched : Type 0) → RunFault → Type 0
@@ -95,7 +95,7 @@ CauseBy (jobs.Diff reading other_reading view style file another quiet) reader o
 CauseBy (jobs.Senders reading format file quiet) reader other untouched =
     OfFirst (CaptureCause (capture_of reader reading wanteds.Everyone) IsNoFault)
 CauseBy (jobs.Extract reading sender place hex file quiet) reader other untouched =
-    let capture = capture_of reader reading (wanteds.Sender sender place) in
+    let capture = capture_of reader reading (wanteds.Sender sender place false) in
     OfFirst (CaptureCause capture (IsOnSeveral capture))
 
 -- how often it may call its first reader, and the other where it reads that too
@@ -127,7 +127,7 @@ first_calls (jobs.Diff reading other_reading view style file another quiet) read
 first_calls (jobs.Senders reading format file quiet) reader =
     capture_calls (capture_of reader reading wanteds.Everyone)
 first_calls (jobs.Extract reading sender place hex file quiet) reader =
-    capture_calls (capture_of reader reading (wanteds.Sender sender place))
+    capture_calls (capture_of reader reading (wanteds.Sender sender place false))
 
 abbrev pub other_calls : Job → Reads → Option Calls
 other_calls (jobs.Each reading format file pairs quiet) other =

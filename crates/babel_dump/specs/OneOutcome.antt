@@ -1,6 +1,6 @@
 -- Laws of the definitions: what a job's run answers and writes is settled by the octets of its
 -- readers, and by what was left out of them. These are this project's own.
-use Rattle.std.specs.Prelude.{◌≡◌, ◌≢◌, ℕ, List, ◌++◌, take, Option, None, Some, Result, Ok, Err}
+use Rattle.std.specs.Prelude.{◌≡◌, ◌≢◌, ℕ, Bool, List, ◌++◌, take, Option, None, Some, Result, Ok, Err}
 use Rattle.babel_prefix.specs.Address.{Address}
 use Rattle.babel_capture.specs.declared.place.Place.{Place}
 use Rattle.babel_capture.specs.declared.wanted.Wanted.TheVariants as wanteds
@@ -164,6 +164,6 @@ NothingWritten =
 -- where a place is named, a capture is not refused for several
 abbrev pub NamedIsNotSeveral : Type 0
 NamedIsNotSeveral =
-    (reader : CaptureInput) (sender : Address) (place : Place) (interfaces : Interfaces)
-    → reader.wanted ≡ wanteds.Sender sender (Some place)
+    (reader : CaptureInput) (sender : Address) (place : Place) (ends : Bool)
+    (interfaces : Interfaces) → reader.wanted ≡ wanteds.Sender sender (Some place) ends
     → ¬ IsOnSeveral reader interfaces

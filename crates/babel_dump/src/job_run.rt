@@ -201,7 +201,11 @@ fn find<R: ByteIn, S: ByteIn>(
             hex,
             ..
         } => {
-            let wanted = Wanted::Sender { sender, place };
+            let wanted = Wanted::Sender {
+                sender,
+                place,
+                ends: false,
+            };
             find_packets(alloc, reading, wanted, hex, reader)
         }
     }

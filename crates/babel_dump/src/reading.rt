@@ -106,6 +106,7 @@ impl Reading {
         Wanted::Sender {
             sender: self.sender,
             place: self.place,
+            ends: true,
         }
     }
 }

@@ -282,20 +282,21 @@ fn joined(alloc: Global, parts: &[&str]) -> Result<Vec<u8>, Fail> {
 fn read(alloc: Global, limit: u64, octets: &[u8], step: usize) -> Result<String, Fail>
     requires { 1 ≤ step }
 {
-    match gathered_of(alloc, limit, of_first()?, octets, step) {
+    match gathered_of(alloc, limit, of_first(false)?, octets, step) {
         Ok(gathered) => Ok(hex::encode(alloc, gathered.dump())?),
         Err(fault) => Ok(fault.to_string(alloc)?),
     }
 }
 
-/// The datagrams of fe80::5eff:fe00:c601.
-fn of_first() -> Result<Wanted, Fail> {
+/// The datagrams of fe80::5eff:fe00:c601, and whether the ends of its packets are noted.
+fn of_first(ends: bool) -> Result<Wanted, Fail> {
     let Some(sender) = Addr::new(Family::V6, 0xfe80_0000_0000_0000_0000_5eff_fe00_c601) else {
         return Err(Fail::from("no address"));
     };
     Ok(Wanted::Sender {
         sender,
         place: None,
+        ends,
     })
 }
 
@@ -485,7 +486,7 @@ fn moment_of(word: Option<MomentWord>) -> Result<Option<Moment>, Fail> {
 
 /// What a capture gives of the packets of this window.
 fn read_within(alloc: Global, window: Window, octets: &[u8]) -> Result<String, Fail> {
-    let mut capture = Capture::within(alloc, 4096, window, of_first()?);
+    let mut capture = Capture::within(alloc, 4096, window, of_first(false)?);
     if let Err(fault) = capture.feed(octets) {
         return Ok(fault.to_string(alloc)?);
     }
@@ -495,17 +496,20 @@ fn read_within(alloc: Global, window: Window, octets: &[u8]) -> Result<String, F
     }
 }
 
-/// The first capture, in two pieces: the first ends after the packet with the number 2.
+/// The first capture, in two pieces: the first ends after the packet with the number 2. Where they
+/// are not asked for, no ends are kept.
 #[test]
 fn tells_where_packets_end(rt: HostRuntime) -> Result<(), Fail> {
     let (parts, limit, _dump) = &CAPTURES[0];
     let octets = joined(rt.alloc(), parts)?;
-    let mut capture = Capture::new(rt.alloc(), *limit, of_first()?);
+    let mut capture = Capture::new(rt.alloc(), *limit, of_first(true)?);
+    let mut without_ends = Capture::new(rt.alloc(), *limit, of_first(false)?);
     let mut told = String::new(rt.alloc());
     for piece in octets.chunks(212) {
-        if capture.feed(piece).is_err() {
+        if capture.feed(piece).is_err() || without_ends.feed(piece).is_err() {
             return Err(Fail::from("a fault"));
         }
+        assert!(rt; without_ends.ends().is_empty());
         for packet in capture.ends() {
             let (end, number) = (packet.end, packet.number);
             let line = format!(in rt.alloc(); "{end} {number}\n")?;
@@ -769,6 +773,7 @@ fn each_dump_is_that_of_its_sender(rt: HostRuntime) -> Result<(), Fail> {
             let wanted = Wanted::Sender {
                 sender: origin.sender,
                 place: Some(origin.place),
+                ends: false,
             };
             let own = gathered_of(rt.alloc(), 4096, wanted, octets.as_slice(), 4096);
             match (all.dump_of(origin), &own) {

@@ -6,7 +6,7 @@ use Rattle.babel_capture.specs.Counting.{counted_at, counted_with, packet_counte
 use Rattle.babel_capture.specs.Counts.{Counts}
 use Rattle.babel_capture.specs.Findings.{Finds, finding_of, found, lacked, left, passed, untold}
 use Rattle.babel_capture.specs.Dumps.{dumps_by, dumps_with}
-use Rattle.babel_capture.specs.Gathering.{Gathering, dump_with, origin_added, with_taken}
+use Rattle.babel_capture.specs.Gathering.{Gathering, dump_with, origin_noted, with_taken}
 use Rattle.babel_capture.specs.Tallies.{tallied}
 use Rattle.babel_capture.specs.Times.{kept, time_in}
 use Rattle.babel_capture.specs.Updates.{interval_in}
@@ -105,7 +105,7 @@ pub returns-in-Packet-clause-origin : goal.returns-in-Packet-clause-origin
 returns-in-Packet-clause-origin c =
     let what = found c.in-Packet.place c.in-Packet.sender c.in-Packet.packet.now in
     some-origin c.add.result c.args.self.now.wanted _ _ what _ (ap finding_of c.in-Packet.is) (finds-at _ _ _ _ (ap (λ (g : Gathering). g.wanted) c.self.view_is) c.finding.ensures)
-    (ap (λ (g : Gathering). origin_added g.wanted what) c.self.view_is) c.add.ensures.origin
+    (ap (λ (g : Gathering). origin_noted g.wanted what) c.self.view_is) c.add.ensures.origin
 
 pub returns-in-Refused-clause-memory : goal.returns-in-Refused-clause-memory
 returns-in-Refused-clause-memory c memory = absurd (lack-other c.args.at c.in-Refused.lack (sym c.fault.ensures.value ∙ memory))
