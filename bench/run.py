@@ -120,7 +120,7 @@ def cases():
         yield capture, ["extract", "--from", "fe80::1"]
     for capture in TIMED:
         for options in [], EXPIRY, [*EXPIRY, "--json"], [*EXPIRY, *LOOKUP]:
-            yield capture, ["events", *options]
+            yield capture, ["events", "--quiet", *options]
         for options in [], EXPIRY, [*EXPIRY, "--hold"]:
             yield capture, ["show", *options, *OF_ONE]
 
