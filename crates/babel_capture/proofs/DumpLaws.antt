@@ -1,4 +1,4 @@
--- Dumps with more octets are the stated ones, of a new sender and of one that is there.
+-- Dumps with more packets are the stated ones, of a new sender and of one that is there.
 use Rattle.std.proofs.Common.{◌≡◌, ℕ, Bool, true, false, cond, List, [], ◌∷◌, Option, None, Some, refl, sym, ap, subst, ◌∙◌}
 use Rattle.std.specs.Prelude.{map}
 use Rattle.std.specs.Cmp.{IsTotalOrder}
@@ -57,23 +57,23 @@ said_at entries origin old was =
     let stated = subst (λ (k : Origin → Origin → Ordering). lookup (is_at (k origin)) entries ≡ old) origin_order was in
     ap (λ (o : Option Own). unwrap_or o no_dump) (lookup_said (is_at (origin_cmp origin)) entries ∙ ap (option_map own_of) stated)
 
-module _ (octets : List ℕ) (lack : Option LackAt) where
+module _ (packets : List (ℕ × List ℕ)) (lack : Option LackAt) where
   added_by : (entries after : Entries) (origin : Origin) (old : Option OwnDump) (dump : OwnDump)
-      → lookup (is_at (ghosts.cmp origin)) entries ≡ old → own_of dump ≡ own_with (unwrap_or (option_map own_of old) no_dump) octets lack
-      → after ≡ insert_entry ghosts.cmp entries origin dump → said after ≡ dump_added (said entries) origin octets lack
+      → lookup (is_at (ghosts.cmp origin)) entries ≡ old → own_of dump ≡ own_with (unwrap_or (option_map own_of old) no_dump) packets lack
+      → after ≡ insert_entry ghosts.cmp entries origin dump → said after ≡ dump_added (said entries) origin packets lack
   added_by entries after origin old dump was is put =
       ap said (put ∙ ap (λ (k : Origin → Origin → Ordering). insert_entry k entries origin dump) origin_order)
       ∙ insert_said origin_cmp origin dump entries
-      ∙ ap (insert_entry origin_cmp (said entries) origin) (is ∙ ap (λ (d : Own). own_with d octets lack) (sym (said_at entries origin old was)))
+      ∙ ap (insert_entry origin_cmp (said entries) origin) (is ∙ ap (λ (d : Own). own_with d packets lack) (sym (said_at entries origin old was)))
 
   pub first_dump : (entries after : Entries) (origin : Origin) (dump : OwnDump) → lookup (is_at (ghosts.cmp origin)) entries ≡ None
-      → own_of dump ≡ own_with no_dump octets lack → after ≡ insert_entry ghosts.cmp entries origin dump → said after ≡ dump_added (said entries) origin octets lack
+      → own_of dump ≡ own_with no_dump packets lack → after ≡ insert_entry ghosts.cmp entries origin dump → said after ≡ dump_added (said entries) origin packets lack
   first_dump entries after origin dump none is put = added_by entries after origin None dump none is put
 
   -- one that is there already is written in its place
   pub longer_dump : (entries after : Entries) (origin : Origin) (before dump : OwnDump) → lookup (is_at (ghosts.cmp origin)) entries ≡ Some before
-      → own_of dump ≡ own_with (own_of before) octets lack → IsStrictlySortedBy ghosts.cmp (keys_of entries) → after ≡ set_value (is_at (ghosts.cmp origin)) entries dump
-      → said after ≡ dump_added (said entries) origin octets lack
+      → own_of dump ≡ own_with (own_of before) packets lack → IsStrictlySortedBy ghosts.cmp (keys_of entries) → after ≡ set_value (is_at (ghosts.cmp origin)) entries dump
+      → said after ≡ dump_added (said entries) origin packets lack
   longer_dump entries after origin before dump there is sorted written =
       added_by entries after origin (Some before) dump there is
       (written ∙ set_value-insert (subst IsTotalOrder (sym origin_order) origin_total) origin dump before entries sorted there)

@@ -9,6 +9,7 @@ use Rattle.std.specs.Option.{option_cmp, option_or, unwrap_or}
 use Rattle.std.specs.Ordering.{is_eq, nat_cmp}
 use Rattle.std.proofs.lemmas.Cmp.{tied_itself}
 use Rattle.std.proofs.lemmas.List.{append-nil}
+use Rattle.std.proofs.lemmas.List.Concat.{flat_map-append}
 use Rattle.std.proofs.lemmas.Map.Lookups.{exact_unsigned}
 use Rattle.babel_prefix.specs.Address.{Address}
 use Rattle.babel_prefix.specs.Order.{address_cmp}
@@ -23,13 +24,14 @@ use Rattle.babel_capture.specs.declared.wanted.Wanted.{Wanted}
 use Rattle.babel_capture.specs.declared.wanted.Wanted.TheVariants as wanteds
 use Rattle.babel_capture.specs.Blocks.{BlockAt, Sighting, sightings_of}
 use Rattle.babel_capture.specs.Counts.{Made, counts_of}
-use Rattle.babel_capture.specs.Dumps.{Dumps, Own, dump_added, dump_at, dumps_by, dumps_of, dumps_with, no_dump, own_with}
+use Rattle.babel_capture.specs.Dumps.{Dumps, Own, dump_added, dump_at, dumps_by, dumps_of, dumps_with, no_dump, octets_of, own_with, packets_made, timed_found}
 use Rattle.babel_capture.specs.EachDump.{EachIsOwn, LackingIsNone, only}
 use Rattle.babel_capture.specs.Findings.{CarriedIs, Finds, Found, PayloadIs, found, lacked, left, passed, refused, untold}
 use Rattle.babel_capture.specs.Gathering.{AreMade, Gathering, IsGathered, IsTaken, dump_of, octets_found}
 use Rattle.babel_capture.specs.Senders.{is_from}
 use Rattle.babel_capture.specs.Sight.{Carried, Sight, datagram, lacking, not_link_local, other, other_port, too_short, carries}
 use Rattle.babel_capture.specs.Tallies.{origin_cmp, place_cmp, senders_of, vlans_cmp}
+use Rattle.babel_capture.specs.Times.{Came, time_of}
 use Rattle.babel_capture.proofs.GatherLaws.{made_of}
 use Rattle.babel_capture.proofs.OneCapture.{same_blocks}
 use Rattle.babel_capture.proofs.OneOrigin.{one_sender_at_most}
@@ -71,13 +73,33 @@ origin_exact a b at =
     let of : Place → Address → Origin = λ p s. record { place = p; sender = s } in
     ap (λ p. of p a.sender) parts.0 ∙ ap (λ s. of b.place s) parts.1
 
+-- ---- the packets that are found, end to end
+
+octets_one : (time : Option ℕ) (what : Found) → flat_map (λ (packet : ℕ × List ℕ). packet.1) (timed_found time what) ≡ octets_found what
+octets_one time passed = refl
+octets_one time untold = refl
+octets_one time (left reason) = refl
+octets_one time (refused lack) = refl
+octets_one time (lacked place sender lack) = refl
+octets_one time (found place sender packet) = append-nil packet
+
+octets_made : (made : List Made) → flat_map (λ (packet : ℕ × List ℕ). packet.1) (packets_made made) ≡ flat_map (λ (one : Made). octets_found one.what) made
+octets_made [] = refl
+octets_made (one ∷ made) =
+    flat_map-append (λ (packet : ℕ × List ℕ). packet.1) (timed_found (time_of one.came) one.what) (packets_made made)
+    ∙ ap (λ (t : List ℕ). t ++ flat_map (λ (packet : ℕ × List ℕ). packet.1) (packets_made made)) (octets_one (time_of one.came) one.what)
+    ∙ ap (λ (t : List ℕ). octets_found one.what ++ t) (octets_made made)
+
 module _ (origin : Origin) where
   abbrev own : Wanted
   own = only origin
 
-  -- the octets of a packet, if it is one of this sender at this place
-  abbrev octets_from : Found → List ℕ
-  octets_from what = cond (is_from origin what) (octets_found what) []
+  -- a packet with its time, if it is one of this sender at this place
+  abbrev packets_from : Option ℕ → Found → List (ℕ × List ℕ)
+  packets_from time what = cond (is_from origin what) (timed_found time what) []
+
+  abbrev packets_here : List Made → List (ℕ × List ℕ)
+  packets_here made = flat_map (λ (one : Made). packets_from (time_of one.came) one.what) made
 
   -- what a datagram of it lacks
   abbrev lack_from : ℕ → Found → Option LackAt
@@ -113,23 +135,23 @@ module _ (origin : Origin) where
   same_of true x = refl
   same_of false x = refl
 
-  -- what is no packet has no octets
-  no_octets : (b : Bool) (what which : Found) → what ≡ which → octets_found which ≡ [] → octets_from which ≡ [] → octets_from what ≡ cond b (octets_found what) []
-  no_octets b what which is none none_from =
-      ap octets_from is ∙ none_from ∙ sym (ap (λ (t : List ℕ). cond b t []) (ap octets_found is ∙ none) ∙ same_of b [])
+  module _ (time : Option ℕ) (place : Place) (sender : Address) (b : Bool) (at : is_at (origin_cmp origin) (record { place = place; sender = sender }) ≡ b) where
+    -- what gives no packet
+    no_packet : (what which : Found) → what ≡ which → timed_found time which ≡ [] → packets_from time which ≡ [] → packets_from time what ≡ cond b (timed_found time what) []
+    no_packet what which is none none_from =
+        ap (packets_from time) is ∙ none_from ∙ sym (ap (λ (t : List (ℕ × List ℕ)). cond b t []) (ap (timed_found time) is ∙ none) ∙ same_of b [])
 
-  module _ (place : Place) (sender : Address) (b : Bool) (at : is_at (origin_cmp origin) (record { place = place; sender = sender }) ≡ b) where
-    in_payload : (payload : List ℕ) (what : Found) → PayloadIs place sender payload what → octets_from what ≡ cond b (octets_found what) []
+    in_payload : (payload : List ℕ) (what : Found) → PayloadIs place sender payload what → packets_from time what ≡ cond b (timed_found time what) []
     in_payload payload what (inl (body, begins, is)) =
-        ap octets_from is ∙ ap (λ (c : Bool). cond c (framed body) []) at ∙ ap (λ (w : Found). cond b (octets_found w) []) (sym is)
-    in_payload payload what (inr (inl (short, is))) = no_octets b what _ is refl refl
-    in_payload payload what (inr (inr (inl (header, magic, is)))) = no_octets b what _ is refl refl
-    in_payload payload what (inr (inr (inr (header, magic, version, is)))) = no_octets b what _ is refl refl
+        ap (packets_from time) is ∙ ap (λ (c : Bool). cond c ((unwrap_or time 0, framed body) ∷ []) []) at ∙ ap (λ (w : Found). cond b (timed_found time w) []) (sym is)
+    in_payload payload what (inr (inl (short, is))) = no_packet what _ is refl refl
+    in_payload payload what (inr (inr (inl (header, magic, is)))) = no_packet what _ is refl refl
+    in_payload payload what (inr (inr (inr (header, magic, version, is)))) = no_packet what _ is refl refl
 
-    in_carried : (carried : Carried) (what : Found) → CarriedIs wanteds.Each place sender carried what → octets_from what ≡ cond b (octets_found what) []
-    in_carried other_port what is = no_octets b what _ is refl refl
-    in_carried not_link_local what is = no_octets b what _ is refl refl
-    in_carried (lacking lack) what is = no_octets b what _ is refl refl
+    in_carried : (carried : Carried) (what : Found) → CarriedIs wanteds.Each place sender carried what → packets_from time what ≡ cond b (timed_found time what) []
+    in_carried other_port what is = no_packet what _ is refl refl
+    in_carried not_link_local what is = no_packet what _ is refl refl
+    in_carried (lacking lack) what is = no_packet what _ is refl refl
     in_carried (carries payload) what is = in_payload payload what is
 
   carried_own : (number : ℕ) (place : Place) (sender : Address) (carried : Carried) (what : Found) → is_at (origin_cmp origin) (record { place = place; sender = sender }) ≡ true
@@ -143,11 +165,11 @@ module _ (origin : Origin) where
   carried_own number place sender (carries payload) what at sound is = is
 
   -- it is the same, or passed
-  record IsMine (sight : Sight) (what : Found) : Type 0 where
+  record IsMine (time : Option ℕ) (sight : Sight) (what : Found) : Type 0 where
     mine : Found
     finds : Finds own sight mine
     taken : IsTaken mine
-    octets : octets_found mine ≡ octets_from what
+    packets : timed_found time mine ≡ packets_from time what
 
   -- another sender, or place
   apart : (place : Place) (sender : Address) → is_at (origin_cmp origin) (record { place = place; sender = sender }) ≡ false → (sender ≡ origin.sender) × (place ≡ origin.place) → ⊥
@@ -158,42 +180,43 @@ module _ (origin : Origin) where
       let wrong : false ≡ true = sym at ∙ tied in
       cc
 
-  one_mine : (number : ℕ) (sight : Sight) (what : Found) → Finds wanteds.Each sight what → IsTaken what → lack_from number what ≡ None → IsMine sight what
-  one_mine number other what is taken sound = record { mine = passed; finds = refl; taken = tt; octets = ap octets_from (sym is) }
-  one_mine number too_short what is taken sound = record { mine = untold; finds = refl; taken = tt; octets = ap octets_from (sym is) }
-  one_mine number (datagram place sender carried) what (inr (not, is)) taken sound = absurd (not tt)
-  one_mine number (datagram place sender carried) what (inl (wants, is)) taken sound = by (is_at (origin_cmp origin) (record { place = place; sender = sender })) refl
+  one_mine : (time : Option ℕ) (number : ℕ) (sight : Sight) (what : Found) → Finds wanteds.Each sight what → IsTaken what → lack_from number what ≡ None → IsMine time sight what
+  one_mine time number other what is taken sound = record { mine = passed; finds = refl; taken = tt; packets = ap (packets_from time) (sym is) }
+  one_mine time number too_short what is taken sound = record { mine = untold; finds = refl; taken = tt; packets = ap (packets_from time) (sym is) }
+  one_mine time number (datagram place sender carried) what (inr (not, is)) taken sound = absurd (not tt)
+  one_mine time number (datagram place sender carried) what (inl (wants, is)) taken sound = by (is_at (origin_cmp origin) (record { place = place; sender = sender })) refl
     where
-      by : (b : Bool) → is_at (origin_cmp origin) (record { place = place; sender = sender }) ≡ b → IsMine (datagram place sender carried) what
+      by : (b : Bool) → is_at (origin_cmp origin) (record { place = place; sender = sender }) ≡ b → IsMine time (datagram place sender carried) what
       by true at =
           let parts = parts_of origin (record { place = place; sender = sender }) at in record {
             mine = what;
             finds = inl ((sym parts.1, sym parts.0), carried_own number place sender carried what at sound is);
             taken = taken;
-            octets = sym (in_carried place sender true at carried what is);
+            packets = sym (in_carried time place sender true at carried what is);
           }
       by false at = record {
         mine = passed;
         finds = inr (apart place sender at, refl);
         taken = tt;
-        octets = sym (in_carried place sender false at carried what is);
+        packets = sym (in_carried time place sender false at carried what is);
       }
 
   record AreMine (sightings : List Sighting) (made : List Made) : Type 0 where
     mine : List Made
     are_made : AreMade own sightings mine
-    octets : dump_of own mine ≡ flat_map (λ (one : Made). octets_from one.what) made
+    packets : packets_made mine ≡ packets_here made
 
   all_mine : (sightings : List Sighting) (made : List Made) → AreMade wanteds.Each sightings made → AreSound made → AreMine sightings made
-  all_mine [] made are sound = record { mine = []; are_made = refl; octets = ap (flat_map (λ (one : Made). octets_from one.what)) (sym are) }
+  all_mine [] made are sound = record { mine = []; are_made = refl; packets = ap packets_here (sym are) }
   all_mine (sighting ∷ later) made (one, others, is, number, link, came, finds, takes, are) sound =
       let parts : AreSound (one ∷ others) = subst AreSound is sound in
-      let first = one_mine one.number sighting.what one.what finds takes parts.0 in
+      let first = one_mine (time_of one.came) one.number sighting.what one.what finds takes parts.0 in
       let rest = all_mine later others are parts.1 in record {
         mine = made_of sighting first.mine ∷ rest.mine;
         are_made = (made_of sighting first.mine, rest.mine, refl, refl, refl, refl, first.finds, first.taken, rest.are_made);
-        octets = ap (λ (t : List ℕ). t ++ dump_of own rest.mine) first.octets ∙ ap (λ (t : List ℕ). octets_from one.what ++ t) rest.octets
-            ∙ ap (flat_map (λ (m : Made). octets_from m.what)) (sym is);
+        packets = ap (λ (c : Came). timed_found (time_of c) first.mine ++ packets_made rest.mine) (sym came)
+            ∙ ap (λ (t : List (ℕ × List ℕ)). t ++ packets_made rest.mine) first.packets
+            ∙ ap (λ (t : List (ℕ × List ℕ)). packets_from (time_of one.came) one.what ++ t) rest.packets ∙ ap packets_here (sym is);
       }
 
   -- ---- what one lacks that is refused
@@ -246,57 +269,60 @@ module _ (origin : Origin) where
   or_or None b c = refl
   or_or (Some a) b c = refl
 
-  abbrev dump : List ℕ → Option LackAt → Own
-  dump octets lack = record { octets = octets; lack = lack }
+  abbrev dump : List (ℕ × List ℕ) → Option LackAt → Own
+  dump packets lack = record { packets = packets; lack = lack }
 
   same_own : (d : Own) → d ≡ own_with d [] None
-  same_own d = ap (λ (t : List ℕ). dump t d.lack) (sym (append-nil d.octets)) ∙ ap (dump (d.octets ++ [])) (or_none d.lack)
+  same_own d = ap (λ (t : List (ℕ × List ℕ)). dump t d.lack) (sym (append-nil d.packets)) ∙ ap (dump (d.packets ++ [])) (or_none d.lack)
 
-  with_added : (dumps : Dumps) (k : Origin) (octets : List ℕ) (lack : Option LackAt)
-      → dump_at (dump_added dumps k octets lack) origin ≡ own_with (dump_at dumps origin) (cond (is_at (origin_cmp origin) k) octets []) (cond (is_at (origin_cmp origin) k) lack None)
-  with_added dumps k octets lack =
+  with_added : (dumps : Dumps) (k : Origin) (packets : List (ℕ × List ℕ)) (lack : Option LackAt)
+      → dump_at (dump_added dumps k packets lack) origin ≡ own_with (dump_at dumps origin) (cond (is_at (origin_cmp origin) k) packets []) (cond (is_at (origin_cmp origin) k) lack None)
+  with_added dumps k packets lack =
       ap (λ (o : Option Own). unwrap_or o no_dump) (lookup-insert origin_total origin k after dumps) ∙ by (is_at (origin_cmp k) origin) refl
     where
       after : Own
-      after = own_with (dump_at dumps k) octets lack
+      after = own_with (dump_at dumps k) packets lack
 
       by : (b : Bool) → is_at (origin_cmp k) origin ≡ b
           → unwrap_or (cond b (Some after) (lookup (is_at (origin_cmp origin)) dumps)) no_dump
-          ≡ own_with (dump_at dumps origin) (cond (is_at (origin_cmp origin) k) octets []) (cond (is_at (origin_cmp origin) k) lack None)
+          ≡ own_with (dump_at dumps origin) (cond (is_at (origin_cmp origin) k) packets []) (cond (is_at (origin_cmp origin) k) lack None)
       by true at =
-          ap (λ (o : Origin). own_with (dump_at dumps o) octets lack) (origin_exact k origin at)
-          ∙ ap (λ (c : Bool). own_with (dump_at dumps origin) (cond c octets []) (cond c lack None)) (sym (is_at-sym origin_total origin k ∙ at))
+          ap (λ (o : Origin). own_with (dump_at dumps o) packets lack) (origin_exact k origin at)
+          ∙ ap (λ (c : Bool). own_with (dump_at dumps origin) (cond c packets []) (cond c lack None)) (sym (is_at-sym origin_total origin k ∙ at))
       by false at =
           same_own (dump_at dumps origin)
-          ∙ ap (λ (c : Bool). own_with (dump_at dumps origin) (cond c octets []) (cond c lack None)) (sym (is_at-sym origin_total origin k ∙ at))
+          ∙ ap (λ (c : Bool). own_with (dump_at dumps origin) (cond c packets []) (cond c lack None)) (sym (is_at-sym origin_total origin k ∙ at))
 
-  with_one : (dumps : Dumps) (number : ℕ) (what : Found) → dump_at (dumps_by dumps number what) origin ≡ own_with (dump_at dumps origin) (octets_from what) (lack_from number what)
-  with_one dumps number passed = same_own (dump_at dumps origin)
-  with_one dumps number untold = same_own (dump_at dumps origin)
-  with_one dumps number (left reason) = same_own (dump_at dumps origin)
-  with_one dumps number (refused lack) = same_own (dump_at dumps origin)
-  with_one dumps number (lacked place sender lack) =
+  with_one : (dumps : Dumps) (number : ℕ) (time : Option ℕ) (what : Found)
+      → dump_at (dumps_by dumps number time what) origin ≡ own_with (dump_at dumps origin) (packets_from time what) (lack_from number what)
+  with_one dumps number time passed = same_own (dump_at dumps origin)
+  with_one dumps number time untold = same_own (dump_at dumps origin)
+  with_one dumps number time (left reason) = same_own (dump_at dumps origin)
+  with_one dumps number time (refused lack) = same_own (dump_at dumps origin)
+  with_one dumps number time (lacked place sender lack) =
       with_added dumps (record { place = place; sender = sender }) [] (Some (record { packet = number; lack = lack }))
-      ∙ ap (λ (t : List ℕ). own_with (dump_at dumps origin) t (lack_from number (lacked place sender lack))) (same_of _ [])
-  with_one dumps number (found place sender packet) =
-      with_added dumps (record { place = place; sender = sender }) packet None
-      ∙ ap (own_with (dump_at dumps origin) (octets_from (found place sender packet))) (same_of _ None)
+      ∙ ap (λ (t : List (ℕ × List ℕ)). own_with (dump_at dumps origin) t (lack_from number (lacked place sender lack))) (same_of _ [])
+  with_one dumps number time (found place sender packet) =
+      with_added dumps (record { place = place; sender = sender }) ((unwrap_or time 0, packet) ∷ []) None
+      ∙ ap (own_with (dump_at dumps origin) (packets_from time (found place sender packet))) (same_of _ None)
 
   with_all : (dumps : Dumps) (made : List Made)
-      → dump_at (fold (λ (d : Dumps) (one : Made). dumps_with wanteds.Each d one.number one.what) dumps made) origin
-      ≡ own_with (dump_at dumps origin) (flat_map (λ (one : Made). octets_from one.what) made) (first_lack made)
+      → dump_at (fold (λ (d : Dumps) (one : Made). dumps_with wanteds.Each d one.number (time_of one.came) one.what) dumps made) origin
+      ≡ own_with (dump_at dumps origin) (packets_here made) (first_lack made)
   with_all dumps [] = same_own (dump_at dumps origin)
   with_all dumps (one ∷ made) =
-      let later = flat_map (λ (m : Made). octets_from m.what) made in
+      let later = packets_here made in
+      let first = packets_from (time_of one.came) one.what in
       let here = dump_at dumps origin in
-      with_all (dumps_by dumps one.number one.what) made ∙ ap (λ (d : Own). own_with d later (first_lack made)) (with_one dumps one.number one.what)
-      ∙ ap (λ (t : List ℕ). dump t (option_or (option_or here.lack (lack_from one.number one.what)) (first_lack made))) (append_assoc here.octets (octets_from one.what) later)
-      ∙ ap (dump (here.octets ++ (octets_from one.what ++ later))) (or_or here.lack (lack_from one.number one.what) (first_lack made))
+      with_all (dumps_by dumps one.number (time_of one.came) one.what) made
+      ∙ ap (λ (d : Own). own_with d later (first_lack made)) (with_one dumps one.number (time_of one.came) one.what)
+      ∙ ap (λ (t : List (ℕ × List ℕ)). dump t (option_or (option_or here.lack (lack_from one.number one.what)) (first_lack made))) (append_assoc here.packets first later)
+      ∙ ap (dump (here.packets ++ (first ++ later))) (or_or here.lack (lack_from one.number one.what) (first_lack made))
 
   -- ---- so with what is gathered
 
   own_is : (sightings : List Sighting) (all : Gathering) → (gathered : IsGathered sightings all) → all.wanted ≡ wanteds.Each
-      → dump_at all.dumps origin ≡ dump (flat_map (λ (one : Made). octets_from one.what) gathered.made) (first_lack gathered.made)
+      → dump_at all.dumps origin ≡ dump (packets_here gathered.made) (first_lack gathered.made)
   own_is sightings all gathered wanted =
       ap (λ (d : Dumps). dump_at d origin) (gathered.dumps ∙ ap (λ (w : Wanted). dumps_of w gathered.made) wanted) ∙ with_all [] gathered.made
 
@@ -305,13 +331,15 @@ module _ (origin : Origin) where
     gathered : IsGathered sightings gathering
     names : gathering.names ≡ all.names
     wanted : gathering.wanted ≡ own
-    dump : gathering.dump ≡ (dump_at all.dumps origin).octets
+    dump : gathering.dump ≡ octets_of (dump_at all.dumps origin)
+    packets : (dump_at all.dumps origin).packets ≡ packets_made gathered.made
 
   own_gathered : (sightings : List Sighting) (all : Gathering) → IsGathered sightings all → all.wanted ≡ wanteds.Each → (dump_at all.dumps origin).lack ≡ None → IsOwn sightings all
   own_gathered sightings all gathered wanted none =
       let is = own_is sightings all gathered wanted in
       let are = all_mine sightings gathered.made (subst (λ (w : Wanted). AreMade w sightings gathered.made) wanted gathered.taken.are_made)
       (sound_of gathered.made (sym (ap (λ (d : Own). d.lack) is) ∙ none)) in
+      let packets = ap (λ (d : Own). d.packets) is ∙ sym are.packets in
       let few = one_sender_at_most origin.sender origin.place false sightings are.mine are.are_made in record {
         gathering = record {
           wanted = own;
@@ -331,7 +359,8 @@ module _ (origin : Origin) where
         };
         names = refl;
         wanted = refl;
-        dump = are.octets ∙ sym (ap (λ (d : Own). d.octets) is);
+        dump = sym (octets_made are.mine) ∙ ap (flat_map (λ (packet : ℕ × List ℕ). packet.1)) (sym packets);
+        packets = packets;
       }
 
 pub each_is_own : EachIsOwn
@@ -355,6 +384,7 @@ each_is_own limit octets all cut origin read wanted none =
       },
       is.wanted,
       is.dump,
+      is.packets,
     )
 
 pub lacking_is_none : LackingIsNone

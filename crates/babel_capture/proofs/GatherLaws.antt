@@ -51,14 +51,14 @@ dump-push wanteds.Each made dump one is = is
 dump-push (wanteds.Sender sender place ends) made dump one is = octets-push made dump one is
 dump-push (wanteds.InTurn sender place) made dump one is = octets-push made dump one is
 
-dumps-push : (wanted : Wanted) (made : List Made) (one : Made) → dumps_of wanted (made ++ one ∷ []) ≡ dumps_with wanted (dumps_of wanted made) one.number one.what
-dumps-push wanted made one = fold-append (λ (d : Dumps) (m : Made). dumps_with wanted d m.number m.what) [] made (one ∷ [])
+dumps-push : (wanted : Wanted) (made : List Made) (one : Made) → dumps_of wanted (made ++ one ∷ []) ≡ dumps_with wanted (dumps_of wanted made) one.number (time_of one.came) one.what
+dumps-push wanted made one = fold-append (λ (d : Dumps) (m : Made). dumps_with wanted d m.number (time_of m.came) m.what) [] made (one ∷ [])
 
 senders-push : (made : List Made) (one : Made) → senders_of (made ++ one ∷ []) ≡ senders_with (senders_of made) (time_of one.came) one.what
 senders-push made one = fold-append (λ (s : Senders) (m : Made). senders_with s (time_of m.came) m.what) [] made (one ∷ [])
 
 pub gathered-push : (before : List Sighting) (next : Sighting) (old new : Gathering) (what : Found) → new.wanted ≡ old.wanted
-    → new.dump ≡ dump_with old.wanted old.dump (octets_found what) → new.dumps ≡ dumps_with old.wanted old.dumps next.number what
+    → new.dump ≡ dump_with old.wanted old.dump (octets_found what) → new.dumps ≡ dumps_with old.wanted old.dumps next.number (time_of next.came) what
     → new.report ≡ counted (counted_at old.report next.came) next.link what
     → new.senders ≡ senders_with old.senders (time_of next.came) what → length new.senders ≤ 65536 → IsTaken what
     → IsGathered before old → next.number ≡ old.report.packets + 1 → Finds old.wanted next.what what → IsGathered (before ++ next ∷ []) new
@@ -77,7 +77,7 @@ gathered-push before next old new what same dump dumps report senders few takes 
       dump = subst (λ (w : Wanted). new.dump ≡ dump_of w (gathered.made ++ one ∷ [])) (sym same)
           (dump ∙ dump-push old.wanted gathered.made old.dump one gathered.dump);
       dumps = subst (λ (w : Wanted). new.dumps ≡ dumps_of w (gathered.made ++ one ∷ [])) (sym same)
-          (dumps ∙ ap (λ (d : Dumps). dumps_with old.wanted d next.number what) gathered.dumps ∙ sym (dumps-push old.wanted gathered.made one));
+          (dumps ∙ ap (λ (d : Dumps). dumps_with old.wanted d next.number (time_of next.came) what) gathered.dumps ∙ sym (dumps-push old.wanted gathered.made one));
       report = report ∙ ap (λ (c : Counts). counted (counted_at c next.came) next.link what) gathered.report ∙ sym (counts-push gathered.made one is_number);
       senders = is_senders;
     }
@@ -96,11 +96,11 @@ dump-stays wanteds.Each dump = refl
 dump-stays (wanteds.Sender sender place ends) dump = sym (append-nil dump)
 dump-stays (wanteds.InTurn sender place) dump = sym (append-nil dump)
 
-dumps-stay : (wanted : Wanted) (dumps : Dumps) (number : ℕ) (what : Found) → dumps_by dumps number what ≡ dumps → dumps ≡ dumps_with wanted dumps number what
-dumps-stay wanteds.Everyone dumps number what same = refl
-dumps-stay wanteds.Each dumps number what same = sym same
-dumps-stay (wanteds.Sender sender place ends) dumps number what same = refl
-dumps-stay (wanteds.InTurn sender place) dumps number what same = refl
+dumps-stay : (wanted : Wanted) (dumps : Dumps) (number : ℕ) (time : Option ℕ) (what : Found) → dumps_by dumps number time what ≡ dumps → dumps ≡ dumps_with wanted dumps number time what
+dumps-stay wanteds.Everyone dumps number time what same = refl
+dumps-stay wanteds.Each dumps number time what same = sym same
+dumps-stay (wanteds.Sender sender place ends) dumps number time what same = refl
+dumps-stay (wanteds.InTurn sender place) dumps number time what same = refl
 
 pub on-ok4 : {T E : Type 0} {P Q R S U : Type 0} (r : Result T E) → (P → Q → R → S → U) → OnOk r P → OnOk r Q → OnOk r R → OnOk r S → OnOk r U
 on-ok4 (Ok x) goes one two three four = goes one two three four
@@ -130,26 +130,27 @@ module _ (before : List Sighting) (next : Sighting) (old new : Gathering) (findi
   pub passed-push : finding ≡ passed → new.wanted ≡ old.wanted → new.dump ≡ old.dump → new.dumps ≡ old.dumps → new.report ≡ counted_with (counted_at old.report next.came) None
       → new.senders ≡ old.senders → Goes
   passed-push is same dump dumps report senders gathered number finds =
-      gathered-push before next old new passed same (dump ∙ dump-stays old.wanted old.dump) (dumps ∙ dumps-stay old.wanted old.dumps next.number passed refl) report senders
+      gathered-push before next old new passed same (dump ∙ dump-stays old.wanted old.dump) (dumps ∙ dumps-stay old.wanted old.dumps next.number (time_of next.came) passed refl) report senders
       (few_kept before old new senders gathered) tt gathered number
       (subst (Finds old.wanted next.what) is finds)
 
   pub short-push : finding ≡ untold → new.wanted ≡ old.wanted → new.dump ≡ old.dump → new.dumps ≡ old.dumps → new.report ≡ short_counted (counted_at old.report next.came)
       → new.senders ≡ old.senders → Goes
   short-push is same dump dumps report senders gathered number finds =
-      gathered-push before next old new untold same (dump ∙ dump-stays old.wanted old.dump) (dumps ∙ dumps-stay old.wanted old.dumps next.number untold refl) report senders
+      gathered-push before next old new untold same (dump ∙ dump-stays old.wanted old.dump) (dumps ∙ dumps-stay old.wanted old.dumps next.number (time_of next.came) untold refl) report senders
       (few_kept before old new senders gathered) tt gathered number
       (subst (Finds old.wanted next.what) is finds)
 
   pub left-push : (reason : Reason) → finding ≡ left reason → new.wanted ≡ old.wanted → new.dump ≡ old.dump → new.dumps ≡ old.dumps
       → new.report ≡ counted_with (counted_at old.report next.came) (Some reason) → new.senders ≡ old.senders → Goes
   left-push reason is same dump dumps report senders gathered number finds =
-      gathered-push before next old new (left reason) same (dump ∙ dump-stays old.wanted old.dump) (dumps ∙ dumps-stay old.wanted old.dumps next.number (left reason) refl) report senders
+      gathered-push before next old new (left reason) same (dump ∙ dump-stays old.wanted old.dump)
+      (dumps ∙ dumps-stay old.wanted old.dumps next.number (time_of next.came) (left reason) refl) report senders
       (few_kept before old new senders gathered) tt gathered number
       (subst (Finds old.wanted next.what) is finds)
 
   pub found-push : (place : Place) (sender : Address) (packet : List ℕ) → finding ≡ found place sender packet → new.wanted ≡ old.wanted → new.dump ≡ dump_with old.wanted old.dump packet
-      → new.dumps ≡ dumps_with old.wanted old.dumps next.number (found place sender packet)
+      → new.dumps ≡ dumps_with old.wanted old.dumps next.number (time_of next.came) (found place sender packet)
       → new.report ≡ packet_counted (counted_at old.report next.came) next.link (interval_in packet)
       → new.senders ≡ tallied old.senders (record { place = place; sender = sender }) (time_of next.came) packet → length new.senders ≤ 65536 → Goes
   found-push place sender packet is same dump dumps report senders few gathered number finds =
@@ -158,11 +159,12 @@ module _ (before : List Sighting) (next : Sighting) (old new : Gathering) (findi
 
   -- where the dump of each is wanted
   pub lacked-push : (place : Place) (sender : Address) (lack : Lack) → finding ≡ lacked place sender lack → old.wanted ≡ wanteds.Each → new.wanted ≡ old.wanted → new.dump ≡ old.dump
-      → new.dumps ≡ dumps_by old.dumps next.number (lacked place sender lack) → new.report ≡ counted_with (counted_at old.report next.came) None
+      → new.dumps ≡ dumps_by old.dumps next.number (time_of next.came) (lacked place sender lack) → new.report ≡ counted_with (counted_at old.report next.came) None
       → new.senders ≡ old.senders → Goes
   lacked-push place sender lack is each same dump dumps report senders gathered number finds =
       let what = lacked place sender lack in
-      gathered-push before next old new what same (dump ∙ dump-stays old.wanted old.dump) (dumps ∙ ap (λ (w : Wanted). dumps_with w old.dumps next.number what) (sym each)) report senders
+      gathered-push before next old new what same (dump ∙ dump-stays old.wanted old.dump)
+      (dumps ∙ ap (λ (w : Wanted). dumps_with w old.dumps next.number (time_of next.came) what) (sym each)) report senders
       (few_kept before old new senders gathered) tt gathered number (subst (Finds old.wanted next.what) is finds)
 
 -- a datagram is said to lack something for its sender's dump only where that of each is wanted

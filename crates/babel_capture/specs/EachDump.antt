@@ -2,7 +2,7 @@
 -- They are this project's own.
 use Rattle.std.specs.Prelude.{◌≡◌, ℕ, false, List, Option, None, Some}
 use Rattle.babel_capture.specs.Capture.{IsReadToCut}
-use Rattle.babel_capture.specs.Dumps.{dump_at}
+use Rattle.babel_capture.specs.Dumps.{dump_at, octets_of, packets_made}
 use Rattle.babel_capture.specs.Gathering.{Gathering}
 use Rattle.babel_capture.specs.declared.dumps.LackAt.{LackAt}
 use Rattle.babel_capture.specs.declared.tallies.Origin.{Origin}
@@ -14,14 +14,16 @@ use Rattle.babel_capture.specs.Window.{Extent}
 abbrev pub only : Origin → Wanted
 only origin = wanteds.Sender origin.sender (Some origin.place) false
 
--- a dump that lacks nothing is the one that the same octets give where it alone is wanted
+-- a dump that lacks nothing is the one that the same octets give where it alone is wanted, and its
+-- packets are those that are found there, each with its time
 abbrev pub EachIsOwn : Type 0
 EachIsOwn =
     (limit : Extent) (octets : List ℕ) (all : Gathering) (cut : Option ℕ) (origin : Origin)
     → IsReadToCut limit octets all cut → all.wanted ≡ wanteds.Each
     → (dump_at all.dumps origin).lack ≡ None
-    → (own : Gathering) × IsReadToCut limit octets own cut × (own.wanted ≡ only origin)
-    × (own.dump ≡ (dump_at all.dumps origin).octets)
+    → (own : Gathering) × (read : IsReadToCut limit octets own cut) × (own.wanted ≡ only origin)
+    × (own.dump ≡ octets_of (dump_at all.dumps origin))
+    × ((dump_at all.dumps origin).packets ≡ packets_made read.is_read.gathered.made)
 
 -- and where one lacks something, they give none
 abbrev pub LackingIsNone : Type 0

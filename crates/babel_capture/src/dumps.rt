@@ -1,7 +1,8 @@
 ghost use Rattle.std.specs.Prelude.{◌≡◌, [], None, Some, OnOk, IfOk, IfErr};
 ghost use Rattle.std.specs.Map.{keys_of};
 ghost use Rattle.std.specs.Option.{option_or};
-ghost use Rattle.babel_capture.specs.Dumps.{dump_added, dump_at, own_of, own_with};
+ghost use Rattle.babel_capture.specs.Dumps.{dump_added, dump_at, one_of, own_of, own_with};
+ghost use Rattle.babel_capture.specs.Dumps.{timed_of};
 
 use crate::fault::Fault;
 use crate::lack::Lack;
@@ -19,29 +20,29 @@ pub struct LackAt {
     pub lack: Lack,
 }
 
+/// A packet of a sender.
+#[derive(Drop)]
+pub struct TimedPacket {
+    /// The time of its record; the first time, `Time::first()`, where its record has none.
+    pub time: Time,
+    pub octets: Vec<u8>,
+}
+
 /// The dump of a sender at a place.
 #[derive(Drop)]
 struct OwnDump {
-    octets: Vec<u8>,
-    /// When each packet came; the start of 1970 where it has no time.
-    times: Vec<Time>,
+    packets: Vec<TimedPacket>,
     /// What the first of its datagrams that are not all there lacks.
     lack: Option<LackAt>,
 }
 
 impl OwnDump {
-    /// Adds octets, which came at this time if they are a packet, and what a datagram lacks.
-    fn add(
-        &mut self,
-        octets: &[u8],
-        time: Option<Time>,
-        lack: Option<LackAt>,
-    ) -> Result<(), AllocError>
-        ensures { OnOk result (own_of self.new ≡ own_with (own_of self.old) octets.now lack) }
+    /// Adds a packet, if there is one, and what a datagram lacks.
+    fn add(&mut self, packet: Option<TimedPacket>, lack: Option<LackAt>) -> Result<(), AllocError>
+        ensures { OnOk result (own_of self.new ≡ own_with (own_of self.old) (one_of packet) lack) }
     {
-        self.octets.extend_from_slice(octets)?;
-        if let Some(time) = time {
-            self.times.push(time)?;
+        if let Some(packet) = packet {
+            self.packets.push(packet)?;
         }
         self.lack = self.lack.or(lack);
         Ok(())
@@ -75,18 +76,18 @@ impl Dumps {
         }
     }
 
-    /// The dump of this sender at this place, which is empty where it has none; or what it lacks.
+    /// The packets of this sender at this place, none where it has no dump; or what its dump lacks.
     #[tactic(auto, using(crate::proofs::DumpLaws::said_at))]
-    pub fn of(&self, origin: &Origin) -> Result<&[u8], LackAt>
-        ensures ok { IfOk result (λ dump. dump_at self.now origin.now
-            ≡ record { octets = dump.now; lack = None }) }
+    pub fn of(&self, origin: &Origin) -> Result<&[TimedPacket], LackAt>
+        ensures ok { IfOk result (λ packets. dump_at self.now origin.now
+            ≡ record { packets = timed_of packets.now; lack = None }) }
         ensures lacks { IfErr result (λ lack. (dump_at self.now origin.now).lack ≡ Some lack) }
     {
         let Some(dump) = self.dumps.get(origin) else {
             return Ok(&[]);
         };
         match dump.lack {
-            None => Ok(&dump.octets),
+            None => Ok(&dump.packets),
             Some(lack) => Err(lack),
         }
     }
@@ -99,36 +100,26 @@ impl Dumps {
         origins_in(alloc, &self.dumps)
     }
 
-    /// When each packet of this sender at this place came; the start of 1970 where it has no time.
-    pub fn times_of(&self, origin: &Origin) -> &[Time] {
-        match self.dumps.get(origin) {
-            Some(dump) => &dump.times,
-            None => &[],
-        }
-    }
-
-    /// Adds octets of this sender at this place, which came at this time if they are a packet, and
-    /// what a datagram of it lacks.
+    /// Adds a packet of this sender at this place, if there is one, and what a datagram of it
+    /// lacks.
     pub fn add(
         &mut self,
         origin: &Origin,
-        octets: &[u8],
-        time: Option<Time>,
+        packet: Option<TimedPacket>,
         lack: Option<LackAt>,
     ) -> Result<(), Fault>
-        ensures ok { OnOk result (self.new ≡ dump_added self.old origin.now octets.now lack) }
+        ensures ok { OnOk result (self.new ≡ dump_added self.old origin.now (one_of packet) lack) }
         ensures err { IfErr result (λ fault. fault ≡ Fault.Memory) }
     {
         if let Some(dump) = self.dumps.get_mut(origin) {
-            dump.add(octets, time, lack)?;
+            dump.add(packet, lack)?;
             return Ok(());
         }
         let mut dump = OwnDump {
-            octets: Vec::new(self.alloc),
-            times: Vec::new(self.alloc),
+            packets: Vec::new(self.alloc),
             lack: None,
         };
-        dump.add(octets, time, lack)?;
+        dump.add(packet, lack)?;
         match self.dumps.insert(*origin, dump) {
             Ok(_) => Ok(()),
             Err(_) => Err(Fault::Memory),

@@ -5,7 +5,7 @@ ghost use Rattle.babel_capture.specs.Blocks.{Sighting, sighting_of, sightings_in
 ghost use Rattle.babel_capture.specs.Contents.{captured_of, content_of, holds, names_in};
 ghost use Rattle.babel_capture.specs.Gathering.{BlockNeedsMemory, IsGathered, IsRefused, OriginIs};
 ghost use Rattle.babel_capture.specs.Findings.{found};
-ghost use Rattle.babel_capture.specs.Dumps.{dump_added, dump_at, dumps_with};
+ghost use Rattle.babel_capture.specs.Dumps.{dump_added, dump_at, dumps_with, timed_of};
 ghost use Rattle.babel_capture.specs.Gathering.{PacketNeedsMemory, dump_with, name_of};
 ghost use Rattle.babel_capture.specs.Gathering.{origin_noted, with_taken};
 ghost use Rattle.babel_capture.specs.PacketEnds.{is_packet};
@@ -15,7 +15,7 @@ ghost use Rattle.babel_capture.specs.Times.{skipped};
 ghost use Rattle.babel_capture.specs.Updates.{interval_in, updates_in};
 
 use crate::block::{Block, Packet};
-use crate::dumps::{Dumps, LackAt};
+use crate::dumps::{Dumps, LackAt, TimedPacket};
 use crate::fault::Fault;
 use crate::finding::Finding;
 use crate::lack::Lack;
@@ -99,19 +99,14 @@ impl Gathered {
         &self.dump
     }
 
-    /// The dump of a sender at a place, where those of each are wanted; or what it lacks.
-    pub fn dump_of(&self, origin: &Origin) -> Result<&[u8], LackAt>
-        ensures ok { IfOk result (λ dump. dump_at self.now.dumps origin.now
-            ≡ record { octets = dump.now; lack = None }) }
+    /// The packets of a sender at a place, where those of each are wanted; or what its dump lacks.
+    pub fn packets_of(&self, origin: &Origin) -> Result<&[TimedPacket], LackAt>
+        ensures ok { IfOk result (λ packets. dump_at self.now.dumps origin.now
+            ≡ record { packets = timed_of packets.now; lack = None }) }
         ensures lacks { IfErr result
             (λ lack. (dump_at self.now.dumps origin.now).lack ≡ Some lack) }
     {
         self.dumps.of(origin)
-    }
-
-    /// When each packet of such a dump came; the start of 1970 where it has no time.
-    pub fn times_of(&self, origin: &Origin) -> &[Time] {
-        self.dumps.times_of(origin)
     }
 
     /// The senders at their places that have a dump, by place, then by address, where those of each
@@ -291,7 +286,7 @@ impl Gathered {
     {
         let packet = self.report.packets();
         self.dumps
-            .add(&origin, &[], None, Some(LackAt { packet, lack }))?;
+            .add(&origin, None, Some(LackAt { packet, lack }))?;
         Ok(None)
     }
 
@@ -313,7 +308,7 @@ impl Gathered {
         ensures dump { OnOk result (self.new.dump
             ≡ dump_with self.old.wanted self.old.dump packet.now) }
         ensures dumps { OnOk result (self.new.dumps ≡ dumps_with self.old.wanted self.old.dumps
-            self.old.report.packets (found origin.place origin.sender packet.now)) }
+            self.old.report.packets time (found origin.place origin.sender packet.now)) }
         ensures senders { OnOk result (self.new.senders
             ≡ tallied self.old.senders origin time packet.now) }
         ensures origin { IfOk result (λ told. told ≡ origin_noted self.old.wanted
@@ -329,8 +324,11 @@ impl Gathered {
         let is_noted = match self.wanted {
             Wanted::Everyone => return Ok(None),
             Wanted::Each => {
-                let known = came.unwrap_or(Time::first());
-                self.dumps.add(&origin, packet, Some(known), None)?;
+                let mut octets = Vec::new(self.alloc);
+                octets.extend_from_slice(packet)?;
+                let time = came.unwrap_or(Time::first());
+                self.dumps
+                    .add(&origin, Some(TimedPacket { time, octets }), None)?;
                 return Ok(None);
             }
             Wanted::Sender { ends, .. } => ends,

@@ -169,7 +169,8 @@ pub fn outcome_is_one()
 {}
 
 /// Where the dumps of all senders are wanted, each is that of its sender at its place: what the
-/// same octets give where that alone is wanted; and where it lacks something, they give none.
+/// same octets give where that alone is wanted, and its packets are those found there, each with
+/// its time; and where it lacks something, they give none.
 pub fn each_is_own()
     ensures whole { EachIsOwn }
     ensures lacking { LackingIsNone }

@@ -45,7 +45,7 @@ mod wanted;
 mod window;
 
 pub use capture::Capture;
-pub use dumps::LackAt;
+pub use dumps::{LackAt, TimedPacket};
 pub use fault::Fault;
 pub use flaw::Flaw;
 pub use frame::look;

@@ -628,13 +628,13 @@ static SEEN: [(&[&str], &str); 6] = [
     (
         &[
             "d4c3b2a10200040000000000000000000000040071000000",
-            "0000000000000000500000005000000000020001000602005e00c601000086dd",
+            "0100000000000000500000005000000000020001000602005e00c601000086dd",
             HEAD,
             SOURCE,
             GROUP,
             PORTS,
             REST,
-            "0000000000000000500000005000000000020001000602005e00c601000086dd",
+            "0200000000000000500000005000000000020001000602005e00c601000086dd",
             HEAD,
             SOURCE,
             GROUP,
@@ -776,9 +776,17 @@ fn each_dump_is_that_of_its_sender(rt: HostRuntime) -> Result<(), Fail> {
                 ends: false,
             };
             let own = gathered_of(rt.alloc(), 4096, wanted, octets.as_slice(), 4096);
-            match (all.dump_of(origin), &own) {
-                (Ok(dump), Ok(own)) => {
-                    assert_eq!(rt; dump, own.dump());
+            match (all.packets_of(origin), &own) {
+                (Ok(packets), Ok(own)) => {
+                    let mut dump = Vec::new(rt.alloc());
+                    for packet in packets {
+                        dump.extend_from_slice(&packet.octets)?;
+                    }
+                    assert_eq!(rt; dump.as_slice(), own.dump());
+                    if let Some(tally) = all.senders().get(origin) {
+                        assert_eq!(rt; packets.first().map(|packet| packet.time), tally.first);
+                        assert_eq!(rt; packets.last().map(|packet| packet.time), tally.last);
+                    }
                     gave_dump = gave_dump || !dump.is_empty();
                 }
                 (Err(_lack), Err(_fault)) => told_lack = true,

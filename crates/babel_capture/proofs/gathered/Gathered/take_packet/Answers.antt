@@ -73,9 +73,11 @@ returns-in-Packet-clause-ok c =
     c.in-Packet.place c.in-Packet.sender c.in-Packet.packet.now (ap finding_of c.in-Packet.is)
     (c.add.ensures.wanted ∙ wanted)
     (ap (λ d. taken ++ d) (dump ∙ ap (λ (g : Gathering). dump_with g.wanted g.dump c.in-Packet.packet.now) c.self.view_is) ∙ dump-after c.args.self.now.wanted taken _ _)
-    (dumps ∙ ap (λ (n : ℕ). dumps_with c.self.inside.wanted c.self.inside.dumps n (found c.in-Packet.place c.in-Packet.sender c.in-Packet.packet.now))
+    (dumps ∙ ap (λ (n : ℕ). dumps_with c.self.inside.wanted c.self.inside.dumps n c.time-came.result (found c.in-Packet.place c.in-Packet.sender c.in-Packet.packet.now))
     (ap (λ (r : Counts). r.packets) c.count_packet.ensures ∙ ap (λ (r : Counts). r.packets + 1) c.take_time.ensures)
-    ∙ ap (λ (g : Gathering). dumps_with g.wanted g.dumps (g.report.packets + 1) (found c.in-Packet.place c.in-Packet.sender c.in-Packet.packet.now)) c.self.view_is)
+    ∙ ap (λ (g : Gathering). dumps_with g.wanted g.dumps (g.report.packets + 1) c.time-came.result (found c.in-Packet.place c.in-Packet.sender c.in-Packet.packet.now)) c.self.view_is
+    ∙ ap (λ (t : Option ℕ). dumps_with c.args.self.now.wanted c.args.self.now.dumps (c.args.self.now.report.packets + 1) t (found c.in-Packet.place c.in-Packet.sender c.in-Packet.packet.now))
+    c.time-came.ensures)
     (c.add.ensures.report ∙ c.count_packet.ensures ∙ ap (packet_counted c.take_time.new.self c.args.packet.now.link) c.updates_in-updates.ensures.interval
     ∙ ap (λ (r : Counts). packet_counted r c.args.packet.now.link (interval_in c.in-Packet.packet.now)) timed)
     (senders ∙ ap (λ (g : Gathering). tallied g.senders (record { place = c.in-Packet.place; sender = c.in-Packet.sender }) c.time-came.result c.in-Packet.packet.now) c.self.view_is
@@ -131,9 +133,9 @@ returns-in-Lacking-clause-ok c =
     lacked-push before (sighting_of (c.args.self.now.report.packets + 1) c.args.at (captured_of c.args.packet.now)) (with_taken taken c.args.self.now) (with_taken taken c.add_lack.new.self) _
     place sender c.in-Lacking.lack (ap finding_of c.in-Lacking.is) (each_wanted _ _ _ _ _ finds) (c.add_lack.ensures.wanted ∙ wanted)
     (ap (λ d. taken ++ d) (c.add_lack.ensures.dump ∙ ap (λ (g : Gathering). g.dump) c.self.view_is))
-    (dumps ∙ ap (λ (n : ℕ). dumps_by c.self.inside.dumps n (lacked place sender c.in-Lacking.lack)) (ap (λ (r : Counts). r.packets) c.count-in-Lacking.ensures
+    (dumps ∙ ap (λ (n : ℕ). dumps_by c.self.inside.dumps n None (lacked place sender c.in-Lacking.lack)) (ap (λ (r : Counts). r.packets) c.count-in-Lacking.ensures
     ∙ ap (λ (r : Counts). r.packets + 1) c.take_time.ensures)
-    ∙ ap (λ (g : Gathering). dumps_by g.dumps (g.report.packets + 1) (lacked place sender c.in-Lacking.lack)) c.self.view_is)
+    ∙ ap (λ (g : Gathering). dumps_by g.dumps (g.report.packets + 1) None (lacked place sender c.in-Lacking.lack)) c.self.view_is)
     (c.add_lack.ensures.report ∙ c.count-in-Lacking.ensures ∙ ap (λ (r : Counts). counted_with r None) timed)
     (c.add_lack.ensures.senders ∙ ap (λ (g : Gathering). g.senders) c.self.view_is)
     gathered refl (finds-at _ _ _ _ wanted c.finding.ensures)) c.add_lack.ensures.dumps
