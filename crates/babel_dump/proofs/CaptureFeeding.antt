@@ -1,12 +1,12 @@
 -- What a reader gave so far, piece by piece, and a capture was fed.
 use Rattle.std.proofs.Common.{◌≡◌, ◌≢◌, ℕ, ◌+◌, ◌<◌, ◌≤◌, true, List, [], ◌++◌, length, take, Option, None, Some, arith, length-append, length-take, subst, ◌∙◌, inl, inr}
-use Rattle.babel_capture.specs.Capture.{CaptureFault, account_of, HasGivenTo, HasRead, State}
+use Rattle.babel_capture.specs.Capture.{CaptureFault, account_of, HasGivenTo, HasRead, State, moment_read}
 use Rattle.babel_capture.specs.Gathering.{Gathering}
 use Rattle.babel_capture.specs.Reading.{Stops}
 use Rattle.babel_capture.specs.declared.fault.Fault.{Fault}
 use Rattle.babel_capture.specs.declared.fault.Fault.TheVariants as faults
 use Rattle.babel_capture.specs.declared.wanted.Wanted.{Wanted}
-use Rattle.babel_dump.specs.CaptureGiven.{extent_of, CaptureInput, GaveCapture, IsFaultOfCapture, IsFedWhole, IsReadSo}
+use Rattle.babel_dump.specs.CaptureGiven.{extent_of, CaptureInput, GaveCapture, GaveMoment, IsFaultOfCapture, IsFedWhole, IsReadSo}
 use Rattle.babel_dump.specs.declared.capture_reading.CaptureReading.{CaptureReading}
 use Rattle.babel_dump.proofs.CaptureLimits.{taken_within}
 use Rattle.babel_dump.specs.Device.{Gave, InputState, IsSpent}
@@ -82,6 +82,12 @@ pub given_capture : (reader : CaptureInput) (f : State) (gathering : Gathering) 
 given_capture reader f gathering cut from all answered wanted =
     let read : IsReadSo reader.reading.accept_cut (extent_of reader.reading) all.given gathering cut = rw (← from.limit) (answered all.given all.fed) in
     record { octets = all.given; gave = all.gave; is_read = read; wanted = wanted ∙ from.wanted }
+
+-- and this is the moment that it was read to
+pub given_moment : (reader : CaptureInput) (f : State) (moment : Option ℕ) → IsReadFrom f reader.reading reader.wanted → IsFedWhole f reader → f.fault ≡ None
+    → moment ≡ moment_read f → GaveMoment reader moment
+given_moment reader f moment from all no_fault is =
+    record { octets = all.given; gave = all.gave; capture = f; limit = from.limit; no_fault = no_fault; read = all.fed; moment_is = is }
 
 -- the octets have a fault
 pub given_fault : (reader : CaptureInput) (f : State) (fault : Fault) → IsReadFrom f reader.reading reader.wanted → IsFedWhole f reader

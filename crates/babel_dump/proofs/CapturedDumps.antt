@@ -119,7 +119,7 @@ reader_of first source = capture_with (fresh first) (last_state source) source.r
 given_whole : (first : Option (List ℕ)) (source : CaptureSource) (fed : List ℕ) → Consumes first source.left fed → IsAtEnd source.left
     → GaveWhole (reader_of first source) fed
 given_whole first source fed gave at_end = record {
-  gave = gave_known (fresh first) (last_state source) fed refl refl refl (λ none. none) gave;
+  gave = gave_known (fresh first) (last_state source) fed refl refl refl refl gave;
   all = (at_end, tt);
   met_end = omega arith;
 }
@@ -155,12 +155,12 @@ drained_refused first source dump fault drained is = elim (subst (Stands source 
   | inr (inl (of, is_of, refused)) ↦ rw is_of (λ not_memory. elim (refused not_memory) [
     | inl stops ↦ record {
       given = drained.fed;
-      gave = gave_known (fresh first) (last_state source) drained.fed refl refl refl (λ none. none) drained.gave;
+      gave = gave_known (fresh first) (last_state source) drained.fed refl refl refl refl drained.gave;
       refused = inl (rw (← drained.limit, ← drained.wanted) stops);
     }
     | inr (at_end, not_capture, short) ↦ record {
       given = drained.fed;
-      gave = gave_known (fresh first) (last_state source) drained.fed refl refl refl (λ none. none) drained.gave;
+      gave = gave_known (fresh first) (last_state source) drained.fed refl refl refl refl drained.gave;
       refused = inr (record {
         all = given_whole first source drained.fed drained.gave at_end;
         short = rw (← drained.limit, ← drained.wanted) short;

@@ -127,7 +127,7 @@ none_expired (Some factor) (Some moment) none = absurd cc
 
 all_told : (reader : Input) (contents : Contents) (octets : List ℕ) → HasContents reader.old contents → GaveAll reader octets → expired_of reader ≡ None
 all_told reader contents octets has gave =
-    none_expired reader.reading.expiry reader.new.times.moment (ap (λ (t : TimesTold). t.moment) (gave.gave.timeless has.timeless))
+    none_expired reader.reading.expiry reader.new.times.moment (gave.gave.moment contents.octets has.octets ∙ ap (λ (t : TimesTold). t.moment) has.timeless)
 
 is_dump : (reader : Input) (dump : Contents) (table : Routes) → HasContents reader.old dump → GaveDump reader table → IsDump reader.reading dump.octets table
 is_dump reader dump table has given =

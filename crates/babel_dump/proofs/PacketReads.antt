@@ -1,8 +1,8 @@
 -- A device over a capture gives one packet a read, and tells the time of its record.
 use Rattle.std.proofs.Common.{◌≡◌, ℕ, ◌+◌, ◌*◌, ◌/◌, ◌%◌, ◌<◌, ◌≤◌, List, [], ◌∷◌, ◌++◌, length, take, drop, refl, sym, ap, subst, ◌∙◌, append_assoc, append-nil, inl, inr, arith, length-append}
-use Rattle.std.proofs.Common.{Option, None, Some, Result, Ok, Err, IfSome}
-use Rattle.std.specs.Prelude.{slice_get, ◌⊎◌, fold}
-use Rattle.std.specs.List.{AllByRecursion, flat_map}
+use Rattle.std.proofs.Common.{Option, None, Some, IfSome}
+use Rattle.std.specs.Prelude.{slice_get}
+use Rattle.std.specs.List.{flat_map}
 use Rattle.std.specs.Io.KnownBytes.{Consumes, IsAtEnd}
 use Rattle.std.proofs.Math.Seq.{get_or-append_seam}
 use Rattle.std.proofs.lemmas.List.{append_cancel_left, drop_at, length-drop, length-take-le, take_at}
@@ -19,19 +19,18 @@ use Rattle.babel_capture.specs.Gathering.{AreMade, Gathering, dump_of, with_take
 use Rattle.babel_capture.specs.PacketEnds.{AreEnds}
 use Rattle.babel_capture.specs.Reading.{HasTaken}
 use Rattle.babel_capture.specs.Window.{Extent}
-use Rattle.babel_tlv.specs.Framing.{ArePackets, TlvAt, framed, packet_octets, tlv_octets}
+use Rattle.babel_tlv.specs.Framing.{framed, packet_octets, tlv_octets}
 use Rattle.babel_tlv.specs.FrameFaults.{LacksBody}
 use Rattle.babel_tlv.proofs.OneReading.{framed_one}
-use Rattle.babel_table.specs.Feeding.{IsPartial as IsPartOfPacket}
 use Rattle.babel_table.specs.Moments.{dump_of as dump_heard}
-use Rattle.babel_dump.specs.Device.{Gave, HandsOf, InputState, IsSpent}
+use Rattle.babel_dump.specs.Device.{Gave, HandsOf, InputState}
 use Rattle.babel_dump.specs.Drained.{Hands, HasHanded, HasHandedAll, Held, Stands, dump_extent, next_of, part_of, wanted_by}
-use Rattle.babel_dump.specs.Reads.{AreUncut, GavePacket, GavePacketOf, GaveReads, HasGivenPacket, IsBetween, IsUncut, end_of, ends_in}
-use Rattle.babel_dump.specs.Records.{AreRecords, AreTimed, ReadsAreRecords, TableIsOfRecords, packet_in, packets_in}
+use Rattle.babel_dump.specs.Reads.{AreUncut, GavePacket, GavePacketIn, GaveReads, HasGivenPacket, IsBetween, IsUncut, end_of, ends_in}
+use Rattle.babel_dump.specs.Records.{AreTimed, ReadsAreRecords, TableIsOfRecords, packet_in, packets_in}
 use Rattle.babel_dump.specs.declared.reading.Reading.{Reading}
 use Rattle.babel_dump.proofs.Devices.{gave_more}
 use Rattle.babel_dump.proofs.Drains.{all_given}
-use Rattle.babel_dump.proofs.RecordLaws.{AreEndsAt, AreWhole, IsPacket, Packets, all_ends, last_end, made_ends, made_octets, made_whole, none_left, octets_in, packet_len, packet_of, records_begin}
+use Rattle.babel_dump.proofs.RecordLaws.{AreEndsAt, AreWhole, IsPacket, Packets, all_ends, made_ends, made_octets, made_whole, none_left, octets_in, packet_len, packet_of, records_begin}
 use Rattle.babel_dump.proofs.RecordLaws.{same_place, whole_back}
 
 -- ---- what was handed are packets
@@ -237,10 +236,10 @@ hands_some : (held : Held) (new : Option Held) (octets : List ℕ) → HandsOf (
 hands_some held None octets hands = absurd hands
 hands_some held (Some here) octets hands = (here, refl)
 
-packet_in_reads : (old new : Option Held) (held here : Held) (time : Option ℕ) (octets : List ℕ) → old ≡ Some held → new ≡ Some here → GavePacketOf old new time octets
+packet_in_reads : (old new : Option Held) (held here : Held) (time : Option ℕ) (octets : List ℕ) → old ≡ Some held → new ≡ Some here → GavePacketIn old new time octets
     → GavePacket held here time octets
 packet_in_reads old new held here time octets is is_too gave =
-    subst (λ (h : Option Held). GavePacketOf (Some held) h time octets) is_too (subst (λ (h : Option Held). GavePacketOf h new time octets) is gave)
+    subst (λ (h : Option Held). GavePacketIn (Some held) h time octets) is_too (subst (λ (h : Option Held). GavePacketIn h new time octets) is gave)
 
 between_after : (held : Held) (time : Option ℕ) (octets : List ℕ) → HasGivenPacket held time octets → IsBetween held
 between_after held time octets given = record {
@@ -272,7 +271,7 @@ module _ (known : List ℕ) (reading : Reading) (all : Packets) (has : HasPacket
       let sound_there = hands_on.sound sound in
       let same_there = hands.reading ∙ same in
       let handed_there = hands.handed (Some known) before handed in
-      let given = packet_in_reads old.captured mid.captured held there.0 mid.times.last octets old_is there.1 packet (Some known) before handed between sound_there in (
+      let given = packet_in_reads old.captured mid.captured held there.0 mid.times.last octets old_is there.1 packet.0 (Some known) before handed between sound_there in (
         mid.times.last,
         one_read there.0 before octets mid.times.last same_there sound_there handed_there given,
         told,
@@ -307,7 +306,7 @@ are_timed all pre rest before ((time, octets) ∷ later) whole is at (told, (fro
     )
 
 -- a whole packet is not cut
-uncut : (octets : List ℕ) → IsPacket octets → IsUncut octets
+pub uncut : (octets : List ℕ) → IsPacket octets → IsUncut octets
 uncut octets (body, fits, is) at [] rest placed split (inl short) = absurd (omega (arith, ap length split, ap length is, short))
 uncut octets (body, fits, is) at [] rest placed split (inr lacks) =
     let lacks_too : LacksBody (framed body) = subst LacksBody (sym split ∙ is) lacks in

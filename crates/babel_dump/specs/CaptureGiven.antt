@@ -1,6 +1,6 @@
 -- What readers gave, as captures. No RFC speaks of readers: these are this project's own.
 use Rattle.std.specs.Prelude.{ℕ, Bool, true, false, ◌≡◌, ◌⊎◌, List, Option, None, Some}
-use Rattle.babel_capture.specs.Capture.{EndsShort, HasRead, IsRead, IsReadToCut, State}
+use Rattle.babel_capture.specs.Capture.{EndsShort, HasRead, IsRead, IsReadToCut, State, moment_read}
 use Rattle.babel_capture.specs.Gathering.{Gathering}
 use Rattle.babel_capture.specs.Reading.{Stops}
 use Rattle.babel_capture.specs.Window.{Extent}
@@ -48,6 +48,17 @@ pub record GaveCapture (reader : CaptureInput) (gathering : Gathering) (cut : Op
   pub is_read : IsReadSo reader.reading.accept_cut (extent_of reader.reading) octets
       gathering cut
   pub wanted : gathering.wanted ≡ reader.wanted
+
+-- the reader gave octets, all that it had, and this is the moment up to which a capture of them was
+-- read
+pub record GaveMoment (reader : CaptureInput) (moment : Option ℕ) : Type 0 where
+  pub octets : List ℕ
+  pub gave : GaveWhole reader octets
+  pub capture : State
+  pub limit : capture.limit ≡ extent_of reader.reading
+  pub no_fault : capture.fault ≡ None
+  pub read : HasRead capture octets
+  pub moment_is : moment ≡ moment_read capture
 
 -- the reader gave such a capture, of which no wanted datagram was left out if it is read strictly
 pub record GaveSound (reader : CaptureInput) (gathering : Gathering) (cut : Option ℕ) : Type 0 where

@@ -6,7 +6,7 @@ use Rattle.std.specs.List.{AllByRecursion, flat_map}
 use Rattle.babel_capture.specs.declared.packet_end.PacketEnd.{PacketEnd}
 use Rattle.babel_tlv.specs.Framing.{ArePackets, TlvAt, packet_octets}
 use Rattle.babel_table.specs.Feeding.{IsPartial}
-use Rattle.babel_dump.specs.Device.{Gave, InputState}
+use Rattle.babel_dump.specs.Device.{Gave, InputState, TimesTold}
 use Rattle.babel_dump.specs.Drained.{HasHanded, Held}
 
 -- ---- packets of a capture
@@ -45,26 +45,50 @@ GavePacket old new time octets =
     → new.source.capture.fault ≡ None → HasGivenPacket new time octets
 
 -- so if it reads a capture
-abbrev pub GavePacketOf : Option Held → Option Held → (time : Option ℕ) → (octets : List ℕ)
+abbrev pub GavePacketIn : Option Held → Option Held → (time : Option ℕ) → (octets : List ℕ)
     → Type 0
-GavePacketOf None new time octets = ⊤
-GavePacketOf (Some old) None time octets = ⊤
-GavePacketOf (Some old) (Some new) time octets = GavePacket old new time octets
+GavePacketIn None new time octets = ⊤
+GavePacketIn (Some old) None time octets = ⊤
+GavePacketIn (Some old) (Some new) time octets = GavePacket old new time octets
+
+-- ---- packets that a device says
+
+-- where nothing is left of one packet, those after it are next
+abbrev pub next_after : (rest : List ℕ) → (later : List (ℕ × List ℕ))
+    → Option (List (ℕ × List ℕ))
+next_after [] later = Some later
+next_after (octet ∷ rest) later = None
+
+-- the octets are the first of the packets that are next, if a packet can be as long
+abbrev pub GaveNext : Option (List (ℕ × List ℕ)) → TimesTold → (octets : List ℕ) → Type 0
+GaveNext None new octets = ⊤
+GaveNext (Some []) new octets = ⊥
+GaveNext (Some ((time, packet) ∷ later)) new octets =
+    0 < length packet → length packet ≤ 65539
+    → (octets ≡ packet) × (new.last ≡ Some time) × (new.next ≡ Some later)
+
+-- ---- of either
+
+-- these octets that it gave are one packet
+abbrev pub GavePacketOf : InputState → InputState → (octets : List ℕ) → Type 0
+GavePacketOf old new octets =
+    GavePacketIn old.captured new.captured new.times.last octets
+    × GaveNext old.times.next new.times octets
 
 -- so at a read that gave octets, and had room for the longest packet
 abbrev pub ReadsPacket : {E : Type 0} → InputState → InputState → Result ℕ E → List ℕ → Type 0
 ReadsPacket old new result buf = IfOk result (λ n. 0 < n → 65539 ≤ length buf
-    → GavePacketOf old.captured new.captured new.times.last (take n buf))
+    → GavePacketOf old new (take n buf))
 
 -- ---- reads
 
 -- Between the two the reader gave these octets, read by read, each with a time: where it told one
--- after the read, it is that. Of a capture each read gave a packet.
+-- after the read, it is that. Each read gave a packet, of a capture or where it says them.
 abbrev pub GaveReads : InputState → InputState → List (ℕ × List ℕ) → Type 0
 GaveReads old new [] = Gave old new []
 GaveReads old new ((time, octets) ∷ later) =
     (mid : InputState) × Gave old mid octets × IfSome mid.times.last (λ told. told ≡ time)
-    × GavePacketOf old.captured mid.captured mid.times.last octets × GaveReads mid new later
+    × GavePacketOf old mid octets × GaveReads mid new later
 
 -- however the octets are read as packets, less than a packet is left of none of them
 abbrev pub IsUncut : (octets : List ℕ) → Type 0

@@ -1,10 +1,15 @@
 -- That a device over a capture gives the packets of its records, one by one, with their times: this
 -- project's own. Who uses no times needs none of this page.
-use Rattle.std.specs.Prelude.{ℕ, ◌≡◌, List, [], ◌∷◌, Option, Some, IfSome, true}
+use Rattle.std.specs.Prelude.{ℕ, ◌≡◌, List, [], ◌∷◌, Option, None, Some, IfSome}
+use Rattle.std.specs.Prelude.{true}
 use Rattle.std.specs.List.{flat_map}
+use Rattle.babel_capture.specs.declared.tallies.Origin.{Origin}
 use Rattle.babel_capture.specs.declared.wanted.Wanted.{Wanted}
+use Rattle.babel_capture.specs.declared.wanted.Wanted.TheVariants as wanteds
 use Rattle.babel_capture.specs.Capture.{IsReadToCut}
 use Rattle.babel_capture.specs.Counts.{Made}
+use Rattle.babel_capture.specs.Dumps.{dump_at}
+use Rattle.babel_capture.specs.EachDump.{only}
 use Rattle.babel_capture.specs.Findings.{Found, passed, untold, left, refused, lacked, found}
 use Rattle.babel_capture.specs.Gathering.{Gathering}
 use Rattle.babel_capture.specs.Times.{Came, time_of}
@@ -14,8 +19,10 @@ use Rattle.babel_table.specs.Rows.{Routes}
 use Rattle.babel_dump.specs.declared.input.Expired.{Expired}
 use Rattle.babel_dump.specs.Device.{InputState, IsSpent}
 use Rattle.babel_dump.specs.Drained.{HasHanded, Held, dump_extent, wanted_by}
-use Rattle.babel_dump.specs.Given.{Input, IsTableThen}
+use Rattle.babel_dump.specs.Given.{GaveTable, Input, IsTableThen, expired_of}
 use Rattle.babel_dump.specs.Reads.{AreUncut, GaveReads, IsBetween}
+use Rattle.babel_dump.specs.SenderKeys.{ReadsPackets}
+use Rattle.babel_dump.specs.declared.sender_keys.SenderKeys.{SenderKeys}
 
 -- a packet that was found in a record, and the time of that, if it has one
 abbrev pub packet_in : Came → Found → List (Option ℕ × List ℕ)
@@ -72,3 +79,18 @@ TableIsOfRecords =
     × AreRecords (dump_extent held.source.reading) (wanted_by held.source.reading) known given
     × IsTableAt reader.reading.limits reader.reading.mode reader.reading.sender given
     at.factor at.moment table
+
+-- And the table at a moment of a sender at its place, of a capture that was read for the dump of
+-- each, is that of its own packets and times, as if it alone had been asked for.
+abbrev pub SenderTableIsOfRecords : Type 0
+SenderTableIsOfRecords =
+    (limit : Extent) (octets : List ℕ) (all : Gathering) (cut : Option ℕ) (keys : SenderKeys)
+    (origin : Origin) (packets : List (ℕ × List ℕ)) (moment : Option ℕ) (reader : Input)
+    (at : Expired) (table : Routes)
+    → IsReadToCut limit octets all cut → all.wanted ≡ wanteds.Each
+    → dump_at all.dumps origin ≡ record { packets = packets; lack = None }
+    → ReadsPackets keys origin packets moment reader → GaveTable reader table
+    → expired_of reader ≡ Some at
+    → (keys.expiry ≡ Some at.factor) × (moment ≡ Some at.moment)
+    × AreRecords limit (only origin) octets packets
+    × IsTableAt keys.limits keys.mode origin.sender packets at.factor at.moment table

@@ -3,24 +3,25 @@ use Rattle.std.specs.Prelude.{◌≡◌, ◌⊎◌, ℕ, Bool, true, List, ◌++
 use Rattle.std.specs.Prelude.{None, Some}
 use Rattle.std.specs.Ordering.{is_eq}
 use Rattle.babel_capture.specs.Dumps.{dump_at}
-use Rattle.babel_capture.specs.Gathering.{Gathering}
 use Rattle.babel_capture.specs.Lack.{lack_reason}
 use Rattle.babel_capture.specs.Tallies.{place_cmp}
 use Rattle.babel_capture.specs.declared.dumps.LackAt.{LackAt}
 use Rattle.babel_capture.specs.declared.place.Place.{Place}
 use Rattle.babel_capture.specs.declared.tallies.Origin.{Origin}
 use Rattle.babel_tlv.specs.declared.view.View.{View}
+use Rattle.babel_table.specs.Moments.{dump_of}
 use Rattle.babel_table.specs.Rows.{Routes}
 use Rattle.babel_capture.specs.declared.wanted.Wanted.TheVariants as wanteds
 use Rattle.babel_dump.specs.CaptureGiven.{CaptureInput, capture_from}
 use Rattle.babel_dump.specs.Command.{WritesKey}
-use Rattle.babel_dump.specs.Device.{InputState, fresh}
+use Rattle.babel_dump.specs.Device.{InputState, fresh, told_of}
 use Rattle.babel_dump.specs.DiffText.{place_text}
 use Rattle.babel_dump.specs.Drained.{capture_limit}
 use Rattle.babel_dump.specs.Files.{name_of}
 use Rattle.babel_dump.specs.Given.{GaveTable, Input, IsFaultOfOctets}
 use Rattle.babel_dump.specs.Run.{InputCause}
 use Rattle.babel_dump.specs.Spelling.{address_text}
+use Rattle.babel_dump.specs.declared.capture_input.CaptureRead.{CaptureRead}
 use Rattle.babel_dump.specs.declared.capture_reading.CaptureReading.{CaptureReading}
 use Rattle.babel_dump.specs.declared.input_fault.InputFault.{InputFault}
 use Rattle.babel_dump.specs.declared.input_fault.InputFault.TheVariants as input_faults
@@ -77,41 +78,47 @@ pub record MakesKey (reader : Input) (view : View) (routes : Bool) (name : List 
   pub gave : GaveTable reader table
   pub rows_is : key.rows ≡ length table.rows
 
--- a reader that has this dump and nothing else, whatever it tells of times
-abbrev pub HasDump : InputState → (dump : List ℕ) → Type 0
-HasDump state dump = state ≡ record (fresh (Some dump)) { times = state.times }
+-- a reader that has these packets and nothing else, and tells when each came; they were read up to
+-- this moment
+abbrev pub HasPackets : InputState → (packets : List (ℕ × List ℕ)) → (moment : Option ℕ) → Type 0
+HasPackets state packets moment =
+    state ≡ record (fresh (Some (dump_of packets)))
+    { times = record (told_of None moment) { next = Some packets } }
 
--- a reader of this dump, which is that of a sender at its place, and nothing else
-pub record ReadsDump (keys : SenderKeys) (origin : Origin) (dump : List ℕ) (reader : Input) :
-    Type 0 where
+-- a reader of these packets, which are those of a sender at its place
+pub record ReadsPackets (keys : SenderKeys) (origin : Origin) (packets : List (ℕ × List ℕ))
+    (moment : Option ℕ) (reader : Input) : Type 0 where
   pub reading : reader.reading ≡ read_by keys origin
-  pub has : HasDump reader.old dump
+  pub has : HasPackets reader.old packets moment
 
--- the key of such a dump
-abbrev pub IsKeyOfDump : SenderKeys → Origin → (dump : List ℕ) → MadeKey → Type 0
-IsKeyOfDump keys origin dump key =
-    (reader : Input) × ReadsDump keys origin dump reader
+-- the key of such packets
+abbrev pub IsKeyOfPackets : SenderKeys → Origin → (packets : List (ℕ × List ℕ))
+    → (moment : Option ℕ) → MadeKey → Type 0
+IsKeyOfPackets keys origin packets moment key =
+    (reader : Input) × ReadsPackets keys origin packets moment reader
     × MakesKey reader keys.view keys.routes (sender_name (name_of keys.file) origin) key
 
--- or why it has none
-abbrev pub NoKeyOfDump : SenderKeys → Origin → (dump : List ℕ) → InputFault → Type 0
-NoKeyOfDump keys origin dump fault =
-    (reader : Input) × ReadsDump keys origin dump reader
+-- or why they have none
+abbrev pub NoKeyOfPackets : SenderKeys → Origin → (packets : List (ℕ × List ℕ))
+    → (moment : Option ℕ) → InputFault → Type 0
+NoKeyOfPackets keys origin packets moment fault =
+    (reader : Input) × ReadsPackets keys origin packets moment reader
     × InputCause reader (IsFaultOfOctets keys.routes reader keys.view) fault
 
--- the key of a sender at its place in a capture: that of its dump, which lacks nothing
-abbrev pub IsSenderKey : SenderKeys → Gathering → Origin → MadeKey → Type 0
-IsSenderKey keys gathering origin key =
-    (dump : List ℕ)
-    × (dump_at gathering.dumps origin ≡ record { octets = dump; lack = None })
-    × IsKeyOfDump keys origin dump key
+-- the key of a sender at its place in a capture: that of its packets, of which none is lacking, up
+-- to the moment up to which the capture was read
+abbrev pub IsSenderKey : SenderKeys → CaptureRead → Origin → MadeKey → Type 0
+IsSenderKey keys read origin key =
+    (packets : List (ℕ × List ℕ))
+    × (dump_at read.gathered.dumps origin ≡ record { packets = packets; lack = None })
+    × IsKeyOfPackets keys origin packets read.moment key
 
 -- or why it has none: its dump lacks something, or is refused
-abbrev pub NoSenderKey : SenderKeys → Gathering → Origin → InputFault → Type 0
-NoSenderKey keys gathering origin fault =
-    ((at : LackAt) × ((dump_at gathering.dumps origin).lack ≡ Some at)
+abbrev pub NoSenderKey : SenderKeys → CaptureRead → Origin → InputFault → Type 0
+NoSenderKey keys read origin fault =
+    ((at : LackAt) × ((dump_at read.gathered.dumps origin).lack ≡ Some at)
     × (fault ≡ input_faults.LeftOut
     (record { packet = at.packet; reason = lack_reason at.lack })))
-    ⊎ ((dump : List ℕ)
-    × (dump_at gathering.dumps origin ≡ record { octets = dump; lack = None })
-    × NoKeyOfDump keys origin dump fault)
+    ⊎ ((packets : List (ℕ × List ℕ))
+    × (dump_at read.gathered.dumps origin ≡ record { packets = packets; lack = None })
+    × NoKeyOfPackets keys origin packets read.moment fault)

@@ -1,8 +1,8 @@
 //! What a reader gives, as a capture.
 ghost use Rattle.std.specs.Prelude.{◌≡◌, ◌≢◌, ℕ, true, List, [], None, IfOk, IfErr, OnOk};
-ghost use Rattle.babel_capture.specs.Capture.{CaptureFault, HasRead};
-ghost use Rattle.babel_dump.specs.CaptureGiven.{extent_of, GaveCapture, GaveSound, IsFedWhole};
-ghost use Rattle.babel_dump.specs.CaptureGiven.{IsReadSo, capture_from};
+ghost use Rattle.babel_capture.specs.Capture.{CaptureFault, HasRead, moment_read};
+ghost use Rattle.babel_dump.specs.CaptureGiven.{GaveCapture, GaveMoment, GaveSound, IsFedWhole};
+ghost use Rattle.babel_dump.specs.CaptureGiven.{IsReadSo, capture_from, extent_of};
 ghost use Rattle.babel_dump.specs.CaptureRun.{CaptureCause, IsNoFault, capture_calls};
 ghost use Rattle.babel_dump.specs.Device.{HasRoomToCount};
 ghost use Rattle.babel_dump.specs.Parts.{Gathered};
@@ -41,7 +41,7 @@ pub(crate) fn read_capture<R: ByteIn>(
     requires { HasRoomToCount (R.state reader.old) }
     ensures { let input = capture_from (R.state reader.old) (R.state reader.new) reading wanted in
         Gathered (capture_calls input) (CaptureCause input IsNoFault)
-        (λ read. GaveSound input read.gathered read.cut) result }
+        (λ read. GaveSound input read.gathered read.cut × GaveMoment input read.moment) result }
 {
     let strict = reading.strict;
     let read = read_whole(alloc, reading, wanted, reader)?;
@@ -63,7 +63,8 @@ fn read_whole<R: ByteIn>(
     requires { HasRoomToCount (R.state reader.old) }
     ensures { let input = capture_from (R.state reader.old) (R.state reader.new) reading wanted in
         Gathered (capture_calls input) (CaptureCause input IsNoFault)
-        (λ read. GaveCapture input read.gathered read.cut) result }
+        (λ read. GaveCapture input read.gathered read.cut × GaveMoment input read.moment)
+        result }
 {
     let CaptureReading {
         limit,
@@ -83,6 +84,7 @@ fn finished(capture: Capture, accept_cut: bool) -> Result<CaptureRead, Fault>
         → IsReadSo accept_cut capture.limit fed read.gathered read.cut) }
     ensures wanted { IfOk result (λ read. read.gathered.wanted
         ≡ capture.progress.gathering.wanted) }
+    ensures moment { IfOk result (λ read. read.moment ≡ moment_read capture) }
     ensures fault { IfErr result (λ fault. fault ≢ Fault.Memory → (fed : List ℕ)
         → HasRead capture fed
         → CaptureFault capture.limit capture.progress.gathering.wanted fed fault) }

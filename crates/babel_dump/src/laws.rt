@@ -6,7 +6,8 @@ ghost use Rattle.babel_dump.specs.FirstLeftOut.{NoneIsLeftOut, RefusedIsFirst};
 ghost use Rattle.babel_dump.specs.OneOutcome.{FaultIsOfAll, FaultIsOne, NamedIsNotSeveral};
 ghost use Rattle.babel_dump.specs.OneOutcome.{NothingWritten, OutcomeIsOne, OutcomeOrFault};
 ghost use Rattle.babel_dump.specs.OneOutcome.{WrittenIsPrefix};
-ghost use Rattle.babel_dump.specs.Records.{ReadsAreRecords, TableIsOfRecords};
+ghost use Rattle.babel_dump.specs.Records.{ReadsAreRecords, SenderTableIsOfRecords};
+ghost use Rattle.babel_dump.specs.Records.{TableIsOfRecords};
 
 /// What a job's run over devices that say their octets answers, failed calls and running out of
 /// memory aside, is settled by the octets of its readers: one outcome and one text, or one fault.
@@ -64,8 +65,10 @@ pub fn handed_is_dump()
 
 /// What a run was given, read by read, by a device over a capture, to its end, are the packets of
 /// the capture's records, each with the time of its record: no read cut a packet. So the table at a
-/// moment is that of these packets and times.
+/// moment is that of these packets and times. And the table of a sender in a capture that was read
+/// for the dump of each is that of its own packets and times.
 pub fn reads_are_records()
     ensures reads { ReadsAreRecords }
     ensures table { TableIsOfRecords }
+    ensures sender_table { SenderTableIsOfRecords }
 {}

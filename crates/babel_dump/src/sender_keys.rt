@@ -2,11 +2,13 @@
 ghost use Rattle.std.specs.Prelude.{◌≡◌, ◌+◌, ◌-◌, ◌^◌, ◌<◌, ◌≤◌, IfErr, IfNone, IfOk, IfSome};
 ghost use Rattle.std.specs.Prelude.{filter};
 ghost use Rattle.std.specs.Map.{keys_of};
-ghost use Rattle.babel_dump.specs.CaptureGiven.{GaveSound};
+ghost use Rattle.babel_capture.specs.Dumps.{timed_of};
+ghost use Rattle.babel_dump.specs.CaptureGiven.{GaveMoment, GaveSound};
 ghost use Rattle.babel_dump.specs.CaptureRun.{CaptureCause, IsNoFault, capture_calls};
 ghost use Rattle.babel_dump.specs.Device.{HasRoomToCount};
 ghost use Rattle.babel_dump.specs.Run.{Called, output};
-ghost use Rattle.babel_dump.specs.SenderKeys.{IsKeyOfDump, IsSenderKey, NoKeyOfDump, NoSenderKey};
+ghost use Rattle.babel_dump.specs.SenderKeys.{IsKeyOfPackets, IsSenderKey};
+ghost use Rattle.babel_dump.specs.SenderKeys.{NoKeyOfPackets, NoSenderKey};
 ghost use Rattle.babel_dump.specs.SenderKeys.{capture_read_by, each_from, is_asked, read_by};
 ghost use Rattle.babel_dump.specs.SenderKeys.{sender_name};
 ghost use Rattle.babel_dump.specs.Slices.{WroteText};
@@ -29,7 +31,7 @@ use crate::seeded::Seeded;
 use crate::spelling::Spelling;
 use crate::timed_dump::TimedDump;
 use crate::write::write_text;
-use babel_capture::{Gathered, Origin, Place, Wanted, Window};
+use babel_capture::{Gathered, Origin, Place, TimedPacket, Wanted, Window};
 use babel_table::Limits;
 use babel_tlv::{Mode, View};
 use std::alloc::{AllocError, Global};
@@ -99,6 +101,8 @@ impl SenderKeys {
         requires { HasRoomToCount (R.state reader.old) }
         ensures ok { IfOk result (λ read. GaveSound
             (each_from self.now (R.state reader.old) (R.state reader.new)) read.gathered read.cut) }
+        ensures moment { IfOk result (λ read. GaveMoment
+            (each_from self.now (R.state reader.old) (R.state reader.new)) read.moment) }
         ensures cause { IfErr result (CaptureCause
             (each_from self.now (R.state reader.old) (R.state reader.new)) IsNoFault) }
         ensures called { Called (capture_calls
@@ -132,11 +136,11 @@ impl SenderKeys {
         origin: Origin,
         seed: u128,
     ) -> Result<MadeKey, InputFault>
-        ensures ok { IfOk result (IsSenderKey self.now read.now.gathered origin) }
-        ensures err { IfErr result (NoSenderKey self.now read.now.gathered origin) }
+        ensures ok { IfOk result (IsSenderKey self.now read.now origin) }
+        ensures err { IfErr result (NoSenderKey self.now read.now origin) }
     {
-        match read.gathered.dump_of(&origin) {
-            Ok(dump) => self.key_of_dump(alloc, read, origin, dump, seed),
+        match read.gathered.packets_of(&origin) {
+            Ok(packets) => self.key_of_packets(alloc, origin, packets, read.moment, seed),
             Err(at) => Err(InputFault::LeftOut(LeftOutDatagram {
                 packet: at.packet,
                 reason: at.lack.reason(),
@@ -144,20 +148,21 @@ impl SenderKeys {
         }
     }
 
-    /// The key of this dump, which is that of a sender at its place in the capture.
-    fn key_of_dump(
+    /// The key of these packets, which are those of a sender at its place in the capture; they were
+    /// read up to this moment.
+    fn key_of_packets(
         &self,
         alloc: Global,
-        read: &CaptureRead,
         origin: Origin,
-        dump: &[u8],
+        packets: &[TimedPacket],
+        moment: Option<u128>,
         seed: u128,
     ) -> Result<MadeKey, InputFault>
-        ensures ok { IfOk result (IsKeyOfDump self.now origin dump.now) }
-        ensures err { IfErr result (NoKeyOfDump self.now origin dump.now) }
+        ensures ok { IfOk result (IsKeyOfPackets self.now origin (timed_of packets.now) moment) }
+        ensures err { IfErr result (NoKeyOfPackets self.now origin (timed_of packets.now) moment) }
     {
         let name = sender_name(alloc, self.file.name(), Origin { ..origin })?;
-        let device = TimedDump::new(dump, read.gathered.times_of(&origin), read.moment);
+        let device = TimedDump::new(packets, moment);
         let mut reader = Seeded::new(device, seed);
         let key = make_key(
             alloc,

@@ -1,26 +1,23 @@
 //! The dump of a sender in a capture that was read for the dump of each.
-ghost use Rattle.std.specs.Prelude.{◌≡◌, ◌≤◌, [], None, Some, length};
-ghost use Rattle.babel_dump.specs.Device.{fresh, told_of};
+ghost use Rattle.std.specs.Prelude.{◌≡◌, ◌<◌, ◌∷◌, ◌++◌, ℕ, List, [], None, Some, length};
+ghost use Rattle.babel_capture.specs.Dumps.{timed_of};
+ghost use Rattle.babel_table.specs.Moments.{dump_of};
+ghost use Rattle.babel_dump.specs.SenderKeys.{HasPackets};
 
 use crate::byte_in::ByteIn;
 use crate::left_out::LeftOutDatagram;
-use babel_capture::Time;
+use babel_capture::{Time, TimedPacket};
 use std::io;
-
-/// A packet's header: RFC 8966, 4.2.
-const HEADER: usize = 4;
 
 /// A device that gives packets, one a read, and tells when each came.
 #[derive(Drop)]
 pub(crate) struct TimedDump<'a> {
-    /// The octets that are left.
-    octets: &'a [u8],
-    /// How many of them belong to the packet whose octets were given last.
-    rest: usize,
-    /// When the packets came that are left.
-    times: &'a [Time],
-    /// When the one came whose octets were given last.
+    /// What is left of the packet whose octets were given last.
+    rest: &'a [u8],
+    /// When that came.
     time: Option<Time>,
+    /// The packets after it.
+    later: &'a [TimedPacket],
     /// The moment up to which packets were read, if each has a time.
     moment: Option<u128>,
     /// How many rows of the dump's table were not announced again in time.
@@ -30,16 +27,15 @@ pub(crate) struct TimedDump<'a> {
 }
 
 impl<'a> TimedDump<'a> {
-    /// The packets of this dump, which came then; they were read up to this moment.
-    pub(crate) fn new(dump: &'a [u8], times: &'a [Time], moment: Option<u128>) -> TimedDump<'a>
-        ensures { ⟦<TimedDump<'a> as ByteIn>⟧.state result
-            ≡ record (fresh (Some dump.now)) { times = told_of None moment } }
+    /// These packets, which were read up to this moment.
+    pub(crate) fn new(packets: &'a [TimedPacket], moment: Option<u128>) -> TimedDump<'a>
+        ensures { HasPackets (⟦<TimedDump<'a> as ByteIn>⟧.state result) (timed_of packets.now)
+            moment }
     {
         TimedDump {
-            octets: dump,
-            rest: 0,
-            times,
+            rest: &[],
             time: None,
+            later: packets,
             moment,
             passed: 0,
             reads: 0,
@@ -52,31 +48,44 @@ impl<'a> TimedDump<'a> {
         self.passed
     }
 
-    /// Goes on to the next packet, if none of the one is left whose octets were given last.
+    /// Goes on to the next packet with octets, if none is left of the one whose octets were given
+    /// last.
     fn begin_packet(&mut self)
-        ensures same { (self.new.octets ≡ self.old.octets) × (self.new.moment ≡ self.old.moment)
-            × (self.new.reads ≡ self.old.reads) × (self.new.ends ≡ self.old.ends) }
-        ensures rest { self.new.rest ≡ 0 → self.new.octets.now ≡ [] }
+        ensures same { (self.new.moment ≡ self.old.moment) × (self.new.reads ≡ self.old.reads)
+            × (self.new.ends ≡ self.old.ends) }
+        ensures left { self.new.rest.now ++ dump_of (timed_of self.new.later.now)
+            ≡ self.old.rest.now ++ dump_of (timed_of self.old.later.now) }
+        ensures all { self.new.rest.now ≡ [] → timed_of self.new.later.now ≡ [] }
+        ensures next { self.old.rest.now ≡ []
+            → (time : ℕ) (packet : List ℕ) (later : List (ℕ × List ℕ)) → 0 < length packet
+            → timed_of self.old.later.now ≡ (time, packet) ∷ later
+            → (self.new.rest.now ≡ packet) × (self.new.time ≡ Some time)
+            × (timed_of self.new.later.now ≡ later) }
     {
-        if self.rest > 0 {
-            return;
-        }
-        self.rest = packet_len(self.octets);
-        if let Some((time, later)) = self.times.split_first() {
-            self.time = Some(*time);
-            self.times = later;
+        while self.rest.is_empty() {
+            let Some((packet, later)) = self.later.split_first() else {
+                return;
+            };
+            self.rest = &packet.octets;
+            self.time = Some(packet.time);
+            self.later = later;
         }
     }
 }
 
 impl<'a> ByteIn for TimedDump<'a> {
+    ghost use Rattle.babel_capture.specs.Dumps.{timed_of};
+    ghost use Rattle.babel_table.specs.Moments.{dump_of};
     ghost use Rattle.babel_dump.specs.Device.{told_of};
+    ghost use Rattle.babel_dump.specs.Reads.{next_after};
 
     ghost state = { λ d. record {
-      left = Some d.octets.now;
+      left = Some (d.rest.now ++ dump_of (timed_of d.later.now));
       captured = None;
       left_out = None;
-      times = told_of d.time d.moment;
+      times = record (told_of d.time d.moment) {
+        next = next_after d.rest.now (timed_of d.later.now);
+      };
       failures = 0;
       reads = d.reads;
       ends = d.ends;
@@ -85,11 +94,10 @@ impl<'a> ByteIn for TimedDump<'a> {
     fn read(&mut self, buf: &mut [u8]) -> io::Result<usize> {
         self.reads += 1;
         self.begin_packet();
-        let len = self.rest.min(self.octets.len()).min(buf.len());
-        let (packet, later) = self.octets.split_at(len);
-        buf[..len].copy_from_slice(packet);
-        self.octets = later;
-        self.rest -= len;
+        let len = self.rest.len().min(buf.len());
+        let (octets, rest) = self.rest.split_at(len);
+        buf[..len].copy_from_slice(octets);
+        self.rest = rest;
         if len == 0 && !buf.is_empty() {
             self.ends += 1;
         }
@@ -115,16 +123,4 @@ impl<'a> ByteIn for TimedDump<'a> {
     fn keep_passed(&mut self, passed: usize) {
         self.passed = passed;
     }
-}
-
-/// How many octets the packet has that these begin with: all, if they are less than a packet.
-fn packet_len(octets: &[u8]) -> usize
-    ensures fits { result ≤ length octets.now }
-    ensures some { result ≡ 0 → octets.now ≡ [] }
-{
-    if octets.len() < HEADER {
-        return octets.len();
-    }
-    let body = u16::from_be_bytes([octets[2], octets[3]]) as usize;
-    octets.len().min(HEADER + body)
 }

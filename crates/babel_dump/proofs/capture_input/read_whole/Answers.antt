@@ -1,14 +1,16 @@
 -- What was fed is the whole of what the reader gave.
 use Rattle.std.proofs.Common.{rules}
 use Rattle.std.proofs.lemmas.Result.{err_from_is_err_and}
-use Rattle.babel_dump.proofs.CaptureFeeding.{given_capture, given_fault}
+use Rattle.babel_dump.proofs.CaptureFeeding.{given_capture, given_fault, given_moment}
 use Rattle.babel_dump.proofs.capture_input.read_whole.Goals as goal
 
 pub returns : goal.returns
 returns g c =
     let fed = c.in_ok-feed_all.ensures in record {
-      made = rw (← c.within-capture.ensures.made.1)
-          (given_capture _ c.feed_all.new.capture _ _ (record { limit = fed.limit; wanted = fed.wanted }) fed.gathered.made c.in_ok-read.ensures.read c.in_ok-read.ensures.wanted);
+      made = rw (← c.within-capture.ensures.made.1) (
+        given_capture _ c.feed_all.new.capture _ _ (record { limit = fed.limit; wanted = fed.wanted }) fed.gathered.made c.in_ok-read.ensures.read c.in_ok-read.ensures.wanted,
+        given_moment _ c.feed_all.new.capture _ (record { limit = fed.limit; wanted = fed.wanted }) fed.gathered.made fed.sound c.in_ok-read.ensures.moment,
+      );
       cause = search rules;
       called = search rules;
     }

@@ -16,7 +16,7 @@ returns g c = record {
   made = record {
     gathering = c.in_ok-read.read.gathered;
     cut = c.in_ok-read.read.cut;
-    gave = c.in_ok-read.ensures.made;
+    gave = c.in_ok-read.ensures.made.0;
     one_place = subst (λ (senders : Senders). length senders ≤ 1) c.senders.ensures (few _ _ c.are_several.ensures c.if-are_several.false);
     text_is = search rules;
     outcome_is = search rules;
@@ -31,7 +31,7 @@ returns-then-are_several g c = record {
   cause = rw c.from.ensures (record {
     gathering = c.in_ok-read.read.gathered;
     cut = c.in_ok-read.read.cut;
-    gave = c.in_ok-read.ensures.made;
+    gave = c.in_ok-read.ensures.made.0;
     several = subst (λ (senders : Senders). 2 ≤ length senders) c.senders.ensures (many _ _ c.are_several.ensures c.if-are_several.true);
     are = c.in_ok-interfaces.ensures ∙ ap places_of c.senders-then-are_several.ensures;
   });

@@ -9,7 +9,7 @@ returns g c =
       made = record {
         gathering = c.in_ok-read.read.gathered;
         cut = c.in_ok-read.read.cut;
-        gave = c.in_ok-read.ensures.made;
+        gave = c.in_ok-read.ensures.made.0;
         text_is = c.in_ok-rows.ensures.text ∙ ap (λ (after : List ℕ). lines ++ after) c.new.ensures.items ∙ append-nil lines;
         outcome_is = search rules;
       };
