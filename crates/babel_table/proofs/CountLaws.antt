@@ -1,9 +1,10 @@
 -- The counts of sayings and one more.
-use Rattle.std.proofs.Common.{◌≡◌, ℕ, ◌+◌, Bool, true, false, cond, List, [], ◌∷◌, ◌++◌, length, map, Option, Some, None, refl, ap, ◌∙◌, arith}
+use Rattle.std.proofs.Common.{◌≡◌, ℕ, ◌+◌, Bool, true, false, ◌||◌, cond, List, [], ◌∷◌, ◌++◌, length, map, Option, Some, None, refl, ap, ◌∙◌, arith}
 use Rattle.std.specs.Prelude.{Ok, count_by}
-use Rattle.std.specs.List.{find}
+use Rattle.std.specs.List.{find, list_any}
 use Rattle.std.specs.Option.{option_map, option_or}
-use Rattle.std.proofs.lemmas.List.Folds.{find-append}
+use Rattle.std.proofs.lemmas.List.Folds.{find-append, list_any-append}
+use Rattle.std.proofs.Math.Bool.{or-false}
 use Rattle.std.proofs.lemmas.List.{length-append}
 use Rattle.babel_prefix.proofs.Counted.{count-none, count-push}
 use Rattle.babel_tlv.specs.declared.event.Event.{Event}
@@ -12,7 +13,7 @@ use Rattle.babel_tlv.specs.declared.reason.Reason.{Reason}
 use Rattle.babel_tlv.specs.declared.reason.Reason.TheVariants as reasons
 use Rattle.babel_tlv.specs.Framing.{TlvAt}
 use Rattle.babel_tlv.specs.Says.{Saying}
-use Rattle.babel_table.specs.Counts.{Counts, all_reasons, is_ignored_for, is_update, ignored_in, counts_of}
+use Rattle.babel_table.specs.Counts.{Counts, all_reasons, is_ignored_for, is_update, is_unread_4, ignored_in, counts_of}
 use Rattle.babel_table.specs.Counting.{one_more, ignored_with, counted_with}
 use Rattle.babel_table.specs.Feeding.{event_at}
 
@@ -67,8 +68,14 @@ by_event f at events.RetractAll = refl
 by_event f at events.Nothing = refl
 by_event f at (events.Ignored reason) = set_one f at reason
 
-abbrev counts : ℕ → ℕ → List Count → Counts
-counts tlvs updates ignored = record { tlvs = tlvs; updates = updates; ignored = ignored }
+abbrev counts : ℕ → ℕ → Bool → List Count → Counts
+counts tlvs updates ignores_4 ignored = record { tlvs = tlvs; updates = updates; ignores_4 = ignores_4; ignored = ignored }
+
+abbrev is_4 : Saying → Bool
+is_4 saying = is_unread_4 saying.kind saying.body saying.what
+
+any-push : (said : List Saying) (s : Saying) → list_any is_4 (said ++ s ∷ []) ≡ (list_any is_4 said || is_4 s)
+any-push said s = list_any-append is_4 said (s ∷ []) ∙ ap (λ (b : Bool). list_any is_4 said || b) (or-false (is_4 s))
 
 pub counts-push : (said : List Saying) (tlv : TlvAt) (event : Event) → counts_of (said ++ event_at tlv event ∷ []) ≡ counted_with (counts_of said) tlv event
 counts-push said tlv event =
@@ -79,6 +86,7 @@ counts-push said tlv event =
     let each : map (ignored_in all) all_reasons ≡ ignored_with (map (ignored_in said) all_reasons) event tlv.at =
     map-same (ignored_in all) (λ r. bumped (is_ignored_for r (Ok event)) tlv.at (ignored_in said r)) (λ r. ignored-push r said one) all_reasons
     ∙ by_event (ignored_in said) tlv.at event in
-    ap (λ (n : ℕ). counts n (count_by is_update all) (map (ignored_in all) all_reasons)) more
-    ∙ ap (λ (n : ℕ). counts (length said + 1) n (map (ignored_in all) all_reasons)) updates
-    ∙ ap (λ (t : List Count). counts (length said + 1) (count_by is_update said + cond (is_update one) 1 0) t) each
+    ap (λ (n : ℕ). counts n (count_by is_update all) (list_any is_4 all) (map (ignored_in all) all_reasons)) more
+    ∙ ap (λ (n : ℕ). counts (length said + 1) n (list_any is_4 all) (map (ignored_in all) all_reasons)) updates
+    ∙ ap (λ (b : Bool). counts (length said + 1) (count_by is_update said + cond (is_update one) 1 0) b (map (ignored_in all) all_reasons)) (any-push said one)
+    ∙ ap (λ (t : List Count). counts (length said + 1) (count_by is_update said + cond (is_update one) 1 0) (list_any is_4 said || is_4 one) t) each

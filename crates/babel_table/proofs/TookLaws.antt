@@ -39,7 +39,7 @@ module _ (mode : Mode) (entries : ℕ) (start : Start) (old : Routes) (all : Lis
   here_said context tlv some event is e = subst (λ (c : Context). said c tlv ≡ Ok event) is e
 
   abbrev what : TlvAt → Result Event Fault → Saying
-  what tlv r = record { at = tlv.at; kind = tlv.kind; what = r }
+  what tlv r = record { at = tlv.at; kind = tlv.kind; body = tlv.body; what = r }
 
   pub took-next : (now next : Routes) (context after : Context) (tlv : TlvAt) (left : List TlvAt) (event : Event) → TookSome mode entries start old all now context (tlv ∷ left)
       → said context tlv ≡ Ok event → ((earlier : List TlvAt) → context ≡ context_after start earlier → after ≡ context_after start (tlv ∷ earlier))

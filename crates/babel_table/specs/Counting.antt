@@ -1,9 +1,10 @@
 -- The counts of TLVs, one more at a time.
-use Rattle.std.specs.Prelude.{ℕ, ◌+◌, ◌==◌, if◌then◌else◌, List, slice_set, Option, None, Some}
+use Rattle.std.specs.Prelude.{ℕ, ◌+◌, ◌==◌, ◌||◌, if◌then◌else◌, List, slice_set}
+use Rattle.std.specs.Prelude.{Option, None, Some, Ok}
 use Rattle.babel_tlv.specs.declared.event.Event.{Event}
 use Rattle.babel_tlv.specs.declared.event.Event.TheVariants as events
 use Rattle.babel_tlv.specs.Framing.{TlvAt}
-use Rattle.babel_table.specs.Counts.{Counts, reason_place, count_at}
+use Rattle.babel_table.specs.Counts.{Counts, reason_place, count_at, is_unread_4}
 
 -- one more ignored TLV at this offset
 abbrev pub one_more : ℕ → Option (ℕ × ℕ) → Option (ℕ × ℕ)
@@ -24,5 +25,6 @@ abbrev pub counted_with : Counts → TlvAt → Event → Counts
 counted_with counts tlv event = record {
   tlvs = counts.tlvs + 1;
   updates = counts.updates + (if tlv.kind == 8 then 1 else 0);
+  ignores_4 = counts.ignores_4 || is_unread_4 tlv.kind tlv.body (Ok event);
   ignored = ignored_with counts.ignored event tlv.at;
 }

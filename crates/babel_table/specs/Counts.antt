@@ -1,8 +1,8 @@
 -- What a report says of the TLVs of a dump (RFC 8966, 4.3). It is this project's own: it counts
 -- what RFC 8966, 4.4 to 4.6, and RFC 9079, 5 have a reader ignore.
-use Rattle.std.specs.Prelude.{ℕ, Bool, false, ◌==◌, List, [], ◌∷◌, length, map}
+use Rattle.std.specs.Prelude.{ℕ, Bool, false, ◌==◌, ◌&&◌, List, [], ◌∷◌, length, map}
 use Rattle.std.specs.Prelude.{Option, Result, Ok, slice_get, count_by}
-use Rattle.std.specs.List.{find}
+use Rattle.std.specs.List.{find, list_any}
 use Rattle.std.specs.Option.{option_map, option_flatten}
 use Rattle.babel_tlv.specs.declared.reason.Reason.{Reason}
 use Rattle.babel_tlv.specs.declared.reason.Reason.TheVariants as reasons
@@ -11,11 +11,13 @@ use Rattle.babel_tlv.specs.declared.event.Event.TheVariants as events
 use Rattle.babel_tlv.specs.declared.fault.Fault.{Fault}
 use Rattle.babel_tlv.specs.Says.{Saying}
 
--- how many TLVs there are, how many of them are Updates, and for each reason, in the order of the
--- reasons, how many were ignored for it and where the first lies
+-- how many TLVs there are, how many of them are Updates, whether one of these was ignored because
+-- its encoding is 4 (RFC 9229), and for each reason, in the order of the reasons, how many were
+-- ignored for it and where the first lies
 pub record Counts : Type 0 where
   pub tlvs : ℕ
   pub updates : ℕ
+  pub ignores_4 : Bool
   pub ignored : List (Option (ℕ × ℕ))
 
 -- the place of a reason in their order
@@ -63,9 +65,21 @@ ignored_in sayings reason =
 abbrev pub is_update : Saying → Bool
 is_update saying = saying.kind == 8
 
+-- RFC 8966, 4.6.9: an Update begins with the number of its encoding
+abbrev pub begins_with_4 : List ℕ → Bool
+begins_with_4 [] = false
+begins_with_4 (encoding ∷ rest) = encoding == 4
+
+-- a TLV of this type and body, which says this: an Update in encoding 4 (RFC 9229) that was ignored
+-- because that encoding is not read
+abbrev pub is_unread_4 : ℕ → List ℕ → Result Event Fault → Bool
+is_unread_4 kind body what =
+    kind == 8 && begins_with_4 body && is_ignored_for reasons.UnknownEncoding what
+
 abbrev pub counts_of : List Saying → Counts
 counts_of sayings = record {
   tlvs = length sayings;
   updates = count_by is_update sayings;
+  ignores_4 = list_any (λ saying. is_unread_4 saying.kind saying.body saying.what) sayings;
   ignored = map (ignored_in sayings) all_reasons;
 }

@@ -44,7 +44,7 @@ routes rows report = record { rows = rows; report = report }
 
 -- a TLV says this
 abbrev pub event_at : TlvAt → Event → Saying
-event_at tlv event = record { at = tlv.at; kind = tlv.kind; what = Ok event }
+event_at tlv event = record { at = tlv.at; kind = tlv.kind; body = tlv.body; what = Ok event }
 
 -- an event that may need memory: a route, and in mode Hold a retraction of one key
 abbrev pub MayGrow : Mode → Event → Type 0
