@@ -81,7 +81,7 @@ octets_one time untold = refl
 octets_one time (left reason) = refl
 octets_one time (refused lack) = refl
 octets_one time (lacked place sender lack) = refl
-octets_one time (found place sender packet) = append-nil packet
+octets_one time (found place sender packet has_trailer) = append-nil packet
 
 octets_made : (made : List Made) → flat_map (λ (packet : ℕ × List ℕ). packet.1) (packets_made made) ≡ flat_map (λ (one : Made). octets_found one.what) made
 octets_made [] = refl
@@ -109,7 +109,7 @@ module _ (origin : Origin) where
   lack_from number (refused lack) = None
   lack_from number (lacked place sender lack) =
       cond (is_at (origin_cmp origin) (record { place = place; sender = sender })) (Some (record { packet = number; lack = lack })) None
-  lack_from number (found place sender packet) = None
+  lack_from number (found place sender packet has_trailer) = None
 
   abbrev first_lack : List Made → Option LackAt
   first_lack [] = None
@@ -302,9 +302,9 @@ module _ (origin : Origin) where
   with_one dumps number time (lacked place sender lack) =
       with_added dumps (record { place = place; sender = sender }) [] (Some (record { packet = number; lack = lack }))
       ∙ ap (λ (t : List (ℕ × List ℕ)). own_with (dump_at dumps origin) t (lack_from number (lacked place sender lack))) (same_of _ [])
-  with_one dumps number time (found place sender packet) =
+  with_one dumps number time (found place sender packet has_trailer) =
       with_added dumps (record { place = place; sender = sender }) ((unwrap_or time 0, packet) ∷ []) None
-      ∙ ap (own_with (dump_at dumps origin) (packets_from time (found place sender packet))) (same_of _ None)
+      ∙ ap (own_with (dump_at dumps origin) (packets_from time (found place sender packet has_trailer))) (same_of _ None)
 
   with_all : (dumps : Dumps) (made : List Made)
       → dump_at (fold (λ (d : Dumps) (one : Made). dumps_with wanteds.Each d one.number (time_of one.came) one.what) dumps made) origin

@@ -182,10 +182,10 @@ ends-after wanted taken more number count at (skips packet) origin before made o
 
 -- what is noted needed memory
 abbrev IsFoundIn : Wanted → Sight → Type 0
-IsFoundIn wanted sight = (origin : Origin) × (octets : List ℕ) × Finds wanted sight (found origin.place origin.sender octets)
+IsFoundIn wanted sight = (origin : Origin) × (octets : List ℕ) × (has_trailer : Bool) × Finds wanted sight (found origin.place origin.sender octets has_trailer)
 
 found_in : (wanted : Wanted) (sight : Sight) (what : Found) (origin : Origin) → Finds wanted sight what → Some origin ≡ origin_found what → IsFoundIn wanted sight
-found_in wanted sight (found place sender packet) origin finds is = (record { place = place; sender = sender }, packet, finds)
+found_in wanted sight (found place sender packet has_trailer) origin finds is = (record { place = place; sender = sender }, packet, has_trailer, finds)
 found_in wanted sight passed origin finds is = absurd cc
 found_in wanted sight untold origin finds is = absurd cc
 found_in wanted sight (left reason) origin finds is = absurd cc
@@ -198,7 +198,7 @@ added-needs wanteds.Everyone senders packet what origin finds is = absurd cc
 added-needs wanteds.Each senders packet what origin finds is = absurd cc
 added-needs (wanteds.Sender sender place false) senders packet what origin finds is = absurd cc
 added-needs (wanteds.Sender sender place true) senders packet what origin finds is =
-    let there = found_in (wanteds.Sender sender place true) (sight_in packet) what origin finds is in inl (there.0, there.1, there.2, tt)
+    let there = found_in (wanteds.Sender sender place true) (sight_in packet) what origin finds is in inl (there.0, there.1, there.2, there.3, tt)
 added-needs (wanteds.InTurn sender place) senders packet what origin finds is = inr (inr refl)
 
 not-told : (origin : Option Origin) → origin ≡ None → IsTrue (is_noted false origin) → ⊥

@@ -1,5 +1,5 @@
 -- What is made of a packet.
-use Rattle.std.proofs.Common.{◌≡◌, ℕ, ◌+◌, List, length, take, ap, ◌∙◌, inl, arith}
+use Rattle.std.proofs.Common.{◌≡◌, ℕ, ◌+◌, List, length, nat_lt, take, ap, sym, ◌∙◌, inl, arith}
 use Rattle.std.proofs.lemmas.List.{take_at}
 use Rattle.babel_prefix.specs.Address.{Address}
 use Rattle.babel_tlv.specs.Framing.{framed}
@@ -8,6 +8,12 @@ use Rattle.babel_capture.specs.declared.place.Place.{Place}
 use Rattle.babel_capture.specs.Findings.{found, PayloadIs}
 
 pub packet_found : (place : Place) (sender : Address) (payload body : List ℕ) (used : ℕ) → BeginsPacket payload body → used ≡ 4 + length body
-    → PayloadIs place sender payload (found place sender (take used payload))
+    → PayloadIs place sender payload (found place sender (take used payload) (nat_lt used (length payload)))
 packet_found place sender payload body used (fits, rest, is) is_used =
-    inl (body, (fits, rest, is), ap (found place sender) (ap (take used) is ∙ take_at (framed body) rest used (omega (arith, is_used))))
+    let len : used ≡ length (framed body) = omega (arith, is_used) in
+    inl (
+      body,
+      (fits, rest, is),
+      ap (λ (octets : List ℕ). found place sender octets (nat_lt used (length payload))) (ap (take used) is ∙ take_at (framed body) rest used (sym len))
+          ∙ ap (λ (n : ℕ). found place sender (framed body) (nat_lt n (length payload))) len,
+    )

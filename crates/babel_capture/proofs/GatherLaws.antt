@@ -1,6 +1,6 @@
 -- What packets give, taken one by one.
 use Rattle.std.proofs.Common.{◌≡◌, ◌≤◌, ℕ, List, [], ◌∷◌, ◌++◌, ◌+◌, length, refl, sym, ap, subst, ◌∙◌, append_assoc, inl, inr}
-use Rattle.std.specs.Prelude.{true, false, Option, Some, None, Result, Ok, Err, OnOk, IfOk, IfErr, ◌⊎◌}
+use Rattle.std.specs.Prelude.{Bool, true, false, Option, Some, None, Result, Ok, Err, OnOk, IfOk, IfErr, ◌⊎◌}
 use Rattle.std.specs.List.{flat_map}
 use Rattle.babel_prefix.specs.Address.{Address}
 use Rattle.babel_capture.specs.declared.reason.Reason.{Reason}
@@ -149,12 +149,12 @@ module _ (before : List Sighting) (next : Sighting) (old new : Gathering) (findi
       (few_kept before old new senders gathered) tt gathered number
       (subst (Finds old.wanted next.what) is finds)
 
-  pub found-push : (place : Place) (sender : Address) (packet : List ℕ) → finding ≡ found place sender packet → new.wanted ≡ old.wanted → new.dump ≡ dump_with old.wanted old.dump packet
-      → new.dumps ≡ dumps_with old.wanted old.dumps next.number (time_of next.came) (found place sender packet)
-      → new.report ≡ packet_counted (counted_at old.report next.came) next.link (interval_in packet)
-      → new.senders ≡ tallied old.senders (record { place = place; sender = sender }) (time_of next.came) packet → length new.senders ≤ 65536 → Goes
-  found-push place sender packet is same dump dumps report senders few gathered number finds =
-      gathered-push before next old new (found place sender packet) same dump dumps report senders few tt gathered number
+  pub found-push : (place : Place) (sender : Address) (packet : List ℕ) (has_trailer : Bool) → finding ≡ found place sender packet has_trailer → new.wanted ≡ old.wanted → new.dump ≡ dump_with old.wanted old.dump packet
+      → new.dumps ≡ dumps_with old.wanted old.dumps next.number (time_of next.came) (found place sender packet has_trailer)
+      → new.report ≡ packet_counted (counted_at old.report next.came) next.link (interval_in packet) has_trailer
+      → new.senders ≡ tallied old.senders (record { place = place; sender = sender }) (time_of next.came) packet has_trailer → length new.senders ≤ 65536 → Goes
+  found-push place sender packet has_trailer is same dump dumps report senders few gathered number finds =
+      gathered-push before next old new (found place sender packet has_trailer) same dump dumps report senders few tt gathered number
       (subst (Finds old.wanted next.what) is finds)
 
   -- where the dump of each is wanted
@@ -194,8 +194,8 @@ each_wanted wanted too_short place sender lack is = absurd cc
 each_wanted wanted (datagram at from carried) place sender lack (inl (wants, is)) = carried_each wanted at place from sender carried lack is
 each_wanted wanted (datagram at from carried) place sender lack (inr (not, is)) = absurd cc
 
-pub finds-at : (wanted here : Wanted) (sight : Sight) (finding : Found) → wanted ≡ here → Finds wanted sight finding → Finds here sight finding
-finds-at wanted here sight finding is_wanted finds = subst (λ (w : Wanted). Finds w sight finding) is_wanted finds
+pub finds-at : (wanted here : Wanted) (seen sight : Sight) (finding : Found) → wanted ≡ here → seen ≡ sight → Finds wanted seen finding → Finds here sight finding
+finds-at wanted here seen sight finding is_wanted is_seen finds = subst (λ (s : Sight). Finds here s finding) is_seen (subst (λ (w : Wanted). Finds w seen finding) is_wanted finds)
 
 -- the datagram that was found lacks something
 pub lack-refused : (wanted : Wanted) (senders : Senders) (at : ℕ) (packet : Captured) (lack : Lack) (fault : Fault) (finding : Found)
@@ -203,25 +203,26 @@ pub lack-refused : (wanted : Wanted) (senders : Senders) (at : ℕ) (packet : Ca
 lack-refused wanted senders at packet lack fault finding is told finds = inr (inl (lack, told, subst (Finds wanted (sight_in packet)) is finds))
 
 -- the sender of a packet that was found is one too many
-pub too-many-refused : {T : Type 0} (r : Result T Fault) (wanted : Wanted) (here senders : Senders) (at : ℕ) (packet : Captured) (origin : Origin) (octets : List ℕ) (finding : Found)
-    → here ≡ senders → finding ≡ found origin.place origin.sender octets → Finds wanted (sight_in packet) finding
+pub too-many-refused : {T : Type 0} (r : Result T Fault) (wanted : Wanted) (here senders : Senders) (at : ℕ) (packet : Captured) (origin : Origin) (octets : List ℕ) (has_trailer : Bool) (finding : Found)
+    → here ≡ senders → finding ≡ found origin.place origin.sender octets has_trailer → Finds wanted (sight_in packet) finding
     → IfErr r (λ fault. (fault ≡ faults.Memory) ⊎ ((fault ≡ faults.TooManySenders at) × IsOneTooMany here origin))
     → IfErr r (λ fault. (fault ≡ faults.Memory) ⊎ IsRefusedPacket wanted senders at packet fault)
-too-many-refused (Ok x) wanted here senders at packet origin octets finding same is finds err = tt
-too-many-refused (Err fault) wanted here senders at packet origin octets finding same is finds (inl memory) = inl memory
-too-many-refused (Err fault) wanted here senders at packet origin octets finding same is finds (inr (told, many)) =
-    inr (inr (told, (origin, octets, subst (Finds wanted (sight_in packet)) is finds, subst (λ (s : Senders). IsOneTooMany s origin) same many)))
+too-many-refused (Ok x) wanted here senders at packet origin octets has_trailer finding same is finds err = tt
+too-many-refused (Err fault) wanted here senders at packet origin octets has_trailer finding same is finds (inl memory) = inl memory
+too-many-refused (Err fault) wanted here senders at packet origin octets has_trailer finding same is finds (inr (told, many)) =
+    inr (inr (told, (origin, octets, has_trailer, subst (Finds wanted (sight_in packet)) is finds, subst (λ (s : Senders). IsOneTooMany s origin) same many)))
 
 -- memory is needed for the packet that was found
-pub found-needs : {T : Type 0} (r : Result T Fault) (wanted before : Wanted) (here senders : Senders) (packet : Captured) (origin : Origin) (octets : List ℕ) (finding : Found)
-    → wanted ≡ before → here ≡ senders → finding ≡ found origin.place origin.sender octets → Finds before (sight_in packet) finding
-    → IfErr r (λ fault. fault ≡ faults.Memory → PacketNeedsMemory wanted here origin octets) → IfErr r (λ fault. fault ≡ faults.Memory → BlockNeedsMemory before senders (holds packet))
-found-needs (Ok x) wanted before here senders packet origin octets finding same are is finds needs = tt
-found-needs (Err fault) wanted before here senders packet origin octets finding same are is finds needs = λ memory. inl (
+pub found-needs : {T : Type 0} (r : Result T Fault) (wanted before : Wanted) (here senders : Senders) (packet : Captured) (origin : Origin) (octets : List ℕ) (has_trailer : Bool) (finding : Found)
+    → wanted ≡ before → here ≡ senders → finding ≡ found origin.place origin.sender octets has_trailer → Finds before (sight_in packet) finding
+    → IfErr r (λ fault. fault ≡ faults.Memory → PacketNeedsMemory wanted here origin octets has_trailer) → IfErr r (λ fault. fault ≡ faults.Memory → BlockNeedsMemory before senders (holds packet))
+found-needs (Ok x) wanted before here senders packet origin octets has_trailer finding same are is finds needs = tt
+found-needs (Err fault) wanted before here senders packet origin octets has_trailer finding same are is finds needs = λ memory. inl (
   origin,
   octets,
+  has_trailer,
   subst (Finds before (sight_in packet)) is finds,
-  subst (λ (w : Wanted). PacketNeedsMemory w senders origin octets) same (subst (λ (s : Senders). PacketNeedsMemory wanted s origin octets) are (needs memory)),
+  subst (λ (w : Wanted). PacketNeedsMemory w senders origin octets has_trailer) same (subst (λ (s : Senders). PacketNeedsMemory wanted s origin octets has_trailer) are (needs memory)),
 )
 
 -- whose packet was added to the dump

@@ -62,7 +62,7 @@ linked : (before : Before) (at interface number : ℕ) (moment : Option ℤ) (fr
     → holds_by before at interface number moment frame whole link ≢ Err faults.Memory
 linked before at interface number moment frame whole None is = cc
 linked before at interface number moment frame whole (Some link) is =
-    read-other before.window before.start at (record { interface = interface; link = link; moment = moment; frame = frame; whole_len = whole }) is
+    read-other before.window before.start at (record { interface = interface; section = before.first; link = link; moment = moment; frame = frame; whole_len = whole }) is
 
 packets : (before : Before) (at interface : ℕ) (stamp : Option Stamp) (frame : List ℕ) (whole : ℕ) (described : Option Interface)
     → packet_of before at interface stamp frame whole described ≢ Err faults.Memory

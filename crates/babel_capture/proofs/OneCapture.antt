@@ -1,5 +1,5 @@
 -- Octets are one capture, whose packets give one dump, one report and one list of senders.
-use Rattle.std.proofs.Common.{◌≡◌, ◌≢◌, ℕ, ◌+◌, ◌*◌, ◌/◌, ◌%◌, ◌<◌, List, [], ◌∷◌, ◌++◌, length, take, drop, refl, sym, ap, subst, ◌∙◌, append_assoc, inl, inr, arith, length-append, slice_index}
+use Rattle.std.proofs.Common.{◌≡◌, ◌≢◌, ℕ, ◌+◌, ◌*◌, ◌/◌, ◌%◌, ◌<◌, List, [], ◌∷◌, ◌++◌, length, take, drop, refl, sym, ap, subst, ◌∙◌, append_assoc, inl, inr, arith, length-append, nat_lt, slice_index}
 use Rattle.std.specs.Prelude.{◌⊎◌, Option, Some, None, Result, Ok, Err}
 use Rattle.std.specs.Result.{IsOkAnd}
 use Rattle.std.proofs.lemmas.List.{append-nil, drop_at, take-append-le, take_at}
@@ -71,7 +71,7 @@ short_version payload (inr lacks) long = lacks.2
 payload_one : (place : Place) (sender : Address) (payload : List ℕ) (what again : Found) → PayloadIs place sender payload what → PayloadIs place sender payload again → what ≡ again
 payload_one place sender payload what again (inl (body, begins, is)) (inl (other_body, begins_again, is_again)) =
     let same : body ≡ other_body = (framed_one body other_body begins.1 begins_again.1 begins.0 begins_again.0 (sym begins.2 ∙ begins_again.2)).0 in
-    is ∙ ap (λ (b : List ℕ). found place sender (framed b)) same ∙ sym is_again
+    is ∙ ap (λ (b : List ℕ). found place sender (framed b) (nat_lt (length (framed b)) (length payload))) same ∙ sym is_again
 payload_one place sender payload what again (inl (body, begins, is)) (inr (inl (short, is_again))) = absurd (begins_whole payload body begins short)
 payload_one place sender payload what again (inl (body, begins, is)) (inr (inr (inl (long, magic, is_again)))) = absurd (magic (begins_magic payload body begins))
 payload_one place sender payload what again (inl (body, begins, is)) (inr (inr (inr (long, magic, version, is_again)))) = absurd (version (begins_version payload body begins))

@@ -37,7 +37,7 @@ with-longer senders time untold = omega arith
 with-longer senders time (left reason) = omega arith
 with-longer senders time (refused lack) = omega arith
 with-longer senders time (lacked place sender lack) = omega arith
-with-longer senders time (found place sender packet) = insert-longer origin_cmp (record { place = place; sender = sender }) _ senders
+with-longer senders time (found place sender packet has_trailer) = insert-longer origin_cmp (record { place = place; sender = sender }) _ senders
 
 more-longer : (senders : Senders) (made : List Made) → length senders ≤ length (more senders made)
 more-longer senders [] = omega arith
@@ -105,12 +105,12 @@ refused_none wanted senders number at nothing fault later made refuses are few =
 refused_none wanted senders number at (skips packet) fault later made refuses are few = refuses
 refused_none wanted senders number at (holds packet) fault later made (inl (lack, told, finds)) (one, others, is, numbered, link, came, finds_too, takes, are) few =
     subst IsTaken (finds_one wanted (sight_in packet) one.what (refused lack) finds_too finds) takes
-refused_none wanted senders number at (holds packet) fault later made (inr (told, (origin, octets, finds, many))) (one, others, is, numbered, link, came, finds_too, takes, are) few =
-    let what : one.what ≡ found origin.place origin.sender octets = finds_one wanted (sight_in packet) one.what (found origin.place origin.sender octets) finds_too finds in
-    let all : more senders made ≡ more (tallied senders origin (time_of one.came) octets) others =
+refused_none wanted senders number at (holds packet) fault later made (inr (told, (origin, octets, has_trailer, finds, many))) (one, others, is, numbered, link, came, finds_too, takes, are) few =
+    let what : one.what ≡ found origin.place origin.sender octets has_trailer = finds_one wanted (sight_in packet) one.what (found origin.place origin.sender octets has_trailer) finds_too finds in
+    let all : more senders made ≡ more (tallied senders origin (time_of one.came) octets has_trailer) others =
     ap (more senders) is ∙ ap (λ (w : Found). more (senders_with senders (time_of one.came) w) others) what in
-    let new : length (tallied senders origin (time_of one.came) octets) ≡ length senders + 1 = insert-new origin_cmp origin _ senders many.1 in
-    let longer = more-longer (tallied senders origin (time_of one.came) octets) others in
+    let new : length (tallied senders origin (time_of one.came) octets has_trailer) ≡ length senders + 1 = insert-new origin_cmp origin _ senders many.1 in
+    let longer = more-longer (tallied senders origin (time_of one.came) octets has_trailer) others in
     let full = many.0 in
     omega (arith, ap length all)
 
@@ -158,10 +158,10 @@ module _ (wanted : Wanted) (senders : Senders) (before : Before) (at : ℕ) wher
       let both : refused lack ≡ refused lack_too = finds_one wanted (sight_in packet) (refused lack) (refused lack_too) finds finds_too in
       let same : lack ≡ lack_too = cc in
       told ∙ ap (lack_fault at) same ∙ sym told_too
-  refused_one (holds packet) one other (inl (lack, told, finds)) (inr (told_too, (origin, octets, finds_too, many))) =
-      (let both : refused lack ≡ found origin.place origin.sender octets = finds_one wanted (sight_in packet) (refused lack) (found origin.place origin.sender octets) finds finds_too in absurd cc)
-  refused_one (holds packet) one other (inr (told, (origin, octets, finds, many))) (inl (lack, told_too, finds_too)) =
-      (let both : refused lack ≡ found origin.place origin.sender octets = finds_one wanted (sight_in packet) (refused lack) (found origin.place origin.sender octets) finds_too finds in absurd cc)
+  refused_one (holds packet) one other (inl (lack, told, finds)) (inr (told_too, (origin, octets, has_trailer, finds_too, many))) =
+      (let both : refused lack ≡ found origin.place origin.sender octets has_trailer = finds_one wanted (sight_in packet) (refused lack) (found origin.place origin.sender octets has_trailer) finds finds_too in absurd cc)
+  refused_one (holds packet) one other (inr (told, (origin, octets, has_trailer, finds, many))) (inl (lack, told_too, finds_too)) =
+      (let both : refused lack ≡ found origin.place origin.sender octets has_trailer = finds_one wanted (sight_in packet) (refused lack) (found origin.place origin.sender octets has_trailer) finds_too finds in absurd cc)
   refused_one (holds packet) one other (inr (told, many)) (inr (told_too, many_too)) = told ∙ sym told_too
 
   fails_one : (block : List ℕ) (one other : Fault) → BlockFails wanted senders before at block one → BlockFails wanted senders before at block other → one ≡ other

@@ -28,7 +28,7 @@ place_of p untold = p
 place_of p (left reason) = p
 place_of p (refused lack) = p
 place_of p (lacked place sender lack) = p
-place_of p (found place sender packet) = place
+place_of p (found place sender packet has_trailer) = place
 
 abbrev sender_of : Address → Found → Address
 sender_of a passed = a
@@ -36,15 +36,15 @@ sender_of a untold = a
 sender_of a (left reason) = a
 sender_of a (refused lack) = a
 sender_of a (lacked place sender lack) = a
-sender_of a (found place sender packet) = sender
+sender_of a (found place sender packet has_trailer) = sender
 
 -- a packet that is found is of the place and the sender of its datagram
-payload_of : (at : Place) (from : Address) (payload : List ℕ) (place : Place) (sender : Address) (packet : List ℕ)
-    → PayloadIs at from payload (found place sender packet) → (place ≡ at) × (sender ≡ from)
-payload_of at from payload place sender packet (inl (body, begins, is)) = (ap (place_of place) is, ap (sender_of sender) is)
-payload_of at from payload place sender packet (inr (inl (short, is))) = absurd cc
-payload_of at from payload place sender packet (inr (inr (inl (long, magic, is)))) = absurd cc
-payload_of at from payload place sender packet (inr (inr (inr (long, magic, version, is)))) = absurd cc
+payload_of : (at : Place) (from : Address) (payload : List ℕ) (place : Place) (sender : Address) (packet : List ℕ) (has_trailer : Bool)
+    → PayloadIs at from payload (found place sender packet has_trailer) → (place ≡ at) × (sender ≡ from)
+payload_of at from payload place sender packet has_trailer (inl (body, begins, is)) = (ap (place_of place) is, ap (sender_of sender) is)
+payload_of at from payload place sender packet has_trailer (inr (inl (short, is))) = absurd cc
+payload_of at from payload place sender packet has_trailer (inr (inr (inl (long, magic, is)))) = absurd cc
+payload_of at from payload place sender packet has_trailer (inr (inr (inr (long, magic, version, is)))) = absurd cc
 
 module _ (wanted : Address) (at : Place) (ends : Bool) where
   abbrev origin : Origin
@@ -53,20 +53,20 @@ module _ (wanted : Address) (at : Place) (ends : Bool) where
   abbrev IsOneAtMost : Senders → Type 0
   IsOneAtMost senders = (senders ≡ []) ⊎ ((tally : Tally) × (senders ≡ (origin, tally) ∷ []))
 
-  carried_of : (there : Place) (from : Address) (carried : Carried) (place : Place) (sender : Address) (packet : List ℕ)
-      → CarriedIs (wanteds.Sender wanted (Some at) ends) there from carried (found place sender packet) → (place ≡ there) × (sender ≡ from)
-  carried_of there from other_port place sender packet is = absurd cc
-  carried_of there from not_link_local place sender packet is = absurd cc
-  carried_of there from (lacking lack) place sender packet is = absurd cc
-  carried_of there from (carries payload) place sender packet is = payload_of there from payload place sender packet is
+  carried_of : (there : Place) (from : Address) (carried : Carried) (place : Place) (sender : Address) (packet : List ℕ) (has_trailer : Bool)
+      → CarriedIs (wanteds.Sender wanted (Some at) ends) there from carried (found place sender packet has_trailer) → (place ≡ there) × (sender ≡ from)
+  carried_of there from other_port place sender packet has_trailer is = absurd cc
+  carried_of there from not_link_local place sender packet has_trailer is = absurd cc
+  carried_of there from (lacking lack) place sender packet has_trailer is = absurd cc
+  carried_of there from (carries payload) place sender packet has_trailer is = payload_of there from payload place sender packet has_trailer is
 
-  found_of : (sight : Sight) (place : Place) (sender : Address) (packet : List ℕ)
-      → Finds (wanteds.Sender wanted (Some at) ends) sight (found place sender packet) → (place ≡ at) × (sender ≡ wanted)
-  found_of other place sender packet is = absurd cc
-  found_of too_short place sender packet is = absurd cc
-  found_of (datagram there from carried) place sender packet (inl (wants, is)) =
-      let parts = carried_of there from carried place sender packet is in (parts.0 ∙ wants.1, parts.1 ∙ wants.0)
-  found_of (datagram there from carried) place sender packet (inr (not, is)) = absurd cc
+  found_of : (sight : Sight) (place : Place) (sender : Address) (packet : List ℕ) (has_trailer : Bool)
+      → Finds (wanteds.Sender wanted (Some at) ends) sight (found place sender packet has_trailer) → (place ≡ at) × (sender ≡ wanted)
+  found_of other place sender packet has_trailer is = absurd cc
+  found_of too_short place sender packet has_trailer is = absurd cc
+  found_of (datagram there from carried) place sender packet has_trailer (inl (wants, is)) =
+      let parts = carried_of there from carried place sender packet has_trailer is in (parts.0 ∙ wants.1, parts.1 ∙ wants.0)
+  found_of (datagram there from carried) place sender packet has_trailer (inr (not, is)) = absurd cc
 
   itself : origin_cmp origin origin ≡ Equal
   itself = tied_itself origin_total origin
@@ -79,8 +79,8 @@ module _ (wanted : Address) (at : Place) (ends : Bool) where
   put_at_most senders put (inl none) = inr (put, ap (λ (s : Senders). insert_entry origin_cmp s origin put) none)
   put_at_most senders put (inr (tally, is)) = inr (put, ap (λ (s : Senders). insert_entry origin_cmp s origin put) is ∙ put_one tally put)
 
-  tallied_at_most : (senders : Senders) (time : Option ℕ) (packet : List ℕ) → IsOneAtMost senders → IsOneAtMost (tallied senders origin time packet)
-  tallied_at_most senders time packet most = put_at_most senders _ most
+  tallied_at_most : (senders : Senders) (time : Option ℕ) (packet : List ℕ) (has_trailer : Bool) → IsOneAtMost senders → IsOneAtMost (tallied senders origin time packet has_trailer)
+  tallied_at_most senders time packet has_trailer most = put_at_most senders _ most
 
   with_at_most : (sight : Sight) (senders : Senders) (time : Option ℕ) (what : Found) → Finds (wanteds.Sender wanted (Some at) ends) sight what
       → IsOneAtMost senders → IsOneAtMost (senders_with senders time what)
@@ -89,10 +89,10 @@ module _ (wanted : Address) (at : Place) (ends : Bool) where
   with_at_most sight senders time (left reason) finds most = most
   with_at_most sight senders time (refused lack) finds most = most
   with_at_most sight senders time (lacked place sender lack) finds most = most
-  with_at_most sight senders time (found place sender packet) finds most =
-      let is = found_of sight place sender packet finds in
-      subst (λ (p : Place). IsOneAtMost (tallied senders (record { place = p; sender = sender }) time packet)) (sym is.0)
-      (subst (λ (a : Address). IsOneAtMost (tallied senders (record { place = at; sender = a }) time packet)) (sym is.1) (tallied_at_most senders time packet most))
+  with_at_most sight senders time (found place sender packet has_trailer) finds most =
+      let is = found_of sight place sender packet has_trailer finds in
+      subst (λ (p : Place). IsOneAtMost (tallied senders (record { place = p; sender = sender }) time packet has_trailer)) (sym is.0)
+      (subst (λ (a : Address). IsOneAtMost (tallied senders (record { place = at; sender = a }) time packet has_trailer)) (sym is.1) (tallied_at_most senders time packet has_trailer most))
 
   all_at_most : (sightings : List Sighting) (made : List Made) (senders : Senders) → AreMade (wanteds.Sender wanted (Some at) ends) sightings made → IsOneAtMost senders
       → IsOneAtMost (fold (λ (s : Senders) (one : Made). senders_with s (time_of one.came) one.what) senders made)

@@ -3,7 +3,7 @@ use Rattle.std.proofs.Common.{◌≡◌, ℕ, ◌+◌, ◌-◌, ◌*◌, ◌%◌
 use Rattle.std.proofs.Math.Seq.{drop-append_seam}
 use Rattle.std.proofs.lemmas.List.{take_all}
 use Rattle.std.proofs.lemmas.Bool.Decides.{nat_tests}
-use Rattle.std.specs.Prelude.{Contains, None, Some, Ok, map, slice_range, Bool, true, pos, ◌==◌, if◌then◌else◌}
+use Rattle.std.specs.Prelude.{Contains, None, Some, Ok, map, slice_range, Bool, true, pos, ◌==◌, ◌&&◌, if◌then◌else◌}
 use Rattle.std.specs.List.{All, flat_map}
 use Rattle.std.proofs.lemmas.List.Elements.{All-head, All-tail}
 use Rattle.byteorder.specs.Endian.{big_bytes, big_number, little_bytes, little_number}
@@ -68,6 +68,22 @@ at_captured_front orders.Big packet is =
 at_captured_front orders.Little packet is =
     written-back orders.Little 4 (length packet.frame) (little_bytes 4 packet.seconds ++ little_bytes 4 packet.fraction) (little_bytes 4 packet.whole_len ++ []) (let few = is.few in omega arith)
 
+at_whole_front : (order : Order) (packet : PcapRecord) → IsPcapRecord packet → number_at order 4 (take 16 (record_octets order packet)) 12 ≡ packet.whole_len
+at_whole_front orders.Big packet is =
+    written-back orders.Big 4 packet.whole_len (big_bytes 4 packet.seconds ++ big_bytes 4 packet.fraction ++ big_bytes 4 (length packet.frame)) [] is.len_fits
+at_whole_front orders.Little packet is =
+    written-back orders.Little 4 packet.whole_len (little_bytes 4 packet.seconds ++ little_bytes 4 packet.fraction ++ little_bytes 4 (length packet.frame)) [] is.len_fits
+
+-- a packet had octets
+none_blank : (kept whole : ℕ) → 0 < kept + whole → (kept == 0 && whole == 0) ≡ false
+none_blank kept whole some = by (kept == 0) (whole == 0) refl refl
+  where
+    by : (b c : Bool) → (kept == 0) ≡ b → (whole == 0) ≡ c → (b && c) ≡ false
+    by false c no_octets had_none = refl
+    by true false no_octets had_none = refl
+    by true true no_octets had_none =
+        (let kept_none : kept ≡ 0 = grind (arith, nat_tests) in let whole_none : whole ≡ 0 = grind (arith, nat_tests) in absurd (omega (arith, some)))
+
 at_seconds : (order : Order) (packet : PcapRecord) → IsPcapRecord packet → number_at order 4 (record_octets order packet) 0 ≡ packet.seconds
 at_seconds order packet is =
     written-back order 4 packet.seconds [] (written order 4 packet.fraction ++ (written order 4 (length packet.frame) ++ (written order 4 packet.whole_len ++ packet.frame))) is.seconds_fit
@@ -97,7 +113,7 @@ abbrev behind : PcapFile → ℕ → Before
 behind pcap limit = record { limit = limit; layout = layouts.Pcap pcap.order; first = 0; interfaces = interface_in pcap ∷ []; window = windows.Whole; start = None }
 
 abbrev captured_in : PcapFile → Link → PcapRecord → Captured
-captured_in pcap link packet = record { interface = 0; link = link; moment = Some (record_moment pcap.magic packet); frame = packet.frame; whole_len = packet.whole_len }
+captured_in pcap link packet = record { interface = 0; section = 0; link = link; moment = Some (record_moment pcap.magic packet); frame = packet.frame; whole_len = packet.whole_len }
 
 abbrev block_in : PcapFile → Link → ℕ → PcapRecord → BlockAt
 block_in pcap link at packet = record { at = at; octets = record_octets pcap.order packet; content = holds (captured_in pcap link packet) }
@@ -111,7 +127,9 @@ module _ (pcap : PcapFile) (link : Link) (limit : ℕ) (is_link : link_of pcap.l
       let captured : number_at pcap.order 4 (take 16 octets) 8 ≡ length packet.frame = at_captured_front pcap.order packet is in
       let allowed : nat_lt 262144 (length packet.frame) ≡ false = grind (arith, nat_tests) in
       let within : nat_lt (limit - at) (16 + length packet.frame) ≡ false = grind (arith, nat_tests) in
-      let len : block_len (behind pcap limit) at (take 16 octets) ≡ Ok (16 + length packet.frame) = rw (captured, allowed, within) refl in
+      let whole : number_at pcap.order 4 (take 16 octets) 12 ≡ packet.whole_len = at_whole_front pcap.order packet is in
+      let not_blank : (length packet.frame == 0 && packet.whole_len == 0) ≡ false = none_blank (length packet.frame) packet.whole_len is.some in
+      let len : block_len (behind pcap limit) at (take 16 octets) ≡ Ok (16 + length packet.frame) = rw (captured, whole, allowed, not_blank, within) refl in
       record { header = omega (arith, long); len = len ∙ ap Ok (sym long) }
 
   record_says : (at : ℕ) (packet : PcapRecord) → IsPcapRecord packet → block_said (behind pcap limit) at (record_octets pcap.order packet) ≡ Ok (holds (captured_in pcap link packet))

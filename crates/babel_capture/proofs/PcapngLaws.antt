@@ -226,9 +226,9 @@ module _ (order : Order) (limit at first : ℕ) (interfaces : List Interface) wh
       typed order limit at first interfaces 1 body (omega arith) (λ (e : 1 ≡ 0x0a0d0d0a). absurd (omega (arith, e))) is ∙ rw (least, room, end, read, whole, fields.0, fields.1) refl
 
   enhanced_says : (number high low whole : ℕ) (frame more : List ℕ) (packets later : List Captured) → Fits (body_of order (enhanced number high low whole frame more)) → number < 2 ^ 32
-      → high < 2 ^ 32 → low < 2 ^ 32 → (is : IsPacket interfaces (first + number) (halves high low) whole frame packets later)
+      → high < 2 ^ 32 → low < 2 ^ 32 → (is : IsPacket first interfaces (first + number) (halves high low) whole frame packets later)
       → block_said (inside order limit first interfaces) at (octets_in order (enhanced number high low whole frame more))
-      ≡ Ok (holds (packet_at (first + number) is.link (moment_in is.interface.clock (halves high low)) frame whole))
+      ≡ Ok (holds (packet_at first (first + number) is.link (moment_in is.interface.clock (halves high low)) frame whole))
   enhanced_says number high low whole frame more packets later fits number_fits high_fits low_fits is =
       let octets = octets_in order (enhanced number high low whole frame more) in
       let body = body_of order (enhanced number high low whole frame more) in
@@ -243,9 +243,9 @@ module _ (order : Order) (limit at first : ℕ) (interfaces : List Interface) wh
       ∙ rw (least, fields.0, fields.1, room, read, fields.2, fields.3, fields.4, is.is_described, is.is_link) refl
 
   old_says : (number drops high low whole : ℕ) (frame more : List ℕ) (packets later : List Captured) → Fits (body_of order (old number drops high low whole frame more))
-      → number < 2 ^ 16 → high < 2 ^ 32 → low < 2 ^ 32 → (is : IsPacket interfaces (first + number) (halves high low) whole frame packets later)
+      → number < 2 ^ 16 → high < 2 ^ 32 → low < 2 ^ 32 → (is : IsPacket first interfaces (first + number) (halves high low) whole frame packets later)
       → block_said (inside order limit first interfaces) at (octets_in order (old number drops high low whole frame more))
-      ≡ Ok (holds (packet_at (first + number) is.link (moment_in is.interface.clock (halves high low)) frame whole))
+      ≡ Ok (holds (packet_at first (first + number) is.link (moment_in is.interface.clock (halves high low)) frame whole))
   old_says number drops high low whole frame more packets later fits short high_fits low_fits is =
       let octets = octets_in order (old number drops high low whole frame more) in
       let body = body_of order (old number drops high low whole frame more) in
@@ -260,9 +260,9 @@ module _ (order : Order) (limit at first : ℕ) (interfaces : List Interface) wh
       ∙ rw (least, fields.0, fields.1, room, read, fields.2, fields.3, fields.4, is.is_described, is.is_link) refl
 
   simple_says : (whole : ℕ) (frame padding : List ℕ) (packets later : List Captured) → Fits (body_of order (simple whole frame padding))
-      → (is : IsPacket interfaces first None whole frame packets later)
+      → (is : IsPacket first interfaces first None whole frame packets later)
       → length frame ≡ kept_len is.interface.snap_len whole
-      → block_said (inside order limit first interfaces) at (octets_in order (simple whole frame padding)) ≡ Ok (holds (packet_at first is.link None frame whole))
+      → block_said (inside order limit first interfaces) at (octets_in order (simple whole frame padding)) ≡ Ok (holds (packet_at first first is.link None frame whole))
   simple_says whole frame padding packets later fits is kept =
       let octets = octets_in order (simple whole frame padding) in
       let body = body_of order (simple whole frame padding) in
@@ -490,7 +490,7 @@ blocks_laid order limit at first interfaces (enhanced number high low whole fram
     let rest = octets_from order blocks in
     let count = length-append octets rest in
     let block = block_is order limit at first interfaces 6 body (omega arith) (λ (e : 6 ≡ 0x0a0d0d0a). absurd (omega (arith, e))) is (omega (arith, count, block_long order 6 body)) in
-    with_packet order limit at first interfaces octets rest (packet_at (first + number) packet.link (moment_in packet.interface.clock (halves high low)) frame whole) packets later block
+    with_packet order limit at first interfaces octets rest (packet_at first (first + number) packet.link (moment_in packet.interface.clock (halves high low)) frame whole) packets later block
     (enhanced_says order limit at first interfaces number high low whole frame more packets later is number_fits high_fits low_fits packet) packet.is_packet
     (blocks_laid order limit (at + length octets) first interfaces blocks later hold (omega (arith, count)))
 blocks_laid order limit at first interfaces (old number drops high low whole frame more ∷ blocks) packets (is, short, high_fits, low_fits, (later, packet, hold)) fits =
@@ -499,7 +499,7 @@ blocks_laid order limit at first interfaces (old number drops high low whole fra
     let rest = octets_from order blocks in
     let count = length-append octets rest in
     let block = block_is order limit at first interfaces 2 body (omega arith) (λ (e : 2 ≡ 0x0a0d0d0a). absurd (omega (arith, e))) is (omega (arith, count, block_long order 2 body)) in
-    with_packet order limit at first interfaces octets rest (packet_at (first + number) packet.link (moment_in packet.interface.clock (halves high low)) frame whole) packets later block
+    with_packet order limit at first interfaces octets rest (packet_at first (first + number) packet.link (moment_in packet.interface.clock (halves high low)) frame whole) packets later block
     (old_says order limit at first interfaces number drops high low whole frame more packets later is short high_fits low_fits packet) packet.is_packet
     (blocks_laid order limit (at + length octets) first interfaces blocks later hold (omega (arith, count)))
 blocks_laid order limit at first interfaces (simple whole frame padding ∷ blocks) packets (is, (later, packet, kept, hold)) fits =
@@ -508,7 +508,7 @@ blocks_laid order limit at first interfaces (simple whole frame padding ∷ bloc
     let rest = octets_from order blocks in
     let count = length-append octets rest in
     let block = block_is order limit at first interfaces 3 body (omega arith) (λ (e : 3 ≡ 0x0a0d0d0a). absurd (omega (arith, e))) is (omega (arith, count, block_long order 3 body)) in
-    with_packet order limit at first interfaces octets rest (packet_at first packet.link None frame whole) packets later block
+    with_packet order limit at first interfaces octets rest (packet_at first first packet.link None frame whole) packets later block
     (simple_says order limit at first interfaces whole frame padding packets later is packet kept) packet.is_packet
     (blocks_laid order limit (at + length octets) first interfaces blocks later hold (omega (arith, count)))
 blocks_laid order limit at first interfaces (another kind body ∷ blocks) packets (is, kind_fits, none, hold) fits =

@@ -1,7 +1,7 @@
 -- The senders that the fold over the packets gives are those of whom a packet was found, in order, each with the tally of its
 -- packets: packet by packet.
 use Rattle.std.proofs.Common.{◌≡◌, ℕ, ◌+◌, Bool, true, false, cond, List, [], ◌∷◌, ◌++◌, length, Option, Some, None, refl, sym, ap, subst, ◌∙◌, arith}
-use Rattle.std.specs.Prelude.{fold, map, sum_by}
+use Rattle.std.specs.Prelude.{count_by, fold, map, sum_by}
 use Rattle.std.proofs.Math.Path.{fun_ext}
 use Rattle.std.specs.List.{filter}
 use Rattle.std.specs.List.Sorted.{IsStrictlySortedBy}
@@ -15,7 +15,7 @@ use Rattle.std.proofs.lemmas.List.Sums.{fold-append, sum_by-append}
 use Rattle.babel_capture.specs.declared.tallies.Origin.{Origin}
 use Rattle.babel_capture.specs.declared.tallies.Tally.{Tally}
 use Rattle.babel_capture.specs.Capture.{IsRead}
-use Rattle.babel_capture.specs.Counts.{Made}
+use Rattle.babel_capture.specs.Counts.{Made, has_trailer}
 use Rattle.babel_capture.specs.Findings.{Found, passed, untold, left, refused, lacked, found}
 use Rattle.babel_capture.specs.Gathering.{Gathering, octets_found}
 use Rattle.babel_capture.specs.Times.{time_of}
@@ -24,6 +24,7 @@ use Rattle.babel_capture.specs.Updates.{interval_in, updates_in}
 use Rattle.babel_capture.specs.Senders.{AreSenders, Sent, is_from, packets_from, sent_of, tally_for}
 use Rattle.babel_capture.specs.Tallies.{Senders, no_packets, one_more, origin_cmp, senders_of, senders_with, tallied, tally_of}
 use Rattle.babel_capture.proofs.TallyLaws.{origin_total}
+use Rattle.babel_prefix.proofs.Counted.{count-push}
 use Rattle.babel_prefix.proofs.Insertion.{equal_of, is_at-sym, lookup-insert, sorted-insert}
 use Rattle.babel_capture.specs.Window.{Extent}
 
@@ -31,7 +32,7 @@ use Rattle.babel_capture.specs.Window.{Extent}
 
 -- the packets that one finding adds
 abbrev here : Origin → Option ℕ → Found → List Sent
-here origin time what = cond (is_from origin what) (record { time = time; octets = octets_found what } ∷ []) []
+here origin time what = cond (is_from origin what) (record { time = time; octets = octets_found what; has_trailer = has_trailer what } ∷ []) []
 
 packets-here : (origin : Origin) (one : Made) → packets_from origin (one ∷ []) ≡ here origin (time_of one.came) one.what
 packets-here origin one = by (is_from origin one.what)
@@ -47,11 +48,12 @@ packets-push origin before one =
     ∙ ap (λ (l : List Sent). packets_from origin before ++ l) (packets-here origin one)
 
 -- the sums of packets, and what folds over them give
-abbrev tally_with : ℕ → ℕ → ℕ → List Sent → Option Tally
-tally_with packets octets updates all = Some (record {
+abbrev tally_with : ℕ → ℕ → ℕ → ℕ → List Sent → Option Tally
+tally_with packets octets updates trailers all = Some (record {
   packets = packets;
   octets = octets;
   updates = updates;
+  trailers = trailers;
   interval = fold (λ (i : Option ℕ) (sent : Sent). greatest i (interval_in sent.octets)) None all;
   first = fold (λ (t : Option ℕ) (sent : Sent). least t sent.time) None all;
   last = fold (λ (t : Option ℕ) (sent : Sent). greatest t sent.time) None all;
@@ -63,24 +65,40 @@ octets_in packets = sum_by (λ (sent : Sent). length sent.octets) packets
 abbrev updates_all : List Sent → ℕ
 updates_all packets = sum_by (λ (sent : Sent). updates_in sent.octets) packets
 
-tally-push : (packets : List Sent) (sent : Sent) → tally_for (packets ++ sent ∷ []) ≡ Some (one_more (unwrap_or (tally_for packets) no_packets) sent.time sent.octets)
+abbrev trailers_in : List Sent → ℕ
+trailers_in packets = count_by (λ (sent : Sent). sent.has_trailer) packets
+
+tally-push : (packets : List Sent) (sent : Sent) → tally_for (packets ++ sent ∷ []) ≡ Some (one_more (unwrap_or (tally_for packets) no_packets) sent.time sent.octets sent.has_trailer)
 tally-push [] sent =
     let octets : octets_in (sent ∷ []) ≡ 0 + length sent.octets = omega arith in
     let updates : updates_all (sent ∷ []) ≡ 0 + updates_in sent.octets = omega arith in
-    ap (λ (n : ℕ). tally_with 1 n (updates_all (sent ∷ [])) (sent ∷ [])) octets ∙ ap (λ (n : ℕ). tally_with 1 (0 + length sent.octets) n (sent ∷ [])) updates
+    let trailers : trailers_in (sent ∷ []) ≡ 0 + cond sent.has_trailer 1 0 = count-push (λ (s : Sent). s.has_trailer) [] sent in
+    ap (λ (n : ℕ). tally_with 1 n (updates_all (sent ∷ [])) (trailers_in (sent ∷ [])) (sent ∷ [])) octets
+    ∙ ap (λ (n : ℕ). tally_with 1 (0 + length sent.octets) n (trailers_in (sent ∷ [])) (sent ∷ [])) updates
+    ∙ ap (λ (n : ℕ). tally_with 1 (0 + length sent.octets) (0 + updates_in sent.octets) n (sent ∷ [])) trailers
 tally-push (first ∷ packets) sent =
     let before = first ∷ packets in
     let all = before ++ sent ∷ [] in
     let of : Option ℕ → Option ℕ → Option ℕ → Option Tally = λ i f l.
-    Some (record { packets = length before + 1; octets = octets_in before + length sent.octets; updates = updates_all before + updates_in sent.octets; interval = i; first = f; last = l }) in
+    Some (record {
+      packets = length before + 1;
+      octets = octets_in before + length sent.octets;
+      updates = updates_all before + updates_in sent.octets;
+      trailers = trailers_in before + cond sent.has_trailer 1 0;
+      interval = i;
+      first = f;
+      last = l;
+    }) in
     let interval = fold-append (λ (i : Option ℕ) (s : Sent). greatest i (interval_in s.octets)) None before (sent ∷ []) in
     let earliest = fold-append (λ (t : Option ℕ) (s : Sent). least t s.time) None before (sent ∷ []) in
     let latest = fold-append (λ (t : Option ℕ) (s : Sent). greatest t s.time) None before (sent ∷ []) in
-    ap (λ (n : ℕ). tally_with n (octets_in all) (updates_all all) all) (length-append before (sent ∷ []))
-    ∙ ap (λ (n : ℕ). tally_with (length before + 1) n (updates_all all) all)
+    ap (λ (n : ℕ). tally_with n (octets_in all) (updates_all all) (trailers_in all) all) (length-append before (sent ∷ []))
+    ∙ ap (λ (n : ℕ). tally_with (length before + 1) n (updates_all all) (trailers_in all) all)
     (sum_by-append (λ (s : Sent). length s.octets) before (sent ∷ []) ∙ ap (λ (n : ℕ). octets_in before + n) (omega arith))
-    ∙ ap (λ (n : ℕ). tally_with (length before + 1) (octets_in before + length sent.octets) n all)
+    ∙ ap (λ (n : ℕ). tally_with (length before + 1) (octets_in before + length sent.octets) n (trailers_in all) all)
     (sum_by-append (λ (s : Sent). updates_in s.octets) before (sent ∷ []) ∙ ap (λ (n : ℕ). updates_all before + n) (omega arith))
+    ∙ ap (λ (n : ℕ). tally_with (length before + 1) (octets_in before + length sent.octets) (updates_all before + updates_in sent.octets) n all)
+    (count-push (λ (s : Sent). s.has_trailer) before sent)
     ∙ ap (λ (i : Option ℕ). of i (fold (λ (t : Option ℕ) (s : Sent). least t s.time) None all) (fold (λ (t : Option ℕ) (s : Sent). greatest t s.time) None all)) interval
     ∙ ap (λ (f : Option ℕ). of (greatest (fold (λ (i : Option ℕ) (s : Sent). greatest i (interval_in s.octets)) None before) (interval_in sent.octets)) f
     (fold (λ (t : Option ℕ) (s : Sent). greatest t s.time) None all)) earliest
@@ -104,7 +122,7 @@ unchanged before senders one none are = record {
 
 with_packet : (before : List Made) (senders : Senders) (one : Made) (k : Origin) (sent : Sent)
     → ((origin : Origin) → here origin (time_of one.came) one.what ≡ cond (is_at (origin_cmp origin) k) (sent ∷ []) [])
-    → AreSenders before senders → AreSenders (before ++ one ∷ []) (tallied senders k sent.time sent.octets)
+    → AreSenders before senders → AreSenders (before ++ one ∷ []) (tallied senders k sent.time sent.octets sent.has_trailer)
 with_packet before senders one k sent is are = record {
   in_order = sorted-insert origin_total k after senders are.in_order;
   tallies = λ q. lookup-insert origin_total q k after senders ∙ by q (is_at (origin_cmp k) q) refl ∙ ap tally_for
@@ -112,11 +130,11 @@ with_packet before senders one k sent is are = record {
 }
   where
     after : Tally
-    after = one_more (unwrap_or (tally_of senders k) no_packets) sent.time sent.octets
+    after = one_more (unwrap_or (tally_of senders k) no_packets) sent.time sent.octets sent.has_trailer
 
     by : (q : Origin) (b : Bool) → is_at (origin_cmp k) q ≡ b → cond b (Some after) (tally_of senders q) ≡ tally_for (packets_from q before ++ cond (is_at (origin_cmp q) k) (sent ∷ []) [])
     by q true same =
-        ap (λ (t : Option Tally). Some (one_more (unwrap_or t no_packets) sent.time sent.octets)) (same-tally senders k q same ∙ are.tallies q)
+        ap (λ (t : Option Tally). Some (one_more (unwrap_or t no_packets) sent.time sent.octets sent.has_trailer)) (same-tally senders k q same ∙ are.tallies q)
         ∙ sym (tally-push (packets_from q before) sent)
         ∙ ap (λ (b : Bool). tally_for (packets_from q before ++ cond b (sent ∷ []) [])) (sym (is_at-sym origin_total q k ∙ same))
     by q false apart =
@@ -131,8 +149,8 @@ with_one before senders one untold is are = unchanged before senders one (λ ori
 with_one before senders one (left reason) is are = unchanged before senders one (λ origin. ap (here origin (time_of one.came)) is) are
 with_one before senders one (refused lack) is are = unchanged before senders one (λ origin. ap (here origin (time_of one.came)) is) are
 with_one before senders one (lacked place sender lack) is are = unchanged before senders one (λ origin. ap (here origin (time_of one.came)) is) are
-with_one before senders one (found place sender packet) is are =
-    with_packet before senders one (record { place = place; sender = sender }) (record { time = time_of one.came; octets = packet }) (λ origin. ap (here origin (time_of one.came)) is) are
+with_one before senders one (found place sender packet has_trailer) is are =
+    with_packet before senders one (record { place = place; sender = sender }) (record { time = time_of one.came; octets = packet; has_trailer = has_trailer }) (λ origin. ap (here origin (time_of one.came)) is) are
 
 -- ---- and so with all of them
 

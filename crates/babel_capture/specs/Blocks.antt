@@ -1,7 +1,7 @@
 -- A capture as its blocks, one after another: draft-ietf-opsawg-pcap, 3; draft-ietf-opsawg-pcapng,
 -- 3.1, 3.2.
 use Rattle.std.specs.Prelude.{◌≡◌, ℕ, ◌+◌, ◌<◌, ◌≤◌, max, List, [], ◌∷◌, ◌++◌, length, take, Ok}
-use Rattle.std.specs.Prelude.{◌⊎◌, None}
+use Rattle.std.specs.Prelude.{◌⊎◌, Option, None, Some}
 use Rattle.std.specs.List.{flat_map}
 use Rattle.std.specs.Result.{IsOkAnd}
 use Rattle.babel_capture.specs.declared.layout.Layout.TheVariants as layouts
@@ -12,7 +12,7 @@ use Rattle.babel_capture.specs.Contents.{nothing, block_said, context_after}
 use Rattle.babel_capture.specs.Context.{Before}
 use Rattle.babel_capture.specs.Frame.{frame_sight}
 use Rattle.babel_capture.specs.Lengths.{header_len, block_len}
-use Rattle.babel_capture.specs.Sight.{Sight, other}
+use Rattle.babel_capture.specs.Sight.{Sight, carries, datagram, other}
 use Rattle.babel_capture.specs.Times.{Came, kept, skipped, time_in}
 use Rattle.babel_capture.specs.Window.{Extent}
 
@@ -99,12 +99,21 @@ sight_in packet =
     frame_sight packet.interface packet.link packet.frame (max packet.whole_len (length
     packet.frame))
 
+-- the section of a datagram of Babel that a router may read
+abbrev pub section_with : ℕ → Sight → Option ℕ
+section_with first (datagram place sender (carries payload)) = Some first
+section_with first what = None
+
+-- when the packet came, and in which section, which is seen so
+abbrev pub came_with : Captured → Sight → Came
+came_with packet what = kept (time_in packet.moment) (section_with packet.section what)
+
 abbrev pub sighting_of : ℕ → ℕ → Captured → Sighting
 sighting_of number at packet = record {
   number = number;
   at = at;
   link = packet.link;
-  came = kept (time_in packet.moment);
+  came = came_with packet (sight_in packet);
   what = sight_in packet;
 }
 

@@ -73,7 +73,7 @@ abbrev pub moment_read : State → Option ℕ
 moment_read state =
     let timing : Timing = state.progress.gathering.report.timing in
     if timing.has_untimed then None
-    else moment_up_to state.limit.window state.progress.context.start timing.last
+    else moment_up_to state.limit.window state.progress.context.start timing.latest
 
 -- out of memory, or the fault of the octets
 abbrev pub HasFailed : State → Fault → List ℕ → Type 0

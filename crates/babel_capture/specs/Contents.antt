@@ -30,11 +30,12 @@ use Rattle.babel_capture.specs.Options.{Options, all_options}
 use Rattle.babel_capture.specs.Times.{moment_in, time_asked, time_in}
 use Rattle.babel_capture.specs.Window.{is_between}
 
--- a captured packet: the number of its interface, the interface's link type, when it came in
--- nanoseconds since the start of 1970, where its block has a time, the octets kept, and how many it
--- had
+-- a captured packet: the number of its interface, and of its section's first one, the interface's
+-- link type, when it came in nanoseconds since the start of 1970, where its block has a time, the
+-- octets kept, and how many it had
 pub record Captured : Type 0 where
   pub interface : ℕ
+  pub section : ℕ
   pub link : Link
   pub moment : Option ℤ
   pub frame : List ℕ
@@ -96,6 +97,7 @@ holds_by before at interface number moment frame whole None = Err (faults.Unread
 holds_by before at interface number moment frame whole (Some link) =
     read_by before.window before.start at (record {
       interface = interface;
+      section = before.first;
       link = link;
       moment = moment;
       frame = frame;
@@ -278,6 +280,7 @@ block_said before at block = layout_said before.layout before at block
 abbrev pub captured_of : Packet → Captured
 captured_of packet = record {
   interface = packet.interface;
+  section = packet.section;
   link = packet.link;
   moment = moment_in packet.clock packet.stamp;
   frame = packet.frame.now;

@@ -1,11 +1,12 @@
 -- The counts of packets, one more at a time.
-use Rattle.std.specs.Prelude.{ℕ, ◌+◌, if◌then◌else◌, List, slice_set, Option, None, Some}
+use Rattle.std.specs.Prelude.{ℕ, ◌+◌, Bool, if◌then◌else◌, List, slice_set, Option, None, Some}
 use Rattle.babel_capture.specs.declared.link.Link.{Link}
 use Rattle.babel_capture.specs.declared.reason.Reason.{Reason}
 use Rattle.babel_capture.specs.Findings.{Found, passed, untold, left, refused, lacked, found}
 use Rattle.babel_capture.specs.Counts.{Counts, reason_place, count_at, is_cooked_link}
+use Rattle.babel_capture.specs.Sections.{sectioned, with_section}
 use Rattle.babel_capture.specs.Times.{Came}
-use Rattle.babel_capture.specs.Timing.{greatest, timed}
+use Rattle.babel_capture.specs.Timing.{greatest, timed, with_time}
 use Rattle.babel_capture.specs.Updates.{interval_in}
 
 -- one more datagram left out, with this number
@@ -26,6 +27,8 @@ counted_with counts reason =
       left_out = left_with counts.left_out reason (counts.packets + 1);
       short = counts.short;
       cooked = counts.cooked;
+      trailers = counts.trailers;
+      sections = counts.sections;
       timing = counts.timing;
       interval = counts.interval;
     }
@@ -34,11 +37,13 @@ counted_with counts reason =
 abbrev pub short_counted : Counts → Counts
 short_counted counts = record (counted_with counts None) { short = counts.short + 1 }
 
--- the counts with a Babel packet more, in a frame of this link type, with this Interval
-abbrev pub packet_counted : Counts → Link → Option ℕ → Counts
-packet_counted counts link interval =
+-- the counts with a Babel packet more, in a frame of this link type, with this Interval, and whether
+-- octets come after its body
+abbrev pub packet_counted : Counts → Link → Option ℕ → (has_trailer : Bool) → Counts
+packet_counted counts link interval has_trailer =
     record (counted_with counts None) {
       cooked = counts.cooked + (if is_cooked_link link then 1 else 0);
+      trailers = counts.trailers + (if has_trailer then 1 else 0);
       interval = greatest counts.interval interval;
     }
 
@@ -49,9 +54,21 @@ counted counts link untold = short_counted counts
 counted counts link (left reason) = counted_with counts (Some reason)
 counted counts link (refused lack) = counted_with counts None
 counted counts link (lacked place sender lack) = counted_with counts None
-counted counts link (found place sender packet) = packet_counted counts link (interval_in packet)
+counted counts link (found place sender packet has_trailer) =
+    packet_counted counts link (interval_in packet) has_trailer
 
--- the counts with the time of the next packet
+-- the counts with the time of the next packet, which is not skipped, and with its section
+abbrev pub counted_then : Counts → Option ℕ → Counts
+counted_then counts time =
+    record counts { timing = with_time counts.timing (counts.packets + 1) time }
+
+abbrev pub counted_in : Counts → Option ℕ → Counts
+counted_in counts section =
+    record counts { sections = with_section counts.sections section }
+
+-- with both
 abbrev pub counted_at : Counts → Came → Counts
-counted_at counts came =
-    record counts { timing = timed counts.timing (counts.packets + 1) came }
+counted_at counts came = record counts {
+  timing = timed counts.timing (counts.packets + 1) came;
+  sections = sectioned counts.sections came;
+}

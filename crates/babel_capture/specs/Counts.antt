@@ -7,13 +7,16 @@ use Rattle.babel_capture.specs.declared.link.Link.{Link}
 use Rattle.babel_capture.specs.declared.link.Link.TheVariants as links
 use Rattle.babel_capture.specs.declared.reason.Reason.{Reason}
 use Rattle.babel_capture.specs.declared.reason.Reason.TheVariants as reasons
+use Rattle.babel_capture.specs.declared.sections.Sections.{Sections}
 use Rattle.babel_capture.specs.declared.timing.Timing.{Timing}
 use Rattle.babel_capture.specs.Findings.{Found, passed, untold, left, refused, lacked, found}
+use Rattle.babel_capture.specs.Sections.{no_sections, sectioned}
 use Rattle.babel_capture.specs.Times.{Came}
 use Rattle.babel_capture.specs.Timing.{greatest, no_times, timed}
 use Rattle.babel_capture.specs.Updates.{interval_in}
 
--- what is made of a packet, its number among the packets, from 1, its link type, and when it came
+-- what is made of a packet, its number among the packets, from 1, its link type, and when and where
+-- it came
 pub record Made : Type 0 where
   pub number : ℕ
   pub link : Link
@@ -22,13 +25,16 @@ pub record Made : Type 0 where
 
 -- how many packets there are, and for each reason, in the order of the reasons, how many datagrams
 -- were left out for it and the number of the first; how many frames were too short to tell; how
--- many Babel packets came in frames of Linux cooked, version 1, which name no interface; the times
--- of the packets; and the greatest Interval of the Updates that announce
+-- many Babel packets came in frames of Linux cooked, version 1, which name no interface, and how
+-- many have octets after the body; in how many sections datagrams of Babel came; the times of the
+-- packets; and the greatest Interval of the Updates that announce
 pub record Counts : Type 0 where
   pub packets : ℕ
   pub left_out : List (Option (ℕ × ℕ))
   pub short : ℕ
   pub cooked : ℕ
+  pub trailers : ℕ
+  pub sections : Sections
   pub timing : Timing
   pub interval : Option ℕ
 
@@ -72,8 +78,16 @@ is_cooked_link links.Cooked = true
 is_cooked_link link = false
 
 abbrev pub is_cooked : Link → Found → Bool
-is_cooked link (found place sender packet) = is_cooked_link link
+is_cooked link (found place sender packet has_trailer) = is_cooked_link link
 is_cooked link what = false
+
+-- a Babel packet was found, and octets come after its body
+abbrev pub has_trailer : Found → Bool
+has_trailer (found place sender packet trails) = trails
+has_trailer what = false
+
+abbrev pub sections_of : List Made → Sections
+sections_of made = fold (λ sections one. sectioned sections one.came) no_sections made
 
 abbrev pub timing_of : List Made → Timing
 timing_of made = fold (λ timing one. timed timing one.number one.came) no_times made
@@ -85,7 +99,7 @@ interval_found untold = None
 interval_found (left reason) = None
 interval_found (refused lack) = None
 interval_found (lacked place sender lack) = None
-interval_found (found place sender packet) = interval_in packet
+interval_found (found place sender packet has_trailer) = interval_in packet
 
 abbrev pub interval_made : List Made → Option ℕ
 interval_made made = fold (λ interval one. greatest interval (interval_found one.what)) None made
@@ -96,6 +110,8 @@ counts_of made = record {
   left_out = map (left_for made) all_reasons;
   short = count_by (λ one. is_short one.what) made;
   cooked = count_by (λ one. is_cooked one.link one.what) made;
+  trailers = count_by (λ one. has_trailer one.what) made;
+  sections = sections_of made;
   timing = timing_of made;
   interval = interval_made made;
 }

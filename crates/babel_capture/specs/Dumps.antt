@@ -64,7 +64,7 @@ timed_found time untold = []
 timed_found time (left reason) = []
 timed_found time (refused lack) = []
 timed_found time (lacked place sender lack) = []
-timed_found time (found place sender packet) = (unwrap_or time 0, packet) ∷ []
+timed_found time (found place sender packet has_trailer) = (unwrap_or time 0, packet) ∷ []
 
 -- with what was made of the packet of the capture with this number, which came then, if the dump of
 -- each is wanted
@@ -76,7 +76,7 @@ dumps_by dumps number time (refused lack) = dumps
 dumps_by dumps number time (lacked place sender lack) =
     dump_added dumps (record { place = place; sender = sender }) []
     (Some (record { packet = number; lack = lack }))
-dumps_by dumps number time (found place sender packet) =
+dumps_by dumps number time (found place sender packet has_trailer) =
     dump_added dumps (record { place = place; sender = sender })
     ((unwrap_or time 0, packet) ∷ []) None
 

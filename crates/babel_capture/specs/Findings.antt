@@ -1,7 +1,7 @@
 -- What is made of the packets of a capture. It is this project's own, but for what a Babel packet
 -- is: RFC 8966, 4.2.
 use Rattle.std.specs.Prelude.{◌≡◌, ◌≢◌, ℕ, ◌<◌, Bool, true, false, List, length, slice_index}
-use Rattle.std.specs.Prelude.{Option, Some, None, ◌⊎◌}
+use Rattle.std.specs.Prelude.{Option, Some, None, ◌⊎◌, nat_lt}
 use Rattle.babel_prefix.specs.Address.{Address}
 use Rattle.babel_tlv.specs.Framing.{framed}
 use Rattle.babel_tlv.specs.FrameFaults.{BeginsPacket, HasHeader, LacksBody}
@@ -19,14 +19,14 @@ use Rattle.babel_capture.specs.Sight.{other_port, not_link_local, lacking, carri
 
 -- nothing; a frame that is too short to tell; a datagram left out, for a reason; one that is
 -- refused, for what it lacks; one that the dump of its sender at its place lacks; or a Babel
--- packet, of a sender at a place
+-- packet, of a sender at a place, and whether octets come after its body
 pub data Found : Type 0 where
   passed : Found
   untold : Found
   left : (reason : Reason) → Found
   refused : (lack : Lack) → Found
   lacked : (place : Place) (sender : Address) (lack : Lack) → Found
-  found : (place : Place) (sender : Address) (packet : List ℕ) → Found
+  found : (place : Place) (sender : Address) (packet : List ℕ) (has_trailer : Bool) → Found
 
 -- what the code makes of a packet
 abbrev pub finding_of : Finding → Found
@@ -35,7 +35,8 @@ finding_of findings.Short = untold
 finding_of (findings.Left reason) = left reason
 finding_of (findings.Refused lack) = refused lack
 finding_of (findings.Lacking place sender lack) = lacked place sender lack
-finding_of (findings.Packet place sender packet) = found place sender packet.now
+finding_of (findings.Packet place sender packet has_trailer) =
+    found place sender packet.now has_trailer
 
 -- it is this one, if one is named
 abbrev pub IsOrAny : {A : Type 0} → Option A → A → Type 0
@@ -61,11 +62,13 @@ is_in_turn (wanteds.InTurn sender place) = true
 abbrev pub Either : Type 0 → Type 0 → Type 0 → Type 0
 Either holds met unmet = (holds × met) ⊎ ((¬ holds) × unmet)
 
--- RFC 8966, 4.2: the payload begins with a packet, which is found without what comes after it; or
+-- RFC 8966, 4.2: the payload begins with a packet, which is found without what comes after it, as
+-- the trailer of RFC 8967, 3; or
 -- it is left out, being shorter than its header says, or for its magic or its version
 abbrev pub PayloadIs : Place → Address → List ℕ → Found → Type 0
 PayloadIs place sender payload what =
-    ((body : List ℕ) × BeginsPacket payload body × (what ≡ found place sender (framed body)))
+    ((body : List ℕ) × BeginsPacket payload body × (what
+    ≡ found place sender (framed body) (nat_lt (length (framed body)) (length payload))))
     ⊎ (((length payload < 4) ⊎ LacksBody payload) × (what ≡ left reasons.Truncated))
     ⊎ (HasHeader payload × (slice_index payload 0 ≢ 42) × (what ≡ left reasons.BadMagic))
     ⊎ (HasHeader payload × (slice_index payload 0 ≡ 42) × (slice_index payload 1 ≢ 2)

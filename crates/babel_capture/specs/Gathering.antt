@@ -1,6 +1,6 @@
 -- What is gathered of the packets of a capture.
 use Rattle.std.specs.Prelude.{◌≡◌, ◌≤◌, ℕ, List, [], ◌∷◌, ◌++◌, ◌⊎◌, length, slice_get}
-use Rattle.std.specs.Prelude.{IsTrue, Option, None, Some, true, false}
+use Rattle.std.specs.Prelude.{Bool, IsTrue, Option, None, Some, true, false}
 use Rattle.std.specs.List.{flat_map}
 use Rattle.std.specs.Option.{unwrap_or}
 use Rattle.babel_capture.specs.declared.fault.Fault.{Fault}
@@ -27,7 +27,7 @@ IsTaken untold = Unit {0}
 IsTaken (left reason) = Unit {0}
 IsTaken (refused lack) = ⊥
 IsTaken (lacked place sender lack) = Unit {0}
-IsTaken (found place sender packet) = Unit {0}
+IsTaken (found place sender packet has_trailer) = Unit {0}
 
 -- What is made of each packet. No datagram of a sender whose dump alone is wanted lacks something.
 abbrev pub AreMade : Wanted → List Sighting → List Made → Type 0
@@ -50,7 +50,7 @@ octets_found untold = []
 octets_found (left reason) = []
 octets_found (refused lack) = []
 octets_found (lacked place sender lack) = []
-octets_found (found place sender packet) = packet
+octets_found (found place sender packet has_trailer) = packet
 
 -- whose packet it is
 abbrev pub origin_found : Found → Option Origin
@@ -59,7 +59,7 @@ origin_found untold = None
 origin_found (left reason) = None
 origin_found (refused lack) = None
 origin_found (lacked place sender lack) = None
-origin_found (found place sender packet) = Some (record { place = place; sender = sender })
+origin_found (found place sender packet has_trailer) = Some (record { place = place; sender = sender })
 
 -- the one dump that is wanted, of a sender or in turn: packets, end to end
 abbrev pub dump_of : Wanted → List Made → List ℕ
@@ -121,7 +121,8 @@ abbrev pub IsRefusedPacket : Wanted → Senders → ℕ → Captured → Fault �
 IsRefusedPacket wanted senders at packet fault =
     ((lack : Lack) × (fault ≡ lack_fault at lack) × Finds wanted (sight_in packet) (refused lack))
     ⊎ ((fault ≡ faults.TooManySenders at) × ((origin : Origin) × (octets : List ℕ)
-    × Finds wanted (sight_in packet) (found origin.place origin.sender octets)
+    × (has_trailer : Bool)
+    × Finds wanted (sight_in packet) (found origin.place origin.sender octets has_trailer)
     × IsOneTooMany senders origin))
 
 -- the block at this offset holds a packet that is refused
@@ -131,12 +132,12 @@ IsRefused wanted senders at content fault = ⊥
 
 -- memory is needed for a packet that is found: it is added to a dump, if one is wanted, or its
 -- sender is listed
-abbrev pub PacketNeedsMemory : Wanted → Senders → Origin → List ℕ → Type 0
-PacketNeedsMemory wanteds.Everyone senders origin packet =
-    CountNeedsMemory (tally_of senders origin) packet
-PacketNeedsMemory wanteds.Each senders origin packet = Unit {0}
-PacketNeedsMemory (wanteds.Sender sender place ends) senders origin packet = Unit {0}
-PacketNeedsMemory (wanteds.InTurn sender place) senders origin packet = Unit {0}
+abbrev pub PacketNeedsMemory : Wanted → Senders → Origin → List ℕ → (has_trailer : Bool) → Type 0
+PacketNeedsMemory wanteds.Everyone senders origin packet has_trailer =
+    CountNeedsMemory (tally_of senders origin) packet has_trailer
+PacketNeedsMemory wanteds.Each senders origin packet has_trailer = Unit {0}
+PacketNeedsMemory (wanteds.Sender sender place ends) senders origin packet has_trailer = Unit {0}
+PacketNeedsMemory (wanteds.InTurn sender place) senders origin packet has_trailer = Unit {0}
 
 -- and for a block: it describes an interface, or holds such a packet, or what a dump lacks, of
 -- each, or is told in turn
@@ -145,9 +146,9 @@ BlockNeedsMemory wanted senders (file order interface) = Unit {0}
 BlockNeedsMemory wanted senders (section order) = ⊥
 BlockNeedsMemory wanted senders (describes interface name) = Unit {0}
 BlockNeedsMemory wanted senders (holds packet) =
-    ((origin : Origin) × (octets : List ℕ)
-    × Finds wanted (sight_in packet) (found origin.place origin.sender octets)
-    × PacketNeedsMemory wanted senders origin octets)
+    ((origin : Origin) × (octets : List ℕ) × (has_trailer : Bool)
+    × Finds wanted (sight_in packet) (found origin.place origin.sender octets has_trailer)
+    × PacketNeedsMemory wanted senders origin octets has_trailer)
     ⊎ ((origin : Origin) × (lack : Lack)
     × Finds wanted (sight_in packet) (lacked origin.place origin.sender lack))
     ⊎ IsTrue (is_in_turn wanted)

@@ -1,6 +1,6 @@
 -- How long the blocks of a capture are: draft-ietf-opsawg-pcap, 4 and 5; draft-ietf-opsawg-pcapng,
 -- 3.1 and 4.1. A record of a pcap file counts as a block, and so does its header.
-use Rattle.std.specs.Prelude.{ℕ, ◌+◌, ◌-◌, ◌%◌, Bool, ◌==◌, ◌||◌, nat_lt, if◌then◌else◌, List}
+use Rattle.std.specs.Prelude.{ℕ, ◌+◌, ◌-◌, ◌%◌, Bool, ◌==◌, ◌&&◌, ◌||◌, nat_lt, if◌then◌else◌, List}
 use Rattle.std.specs.Prelude.{Option, Some, None, Result, Ok, Err}
 use Rattle.babel_capture.specs.declared.layout.Layout.{Layout}
 use Rattle.babel_capture.specs.declared.layout.Layout.TheVariants as layouts
@@ -52,11 +52,13 @@ abbrev pub section_len : ℕ → List ℕ → Result ℕ Fault
 section_len at header = total_in at header (section_order at header)
 
 -- draft-ietf-opsawg-pcap, 5: 16 octets and the captured length, which is at 8; over 262,144 are not
--- read
+-- read. That one of no octets is no packet where that had none, by the length at 12, is this
+-- project's own: it is what a full disk leaves.
 abbrev pub record_len : Order → ℕ → List ℕ → Result ℕ Fault
 record_len order at header =
     let captured : ℕ = number_at order 4 header 8 in
-    if nat_lt 262144 captured then Err (faults.BadLength at) else Ok (16 + captured)
+    if nat_lt 262144 captured || (captured == 0 && number_at order 4 header 12 == 0)
+    then Err (faults.BadLength at) else Ok (16 + captured)
 
 -- draft-ietf-opsawg-pcap, 4; draft-ietf-opsawg-pcapng, 4.1: the first block, by its magic number
 abbrev pub first_len : ℕ → List ℕ → Option Order → Result ℕ Fault

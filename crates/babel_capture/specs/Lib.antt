@@ -34,6 +34,7 @@ pub mod PcapFiles
 pub mod PcapngFiles
 pub mod Place
 pub mod Reading
+pub mod Sections
 pub mod Senders
 pub mod Sight
 pub mod Tallies

@@ -54,12 +54,13 @@ header_octets pcap =
 abbrev pub pcap_octets : PcapFile → List ℕ
 pcap_octets pcap = header_octets pcap ++ flat_map (record_octets pcap.order) pcap.records
 
--- numbers fit their fields, and a packet has at most 262,144 octets
+-- numbers fit their fields, a packet had octets, and at most 262,144 of them are kept
 pub record IsPcapRecord (packet : PcapRecord) : Type 0 where
   pub seconds_fit : packet.seconds < 2 ^ 32
   pub fraction_fits : packet.fraction < 2 ^ 32
   pub len_fits : packet.whole_len < 2 ^ 32
   pub few : length packet.frame ≤ 262144
+  pub some : 0 < length packet.frame + packet.whole_len
 
 -- the magic number is that of microseconds or of nanoseconds; numbers fit their fields; and the
 -- link type is one that is read
@@ -81,6 +82,7 @@ record_moment magic packet =
 abbrev pub packets_in : PcapFile → Link → List Captured
 packets_in pcap link = map (λ packet. record {
   interface = 0;
+  section = 0;
   link = link;
   moment = Some (record_moment pcap.magic packet);
   frame = packet.frame;

@@ -98,9 +98,10 @@ pub record IsSection (order : Order) (head : SectionHeader) : Type 0 where
   pub len_sized : length head.len ≡ 8
   pub fits : Fits (section_body order head)
 
-abbrev pub packet_at : ℕ → Link → Option ℤ → List ℕ → ℕ → Captured
-packet_at number link moment frame whole = record {
+abbrev pub packet_at : (first number : ℕ) → Link → Option ℤ → List ℕ → ℕ → Captured
+packet_at first number link moment frame whole = record {
   interface = number;
+  section = first;
   link = link;
   moment = moment;
   frame = frame;
@@ -113,7 +114,7 @@ halves high low = Some (record { seconds = 0; units = high * 2 ^ 32 + low })
 
 -- the first packet is this one, of an interface that was described and a link type that is read,
 -- and its time is counted as that interface's are
-pub record IsPacket (interfaces : List Interface) (number : ℕ) (stamp : Option Stamp)
+pub record IsPacket (first : ℕ) (interfaces : List Interface) (number : ℕ) (stamp : Option Stamp)
     (whole_len : ℕ) (frame : List ℕ) (packets later : List Captured) : Type 0 where
   pub len_fits : whole_len < 2 ^ 32
   pub interface : Interface
@@ -121,7 +122,7 @@ pub record IsPacket (interfaces : List Interface) (number : ℕ) (stamp : Option
   pub link : Link
   pub is_link : link_of interface.link ≡ Some link
   pub is_packet : packets
-      ≡ packet_at number link (moment_in interface.clock stamp) frame whole_len ∷ later
+      ≡ packet_at first number link (moment_in interface.clock stamp) frame whole_len ∷ later
 
 abbrev pub interface_of : ℕ → ℕ → Options → Interface
 interface_of link_number snap_len options =
@@ -144,17 +145,17 @@ Hold order first interfaces (described link_number reserved snap_len options ∷
 Hold order first interfaces (enhanced number high low whole_len frame more ∷ blocks) packets =
     Fits (body_of order (enhanced number high low whole_len frame more)) × (number < 2 ^ 32)
     × (high < 2 ^ 32) × (low < 2 ^ 32) × ((later : List Captured)
-    × IsPacket interfaces (first + number) (halves high low) whole_len frame packets later
+    × IsPacket first interfaces (first + number) (halves high low) whole_len frame packets later
     × Hold order first interfaces blocks later)
 Hold order first interfaces (old number drops high low whole_len frame more ∷ blocks) packets =
     Fits (body_of order (old number drops high low whole_len frame more)) × (number < 2 ^ 16)
     × (high < 2 ^ 32) × (low < 2 ^ 32) × ((later : List Captured)
-    × IsPacket interfaces (first + number) (halves high low) whole_len frame packets later
+    × IsPacket first interfaces (first + number) (halves high low) whole_len frame packets later
     × Hold order first interfaces blocks later)
 Hold order first interfaces (simple whole_len frame padding ∷ blocks) packets =
     Fits (body_of order (simple whole_len frame padding))
     × ((later : List Captured)
-    × (is : IsPacket interfaces first None whole_len frame packets later)
+    × (is : IsPacket first interfaces first None whole_len frame packets later)
     × (length frame ≡ kept_len is.interface.snap_len whole_len)
     × Hold order first interfaces blocks later)
 Hold order first interfaces (another kind body ∷ blocks) packets =

@@ -1,5 +1,5 @@
 -- The senders of a capture, as what has to hold of them. It is this project's own.
-use Rattle.std.specs.Prelude.{◌≡◌, ℕ, Bool, false, List, [], ◌∷◌, length, map, fold, sum_by}
+use Rattle.std.specs.Prelude.{◌≡◌, ℕ, Bool, false, List, [], ◌∷◌, length, map, fold, sum_by, count_by}
 use Rattle.std.specs.Prelude.{Option, None, Some}
 use Rattle.std.specs.List.{filter}
 use Rattle.std.specs.List.Sorted.{IsStrictlySortedBy}
@@ -7,7 +7,7 @@ use Rattle.std.specs.BTreeMap.{is_at}
 use Rattle.std.specs.Map.{keys_of}
 use Rattle.babel_capture.specs.declared.tallies.Origin.{Origin}
 use Rattle.babel_capture.specs.declared.tallies.Tally.{Tally}
-use Rattle.babel_capture.specs.Counts.{Made}
+use Rattle.babel_capture.specs.Counts.{Made, has_trailer}
 use Rattle.babel_capture.specs.Findings.{Found, passed, untold, left, refused, lacked, found}
 use Rattle.babel_capture.specs.Gathering.{octets_found}
 use Rattle.babel_capture.specs.Times.{time_of}
@@ -22,29 +22,36 @@ is_from origin untold = false
 is_from origin (left reason) = false
 is_from origin (refused lack) = false
 is_from origin (lacked place sender lack) = false
-is_from origin (found place sender packet) =
+is_from origin (found place sender packet has_trailer) =
     is_at (origin_cmp origin) (record { place = place; sender = sender })
 
--- a packet, and when it came
+-- a packet, when it came, and whether octets come after its body
 pub record Sent : Type 0 where
   pub time : Option ℕ
   pub octets : List ℕ
+  pub has_trailer : Bool
 
 -- its packets, in order
 abbrev pub sent_of : Made → Sent
-sent_of one = record { time = time_of one.came; octets = octets_found one.what }
+sent_of one = record {
+  time = time_of one.came;
+  octets = octets_found one.what;
+  has_trailer = has_trailer one.what;
+}
 
 abbrev pub packets_from : Origin → List Made → List Sent
 packets_from origin made = map sent_of (filter (λ one. is_from origin one.what) made)
 
--- how many packets these are, of how many octets and with how many Updates in all, the greatest
--- Interval of these, and the earliest and the latest time; nothing where there are no packets
+-- how many packets these are, of how many octets and with how many Updates in all, how many have
+-- octets after the body, the greatest Interval of the Updates, and the earliest and the latest time;
+-- nothing where there are no packets
 abbrev pub tally_for : List Sent → Option Tally
 tally_for [] = None
 tally_for (packet ∷ packets) = Some (record {
   packets = length (packet ∷ packets);
   octets = sum_by (λ sent. length sent.octets) (packet ∷ packets);
   updates = sum_by (λ sent. updates_in sent.octets) (packet ∷ packets);
+  trailers = count_by (λ sent. sent.has_trailer) (packet ∷ packets);
   interval = fold (λ i sent. greatest i (interval_in sent.octets)) None (packet ∷ packets);
   first = fold (λ t sent. least t sent.time) None (packet ∷ packets);
   last = fold (λ t sent. greatest t sent.time) None (packet ∷ packets);

@@ -1,7 +1,7 @@
--- How many packets of Babel each sender sent, of how many octets, with how many Updates, when, and
--- at which Interval. It is this project's own.
+-- How many packets of Babel each sender sent, of how many octets, with how many Updates, how many
+-- with octets after the body, when, and at which Interval. It is this project's own.
 use Rattle.std.specs.Prelude.{◌≡◌, ◌≤◌, ◌+◌, ◌^◌, ◌⊎◌, ℕ, List, [], length, fold, Option, None}
-use Rattle.std.specs.Prelude.{Some}
+use Rattle.std.specs.Prelude.{Bool, Some, if◌then◌else◌}
 use Rattle.std.specs.declared.cmp.Ordering.{Ordering}
 use Rattle.std.specs.Ordering.{on, then_cmp, nat_cmp}
 use Rattle.std.specs.BTreeMap.{insert_entry, is_at}
@@ -47,40 +47,43 @@ no_packets = record {
   packets = 0;
   octets = 0;
   updates = 0;
+  trailers = 0;
   interval = None;
   first = None;
   last = None;
 }
 
--- one packet more, which came then
-abbrev pub one_more : Tally → Option ℕ → List ℕ → Tally
-one_more tally time packet = record {
+-- one packet more, which came then, and whether octets come after its body
+abbrev pub one_more : Tally → Option ℕ → List ℕ → (has_trailer : Bool) → Tally
+one_more tally time packet has_trailer = record {
   packets = tally.packets + 1;
   octets = tally.octets + length packet;
   updates = tally.updates + updates_in packet;
+  trailers = tally.trailers + (if has_trailer then 1 else 0);
   interval = greatest tally.interval (interval_in packet);
   first = least tally.first time;
   last = greatest tally.last time;
 }
 
 -- one packet more makes a number that has more than 64 bits
-abbrev pub Overflows : Tally → List ℕ → Type 0
-Overflows tally packet =
+abbrev pub Overflows : Tally → List ℕ → (has_trailer : Bool) → Type 0
+Overflows tally packet has_trailer =
     (2 ^ 64 ≤ tally.packets + 1)
     ⊎ (2 ^ 64 ≤ tally.octets + length packet)
     ⊎ (2 ^ 64 ≤ tally.updates + updates_in packet)
+    ⊎ (2 ^ 64 ≤ tally.trailers + (if has_trailer then 1 else 0))
 
 -- memory is needed to count a packet of a sender that is not listed yet, or where a number
 -- overflows
-abbrev pub CountNeedsMemory : Option Tally → List ℕ → Type 0
-CountNeedsMemory None packet = Unit {0}
-CountNeedsMemory (Some tally) packet = Overflows tally packet
+abbrev pub CountNeedsMemory : Option Tally → List ℕ → (has_trailer : Bool) → Type 0
+CountNeedsMemory None packet has_trailer = Unit {0}
+CountNeedsMemory (Some tally) packet has_trailer = Overflows tally packet has_trailer
 
 -- with a packet of this sender, which came then
-abbrev pub tallied : Senders → Origin → Option ℕ → List ℕ → Senders
-tallied senders origin time packet =
+abbrev pub tallied : Senders → Origin → Option ℕ → List ℕ → (has_trailer : Bool) → Senders
+tallied senders origin time packet has_trailer =
     let before : Tally = unwrap_or (tally_of senders origin) no_packets in
-    insert_entry origin_cmp senders origin (one_more before time packet)
+    insert_entry origin_cmp senders origin (one_more before time packet has_trailer)
 
 -- with what was made of one packet of the capture, which came then
 abbrev pub senders_with : Senders → Option ℕ → Found → Senders
@@ -89,8 +92,8 @@ senders_with senders time untold = senders
 senders_with senders time (left reason) = senders
 senders_with senders time (refused lack) = senders
 senders_with senders time (lacked place sender lack) = senders
-senders_with senders time (found place sender packet) =
-    tallied senders (record { place = place; sender = sender }) time packet
+senders_with senders time (found place sender packet has_trailer) =
+    tallied senders (record { place = place; sender = sender }) time packet has_trailer
 
 -- each sender at each place of which a packet was found, by place, then by address
 abbrev pub senders_of : List Made → Senders

@@ -21,23 +21,25 @@ no_times = record {
   has_untimed = false;
   earliest = None;
   latest = None;
-  last = None;
   backwards = None;
 }
 
--- the packet with this number came then, which is before the last one of those that have a time
+-- the packet with this number came then, which is before the latest of those before it
 abbrev pub backwards_at : ℕ → ℕ → Option ℕ → Option ℕ
 backwards_at number time None = None
-backwards_at number time (Some last) = if nat_lt time last then Some number else None
+backwards_at number time (Some latest) = if nat_lt time latest then Some number else None
 
--- with one packet more, which has this number; one that is skipped does not count
-abbrev pub timed : Timing → ℕ → Came → Timing
-timed timing number skipped = timing
-timed timing number (kept None) = record timing { has_untimed = true }
-timed timing number (kept (Some time)) = record {
+-- with one packet more, which has this number and came then
+abbrev pub with_time : Timing → ℕ → Option ℕ → Timing
+with_time timing number None = record timing { has_untimed = true }
+with_time timing number (Some time) = record {
   has_untimed = timing.has_untimed;
   earliest = least timing.earliest (Some time);
   latest = greatest timing.latest (Some time);
-  last = Some time;
-  backwards = option_or timing.backwards (backwards_at number time timing.last);
+  backwards = option_or timing.backwards (backwards_at number time timing.latest);
 }
+
+-- one that is skipped does not count
+abbrev pub timed : Timing → ℕ → Came → Timing
+timed timing number skipped = timing
+timed timing number (kept time section) = with_time timing number time

@@ -22,13 +22,13 @@ moment_from first (moments.At time) = time
 moment_from first (moments.After seconds nanoseconds) =
     first + (seconds * 1000000000 + nanoseconds)
 
--- The moment up to which packets are read, of a capture whose first packet came at `start`, and the
--- last one, by place, at `last`: that of the window, if it names one.
-abbrev pub moment_up_to : Window → (start last : Option ℕ) → Option ℕ
-moment_up_to (windows.Between since (Some until)) start last =
+-- The moment up to which packets are read, of a capture whose first packet came at `start`, and of
+-- which the latest time that was read is `latest`: that of the window, if it names one.
+abbrev pub moment_up_to : Window → (start latest : Option ℕ) → Option ℕ
+moment_up_to (windows.Between since (Some until)) start latest =
     option_map (λ first. moment_from first until) start
-moment_up_to (windows.Between since None) start last = last
-moment_up_to windows.Whole start last = last
+moment_up_to (windows.Between since None) start latest = latest
+moment_up_to windows.Whole start latest = latest
 
 -- a packet of such a capture came neither before the one moment nor after the other
 abbrev pub is_since : ℕ → ℕ → Option Moment → Bool

@@ -1,5 +1,6 @@
 ghost use Rattle.std.specs.Prelude.{◌≡◌, ◌≤◌, ◌<◌, ◌+◌, ◌^◌, length, ◌-◌, ◌==◌, IfOk, IfErr, Ok};
 ghost use Rattle.std.specs.Prelude.{Err};
+ghost use Rattle.babel_capture.specs.Blocks.{section_with, sight_in};
 ghost use Rattle.babel_capture.specs.Numbers.{number_at};
 ghost use Rattle.babel_capture.specs.Lengths.{header_len};
 ghost use Rattle.babel_capture.specs.Contents.{block_said, captured_of, content_of, file_said};
@@ -9,15 +10,18 @@ ghost use Rattle.babel_capture.specs.Contents.{record_said, record_stamp, sectio
 ghost use Rattle.babel_capture.specs.Contents.{simple_said, typed_said, versioned_said};
 ghost use Rattle.babel_capture.specs.Times.{time_asked, time_in};
 ghost use Rattle.babel_capture.specs.PacketEnds.{is_packet, time_told};
+ghost use Rattle.babel_capture.specs.Sight.{sight_of};
 
 use crate::clock::{Clock, Resolution, Stamp};
 use crate::context::Context;
 use crate::fault::Fault;
+use crate::frame::look;
 use crate::layout::{Interface, Layout};
 use crate::length::{PCAP_NANOSECONDS, SECTION, pcap_order, section_order};
 use crate::link::Link;
 use crate::options::read_options;
 use crate::order::Order;
+use crate::seen::Seen;
 use crate::time::Time;
 use crate::window::{Window, is_between};
 
@@ -52,6 +56,8 @@ const NANOSECONDS: Resolution = Resolution::Ten(9);
 pub struct Packet<'a> {
     /// The number of its interface in the capture.
     pub interface: u64,
+    /// The number of its section's first interface.
+    pub section: u64,
     /// The interface's link type.
     pub link: Link,
     /// How the interface's times are counted.
@@ -64,7 +70,24 @@ pub struct Packet<'a> {
     pub whole_len: u32,
 }
 
-impl Packet<'_> {
+impl<'a> Packet<'a> {
+    /// What its frame is.
+    pub(crate) fn look(&self) -> Seen<'a>
+        ensures { sight_of result ≡ sight_in (captured_of self.now) }
+    {
+        look(self.interface, self.link, self.frame, self.whole_len)
+    }
+
+    /// The section where it came, if it is seen as a datagram of Babel.
+    pub(crate) fn babel_section(&self, seen: &Seen<'_>) -> Option<u64>
+        ensures { result ≡ section_with (captured_of self.now).section (sight_of seen.now) }
+    {
+        match seen {
+            Seen::Datagram { .. } => Some(self.section),
+            Seen::Other | Seen::Short | Seen::Flawed { .. } => None,
+        }
+    }
+
     /// When it came; `None` where its block has no time, or one before 1970 or after the year 9999.
     pub fn time(&self) -> Option<Time>
         ensures { result ≡ time_in (captured_of self.now).moment }
@@ -161,6 +184,7 @@ fn read_packet<'a>(
     };
     let packet = Packet {
         interface: interface as u64,
+        section: before.first() as u64,
         link,
         clock: described.clock,
         stamp,

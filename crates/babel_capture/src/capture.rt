@@ -11,6 +11,7 @@ use crate::gathered::Gathered;
 use crate::packet_end::PacketEnd;
 use crate::reader::Reader;
 use crate::stream::Stream;
+use crate::time::Time;
 use crate::wanted::Wanted;
 use crate::window::Window;
 use std::alloc::Global;
@@ -131,8 +132,8 @@ impl Capture {
     }
 
     /// The moment up to which packets were read, in nanoseconds since the start of 1970: the last
-    /// of the window, if it names one, or else when the last packet came, by place. `None` where a
-    /// packet that was read has no time, and where none was read.
+    /// of the window, if it names one, or else the latest time of a packet that was read, wherever
+    /// that stands. `None` where a packet that was read has no time, and where none was read.
     pub fn moment(&self) -> Option<u128>
         ensures { result ≡ moment_read self.now }
     {
@@ -145,8 +146,16 @@ impl Capture {
                 until: Some(until),
                 ..
             } => Some(until.from(self.stream.reader.start()?)),
-            _ => Some(timing.last?.nanoseconds()),
+            _ => Some(timing.latest?.nanoseconds()),
         }
+    }
+
+    /// When the first packet came, whoever sent it, where the window is not whole: by this moment
+    /// `Moment::After` counts. `None` before it was read, and where the window is whole.
+    pub fn start(&self) -> Option<Time>
+        ensures { result ≡ self.now.progress.context.start }
+    {
+        self.stream.reader.start()
     }
 
     /// Takes the octets of the dump that were gathered since the last call, with the ends of their

@@ -1,12 +1,8 @@
 ghost use Rattle.std.specs.Prelude.{◌≡◌};
-ghost use Rattle.babel_capture.specs.Blocks.{sight_in};
-ghost use Rattle.babel_capture.specs.Contents.{captured_of};
 ghost use Rattle.babel_capture.specs.Findings.{CarriedIs, Finds, LackIs, PayloadIs, finding_of};
-ghost use Rattle.babel_capture.specs.Sight.{flaw_of};
+ghost use Rattle.babel_capture.specs.Sight.{flaw_of, sight_of};
 
-use crate::block::Packet;
 use crate::flaw::Flaw;
-use crate::frame::look;
 use crate::lack::Lack;
 use crate::place::Place;
 use crate::reason::Reason;
@@ -32,11 +28,12 @@ pub enum Finding<'a> {
         sender: Addr,
         lack: Lack,
     },
-    /// A Babel packet: RFC 8966, 4.2.
+    /// A Babel packet: RFC 8966, 4.2. `has_trailer` says whether octets come after its body.
     Packet {
         place: Place,
         sender: Addr,
         packet: &'a [u8],
+        has_trailer: bool,
     },
 }
 
@@ -49,6 +46,7 @@ fn payload_finding<'a>(place: Place, sender: Addr, payload: &'a [u8]) -> Finding
             place,
             sender,
             packet: &payload[..used],
+            has_trailer: used < payload.len(),
         },
         Frame::More => Finding::Left(Reason::Truncated),
         Frame::Bad(Fault::BadMagic { .. }) => Finding::Left(Reason::BadMagic),
@@ -57,16 +55,11 @@ fn payload_finding<'a>(place: Place, sender: Addr, payload: &'a [u8]) -> Finding
 }
 
 impl Wanted {
-    /// What is made of a captured packet.
-    pub fn finding<'a>(&self, packet: &Packet<'a>) -> Finding<'a>
-        ensures { Finds self.now (sight_in (captured_of packet.now)) (finding_of result) }
+    /// What is made of a captured packet that is seen so.
+    pub fn finding<'a>(&self, seen: &Seen<'a>) -> Finding<'a>
+        ensures { Finds self.now (sight_of seen.now) (finding_of result) }
     {
-        match look(
-            packet.interface,
-            packet.link,
-            packet.frame,
-            packet.whole_len,
-        ) {
+        match *seen {
             Seen::Other => Finding::Passed,
             Seen::Short => Finding::Short,
             Seen::Flawed {

@@ -19,6 +19,7 @@ use crate::dumps::{Dumps, LackAt, TimedPacket};
 use crate::fault::Fault;
 use crate::finding::Finding;
 use crate::lack::Lack;
+use crate::outside::Outside;
 use crate::report::Report;
 use crate::tallies::{Origin, Tallies, Tally};
 use crate::time::Time;
@@ -39,6 +40,7 @@ pub struct Gathered {
     dumps: Dumps,
     report: Report,
     senders: Tallies,
+    outside: Outside,
 }
 
 impl Model for Gathered {
@@ -72,6 +74,7 @@ impl Gathered {
             dumps: Dumps::new(alloc),
             report: Report::new(),
             senders: Tallies::new(alloc),
+            outside: Outside::new(),
         }
     }
 
@@ -147,6 +150,13 @@ impl Gathered {
         self.senders.as_map()
     }
 
+    /// When the first packet came of the one sender that is named, of those that were passed over
+    /// for their place or their time; `None` where there is none, or it has no time, and where no
+    /// sender is named.
+    pub fn first_outside(&self) -> Option<Time> {
+        self.outside.first()
+    }
+
     /// Takes the packet in the block at this offset: whose it is, if its end is noted.
     fn take_packet(&mut self, at: u64, packet: &Packet<'_>) -> Result<Option<Origin>, Fault>
         requires { self.old.report.packets + 1 < 2 ^ 64 }
@@ -167,21 +177,23 @@ impl Gathered {
         ensures counted { OnOk result
             (self.new.report.packets ≡ self.old.report.packets + 1) }
     {
-        let link = packet.link;
+        let seen = packet.look();
+        let section = packet.babel_section(&seen);
         let came = packet.time();
         let told = came;
         self.report.take_time(told);
-        match self.wanted.finding(packet) {
+        match self.wanted.finding(&seen) {
             Finding::Passed => {
-                self.report.count(None);
+                self.outside.pass(&self.wanted, packet, &seen);
+                self.report.count(section, None);
                 Ok(None)
             }
             Finding::Short => {
-                self.report.count_short();
+                self.report.count_short(section);
                 Ok(None)
             }
             Finding::Left(reason) => {
-                self.report.count(Some(reason));
+                self.report.count(section, Some(reason));
                 Ok(None)
             }
             Finding::Refused(lack) => Err(lack.fault(at)),
@@ -190,17 +202,20 @@ impl Gathered {
                 sender,
                 lack,
             } => {
-                self.report.count(None);
+                self.report.count(section, None);
                 self.add_lack(Origin { place, sender }, lack)
             }
             Finding::Packet {
                 place,
                 sender,
-                packet,
+                packet: octets,
+                has_trailer,
             } => {
-                let updates = updates_in(packet);
-                self.report.count_packet(link, updates.interval);
-                self.add(at, Origin { place, sender }, came, packet, &updates)
+                let updates = updates_in(octets);
+                self.report
+                    .count_packet(section, packet.link, updates.interval, has_trailer);
+                let origin = Origin { place, sender };
+                self.add(at, origin, came, octets, &updates, has_trailer)
             }
         }
     }
@@ -228,8 +243,8 @@ impl Gathered {
     {
         match said {
             Block::Packet(packet) => self.take_packet(at, packet),
-            Block::Skipped(_) => {
-                self.skip();
+            Block::Skipped(packet) => {
+                self.skip(packet);
                 Ok(None)
             }
             Block::File { .. } => self.add_name(&[]),
@@ -239,7 +254,7 @@ impl Gathered {
     }
 
     /// Skips a packet: it is one of the capture, and no more.
-    fn skip(&mut self)
+    fn skip(&mut self, packet: &Packet<'_>)
         requires { self.old.report.packets + 1 < 2 ^ 64 }
         ensures others { (self.new.wanted ≡ self.old.wanted) × (self.new.names ≡ self.old.names)
             × (self.new.dump ≡ self.old.dump)
@@ -249,7 +264,8 @@ impl Gathered {
             → IsGathered before (with_taken taken self.old)
             → IsGathered (before ++ next ∷ []) (with_taken taken self.new) }
     {
-        self.report.count(None);
+        self.outside.pass_skipped(&self.wanted, packet);
+        self.report.count(None, None);
     }
 
     /// Keeps the name of an interface, which adds nothing to the dump.
@@ -290,8 +306,8 @@ impl Gathered {
         Ok(None)
     }
 
-    /// Counts a packet for its sender, and adds it to a dump, if one is wanted: whose it is, if its
-    /// end in the one dump is noted.
+    /// Counts a packet for its sender, and whether octets come after its body, and adds it to a
+    /// dump, if one is wanted: whose it is, if its end in the one dump is noted.
     fn add(
         &mut self,
         at: u64,
@@ -299,6 +315,7 @@ impl Gathered {
         time: Option<Time>,
         packet: &[u8],
         updates: &Updates,
+        has_trailer: bool,
     ) -> Result<Option<Origin>, Fault>
         requires count { updates.now.count ≡ updates_in packet.now }
         requires interval { updates.now.interval ≡ interval_in packet.now }
@@ -308,19 +325,21 @@ impl Gathered {
         ensures dump { OnOk result (self.new.dump
             ≡ dump_with self.old.wanted self.old.dump packet.now) }
         ensures dumps { OnOk result (self.new.dumps ≡ dumps_with self.old.wanted self.old.dumps
-            self.old.report.packets time (found origin.place origin.sender packet.now)) }
+            self.old.report.packets time
+            (found origin.place origin.sender packet.now has_trailer)) }
         ensures senders { OnOk result (self.new.senders
-            ≡ tallied self.old.senders origin time packet.now) }
+            ≡ tallied self.old.senders origin time packet.now has_trailer) }
         ensures origin { IfOk result (λ told. told ≡ origin_noted self.old.wanted
-            (found origin.place origin.sender packet.now)) }
+            (found origin.place origin.sender packet.now has_trailer)) }
         ensures few { OnOk result (length self.new.senders ≤ 65536) }
         ensures err { IfErr result (λ fault. (fault ≡ Fault.Memory)
             ⊎ ((fault ≡ Fault.TooManySenders at) × IsOneTooMany self.old.senders origin)) }
         ensures memory { IfErr result (λ fault. fault ≡ Fault.Memory
-            → PacketNeedsMemory self.old.wanted self.old.senders origin packet.now) }
+            → PacketNeedsMemory self.old.wanted self.old.senders origin packet.now has_trailer) }
     {
         let came = time;
-        self.senders.add(at, origin, time, packet, updates)?;
+        self.senders
+            .add(at, origin, time, packet, updates, has_trailer)?;
         let is_noted = match self.wanted {
             Wanted::Everyone => return Ok(None),
             Wanted::Each => {

@@ -101,14 +101,15 @@ fn section_len(header: &[u8], at: u64) -> Result<u32, Fault>
     }
 }
 
-/// The length of a record of a pcap file.
+/// The length of a record of a pcap file, of which one without octets is none.
 fn record_len(order: Order, header: &[u8], at: u64) -> Result<u32, Fault>
     requires { 16 ≤ length header.now }
     ensures value { result ≡ record_len order at header.now }
     ensures long { IfOk result (λ len. (16 ≤ len) × (len ≤ 16777216)) }
 {
     let captured = order.u32_at(header, 8);
-    if captured > LONGEST_PACKET {
+    let is_blank = captured == 0 && order.u32_at(header, 12) == 0;
+    if captured > LONGEST_PACKET || is_blank {
         return Err(Fault::BadLength { at });
     }
     Ok(RECORD_HEADER + captured)

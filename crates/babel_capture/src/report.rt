@@ -1,11 +1,11 @@
 ghost use Rattle.std.specs.Prelude.{◌≡◌, ◌+◌, ◌^◌, ◌<◌, [], IfSome};
 ghost use Rattle.babel_capture.specs.Counts.{Counts, count_at, counts_of, reason_place};
-ghost use Rattle.babel_capture.specs.Counting.{counted_at, counted_with, one_more, packet_counted};
-ghost use Rattle.babel_capture.specs.Counting.{short_counted};
-ghost use Rattle.babel_capture.specs.Times.{kept};
+ghost use Rattle.babel_capture.specs.Counting.{counted_in, counted_then, counted_with, one_more};
+ghost use Rattle.babel_capture.specs.Counting.{packet_counted, short_counted};
 
 use crate::link::Link;
 use crate::reason::Reason;
+use crate::sections::Sections;
 use crate::time::Time;
 use crate::timing::Timing;
 use crate::updates::greater;
@@ -18,6 +18,8 @@ pub struct Report {
     left_out: [Option<(u64, u64)>; 8],
     short: u64,
     cooked: u64,
+    trailers: u64,
+    sections: Sections,
     timing: Timing,
     interval: Option<u16>,
 }
@@ -33,12 +35,15 @@ impl Model for Report {
       left_out = r.left_out;
       short = r.short;
       cooked = r.cooked;
+      trailers = r.trailers;
+      sections = r.sections;
       timing = r.timing;
       interval = r.interval;
     } };
 
     ghost invariant = { λ r. (length r.left_out ≡ 8)
-        × (r.short ≤ r.packets) × (r.cooked ≤ r.packets) × ((i : ℕ)
+        × (r.short ≤ r.packets) × (r.cooked ≤ r.packets) × (r.trailers ≤ r.packets)
+        × (r.sections.count ≤ r.packets) × ((i : ℕ)
         → IfSome (count_at r.left_out i) (λ counted. counted.0 ≤ r.packets)) };
 
     ghost inverse = { λ r. record {
@@ -46,6 +51,8 @@ impl Model for Report {
       left_out = r.left_out;
       short = r.short;
       cooked = r.cooked;
+      trailers = r.trailers;
+      sections = r.sections;
       timing = r.timing;
       interval = r.interval;
     } };
@@ -82,6 +89,21 @@ impl Report {
         self.cooked
     }
 
+    /// How many of the Babel packets have octets after the body, as the trailer of RFC 8967, 3.
+    pub fn trailers(&self) -> u64
+        ensures { result ≡ self.now.trailers }
+    {
+        self.trailers
+    }
+
+    /// In how many sections, each of which describes its interfaces anew, datagrams of Babel came,
+    /// whoever is wanted; those that are skipped do not count. A pcap file is one section.
+    pub fn sections(&self) -> u64
+        ensures { result ≡ self.now.sections.count }
+    {
+        self.sections.count
+    }
+
     /// What is told of the times of the packets, but for those that are skipped.
     pub fn timing(&self) -> Timing
         ensures { result ≡ self.now.timing }
@@ -105,6 +127,8 @@ impl Report {
             left_out: [None; 8],
             short: 0,
             cooked: 0,
+            trailers: 0,
+            sections: Sections::new(),
             timing: Timing::new(),
             interval: None,
         }
@@ -113,17 +137,19 @@ impl Report {
     /// Notes the time of the next packet.
     pub(crate) fn take_time(&mut self, time: Option<Time>)
         requires { self.old.packets + 1 < 2 ^ 64 }
-        ensures { self.new ≡ counted_at self.old (kept time) }
+        ensures { self.new ≡ counted_then self.old time }
     {
         self.timing = self.timing.with(self.packets + 1, time);
     }
 
-    /// Counts a packet, and the datagram that is left out for this reason, if for any.
-    pub(crate) fn count(&mut self, left_out: Option<Reason>)
+    /// Counts a packet, the section where it came, if it is a datagram of Babel, and the datagram
+    /// that is left out for this reason, if for any.
+    pub(crate) fn count(&mut self, section: Option<u64>, left_out: Option<Reason>)
         requires { self.old.packets + 1 < 2 ^ 64 }
-        ensures { self.new ≡ counted_with self.old left_out }
+        ensures { self.new ≡ counted_with (counted_in self.old section) left_out }
     {
         self.packets += 1;
+        self.sections = self.sections.with(section);
         if let Some(reason) = left_out {
             let place = place_of(reason);
             self.left_out[place] = one_more_of(self.left_out[place], self.packets);
@@ -131,21 +157,32 @@ impl Report {
     }
 
     /// Counts a frame that is too short to tell.
-    pub(crate) fn count_short(&mut self)
+    pub(crate) fn count_short(&mut self, section: Option<u64>)
         requires { self.old.packets + 1 < 2 ^ 64 }
-        ensures { self.new ≡ short_counted self.old }
+        ensures { self.new ≡ short_counted (counted_in self.old section) }
     {
         self.packets += 1;
+        self.sections = self.sections.with(section);
         self.short += 1;
     }
 
-    /// Counts a Babel packet that was found in a frame of this link type, with this Interval.
-    pub(crate) fn count_packet(&mut self, link: Link, interval: Option<u16>)
+    /// Counts a Babel packet that was found in a frame of this link type, with this Interval, and
+    /// whether octets come after its body.
+    pub(crate) fn count_packet(
+        &mut self,
+        section: Option<u64>,
+        link: Link,
+        interval: Option<u16>,
+        has_trailer: bool,
+    )
         requires { self.old.packets + 1 < 2 ^ 64 }
-        ensures { self.new ≡ packet_counted self.old link interval }
+        ensures { self.new
+            ≡ packet_counted (counted_in self.old section) link interval has_trailer }
     {
         self.packets += 1;
+        self.sections = self.sections.with(section);
         self.interval = greater(self.interval, interval);
+        self.trailers += u64::from(has_trailer);
         if link == Link::Cooked {
             self.cooked += 1;
         }

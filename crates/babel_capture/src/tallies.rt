@@ -31,6 +31,8 @@ pub struct Tally {
     pub packets: u64,
     pub octets: u64,
     pub updates: u64,
+    /// How many packets have octets after the body, as the trailer of RFC 8967, 3.
+    pub trailers: u64,
     /// The greatest Interval of the Updates that announce, in centiseconds.
     pub interval: Option<u16>,
     /// The earliest and the latest time, of those that have one.
@@ -39,18 +41,25 @@ pub struct Tally {
 }
 
 impl Tally {
-    /// With one packet more, with these Updates; `None` if its packets, their octets or their
-    /// Updates are more than 2^64 - 1.
-    fn with(self, time: Option<Time>, packet: &[u8], updates: &Updates) -> Option<Tally>
+    /// With one packet more, with these Updates, and whether octets come after its body; `None` if
+    /// its packets, their octets or their Updates are more than 2^64 - 1.
+    fn with(
+        self,
+        time: Option<Time>,
+        packet: &[u8],
+        updates: &Updates,
+        has_trailer: bool,
+    ) -> Option<Tally>
         requires count { updates.now.count ≡ updates_in packet.now }
         requires interval { updates.now.interval ≡ interval_in packet.now }
-        ensures some { IfSome result (λ tally. tally ≡ one_more self time packet.now) }
-        ensures none { IfNone result (Overflows self packet.now) }
+        ensures some { IfSome result (λ tally. tally ≡ one_more self time packet.now has_trailer) }
+        ensures none { IfNone result (Overflows self packet.now has_trailer) }
     {
         Some(Tally {
             packets: self.packets.checked_add(1)?,
             octets: self.octets.checked_add(packet.len() as u64)?,
             updates: self.updates.checked_add(updates.count)?,
+            trailers: self.trailers.checked_add(u64::from(has_trailer))?,
             interval: greater(self.interval, updates.interval),
             first: earlier(self.first, time),
             last: later(self.last, time),
@@ -101,11 +110,12 @@ impl Tallies {
         time: Option<Time>,
         packet: &[u8],
         updates: &Updates,
+        has_trailer: bool,
     ) -> Result<(), Fault>
         requires none { tally_of self.old origin ≡ None }
         requires count { updates.now.count ≡ updates_in packet.now }
         requires interval { updates.now.interval ≡ interval_in packet.now }
-        ensures ok { OnOk result (self.new ≡ tallied self.old origin time packet.now) }
+        ensures ok { OnOk result (self.new ≡ tallied self.old origin time packet.now has_trailer) }
         ensures few { OnOk result (length self.new ≤ 65536) }
         ensures err { IfErr result (λ fault. (fault ≡ Fault.Memory)
             ⊎ ((fault ≡ Fault.TooManySenders at) × IsOneTooMany self.old origin)) }
@@ -118,6 +128,7 @@ impl Tallies {
             packets: 1,
             octets: packet.len() as u64,
             updates: updates.count,
+            trailers: u64::from(has_trailer),
             interval: updates.interval,
             first: time,
             last,
@@ -128,7 +139,8 @@ impl Tallies {
         }
     }
 
-    /// Counts a packet with these Updates, which is in the block at this offset.
+    /// Counts a packet with these Updates, which is in the block at this offset, and whether octets
+    /// come after its body.
     pub fn add(
         &mut self,
         at: u64,
@@ -136,20 +148,21 @@ impl Tallies {
         time: Option<Time>,
         packet: &[u8],
         updates: &Updates,
+        has_trailer: bool,
     ) -> Result<(), Fault>
         requires count { updates.now.count ≡ updates_in packet.now }
         requires interval { updates.now.interval ≡ interval_in packet.now }
-        ensures ok { OnOk result (self.new ≡ tallied self.old origin time packet.now) }
+        ensures ok { OnOk result (self.new ≡ tallied self.old origin time packet.now has_trailer) }
         ensures few { OnOk result (length self.new ≤ 65536) }
         ensures err { IfErr result (λ fault. (fault ≡ Fault.Memory)
             ⊎ ((fault ≡ Fault.TooManySenders at) × IsOneTooMany self.old origin)) }
         ensures memory { IfErr result (λ fault. fault ≡ Fault.Memory
-            → CountNeedsMemory (tally_of self.old origin) packet.now) }
+            → CountNeedsMemory (tally_of self.old origin) packet.now has_trailer) }
     {
         let Some(tally) = self.tallies.get_mut(&origin) else {
-            return self.add_first(at, origin, time, packet, updates);
+            return self.add_first(at, origin, time, packet, updates, has_trailer);
         };
-        let Some(more) = tally.with(time, packet, updates) else {
+        let Some(more) = tally.with(time, packet, updates, has_trailer) else {
             return Err(Fault::Memory);
         };
         *tally = more;

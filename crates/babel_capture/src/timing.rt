@@ -1,6 +1,5 @@
 ghost use Rattle.std.specs.Prelude.{◌≡◌, None};
-ghost use Rattle.babel_capture.specs.Times.{kept};
-ghost use Rattle.babel_capture.specs.Timing.{greatest, least, no_times, timed};
+ghost use Rattle.babel_capture.specs.Timing.{greatest, least, no_times, with_time};
 
 use crate::time::Time;
 
@@ -11,9 +10,7 @@ pub struct Timing {
     pub has_untimed: bool,
     pub earliest: Option<Time>,
     pub latest: Option<Time>,
-    /// That of the last one, by place, which has a time.
-    pub last: Option<Time>,
-    /// The number of the first that came before the one before it.
+    /// The number of the first that came before one of those before it.
     pub backwards: Option<u64>,
 }
 
@@ -26,14 +23,13 @@ impl Timing {
             has_untimed: false,
             earliest: None,
             latest: None,
-            last: None,
             backwards: None,
         }
     }
 
     /// With one packet more, which has this number.
     pub(crate) fn with(self, number: u64, time: Option<Time>) -> Timing
-        ensures { result ≡ timed self number (kept time) }
+        ensures { result ≡ with_time self number time }
     {
         let Some(time) = time else {
             return Timing {
@@ -41,15 +37,14 @@ impl Timing {
                 ..self
             };
         };
-        let backwards = match self.last {
-            Some(last) if time.nanoseconds() < last.nanoseconds() => Some(number),
+        let backwards = match self.latest {
+            Some(latest) if time.nanoseconds() < latest.nanoseconds() => Some(number),
             _ => None,
         };
         Timing {
             has_untimed: self.has_untimed,
             earliest: earlier(self.earliest, Some(time)),
             latest: later(self.latest, Some(time)),
-            last: Some(time),
             backwards: self.backwards.or(backwards),
         }
     }

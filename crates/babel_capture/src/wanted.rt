@@ -2,6 +2,7 @@ ghost use Rattle.std.specs.Prelude.{◌≡◌, ◌↔◌, IsTrue};
 ghost use Rattle.babel_capture.specs.Findings.{IsWanted, is_in_turn};
 
 use crate::place::Place;
+use crate::seen::Seen;
 use babel_prefix::Addr;
 
 /// Whose datagrams are wanted.
@@ -46,6 +47,28 @@ impl Wanted {
             Wanted::InTurn { sender, place } => {
                 from == sender.unwrap_or(from) && at == place.unwrap_or(at)
             }
+        }
+    }
+
+    /// Whether a sender is named.
+    pub fn is_named(&self) -> bool {
+        match self {
+            Wanted::Everyone | Wanted::Each => false,
+            Wanted::Sender { .. } => true,
+            Wanted::InTurn { sender, .. } => sender.is_some(),
+        }
+    }
+
+    /// Whether this is a datagram of the sender that is named, at whichever place.
+    pub fn names(&self, seen: &Seen<'_>) -> bool {
+        match (self, seen) {
+            (Wanted::Sender { sender: named, .. }, Seen::Datagram { sender, .. }) => {
+                *named == *sender
+            }
+            (Wanted::InTurn { sender: named, .. }, Seen::Datagram { sender, .. }) => {
+                *named == Some(*sender)
+            }
+            _ => false,
         }
     }
 

@@ -7,4 +7,4 @@ use Rattle.babel_capture.proofs.block.read_kept.Goals as goal
 pub returns-clause-err : goal.returns-clause-err
 returns-clause-err c =
     let there : nat_lt (length c.args.block.now) (32 + c.args.captured) ≡ false = grind (arith, nat_tests) in
-    err_where c.read_packet.result _ _ _ there (rw (← c.first.ensures.value, ← c.u32_at.ensures, ← c.packet_stamp.ensures) c.read_packet.ensures.err)
+    err_where c.read_packet.result _ _ _ there (rw (← c.u32_at.ensures, ← c.packet_stamp.ensures) (rw c.first.ensures.value at c.read_packet.ensures.err))

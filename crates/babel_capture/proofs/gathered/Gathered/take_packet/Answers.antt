@@ -1,8 +1,8 @@
 use Rattle.std.proofs.Common.{◌≡◌, ℕ, ◌+◌, ◌++◌, refl, ap, subst, sym, ◌∙◌, inl, inr}
 use Rattle.std.specs.Prelude.{None, Option, Some}
-use Rattle.babel_capture.specs.Blocks.{sight_in, sighting_of}
+use Rattle.babel_capture.specs.Blocks.{came_with, section_with, sight_in, sighting_of}
 use Rattle.babel_capture.specs.Contents.{captured_of}
-use Rattle.babel_capture.specs.Counting.{counted_at, counted_with, packet_counted, short_counted}
+use Rattle.babel_capture.specs.Counting.{counted_at, counted_in, counted_with, packet_counted, short_counted}
 use Rattle.babel_capture.specs.Counts.{Counts}
 use Rattle.babel_capture.specs.Findings.{Finds, finding_of, found, lacked, left, passed, untold}
 use Rattle.babel_capture.specs.Dumps.{dumps_by, dumps_with}
@@ -18,95 +18,108 @@ use Rattle.babel_capture.proofs.gathered.Gathered.take_packet.Goals as goal
 pub returns-in-Passed-clause-ok : goal.returns-in-Passed-clause-ok
 returns-in-Passed-clause-ok c taken before gathered =
     let wanted = ap (λ (g : Gathering). g.wanted) c.self.view_is in
-    let came = kept (time_in (captured_of c.args.packet.now).moment) in
-    let timed : c.take_time.new.self ≡ counted_at c.args.self.now.report came =
-    c.take_time.ensures ∙ ap (λ (g : Gathering). counted_at g.report (kept c.time-came.result)) c.self.view_is
-    ∙ ap (λ (t : Option ℕ). counted_at c.args.self.now.report (kept t)) c.time-came.ensures in
+    let came = came_with (captured_of c.args.packet.now) (sight_in (captured_of c.args.packet.now)) in
+    let timed : counted_in c.take_time.new.self c.babel_section-section.result ≡ counted_at c.args.self.now.report came =
+    ap (λ (r : Counts). counted_in r c.babel_section-section.result) c.take_time.ensures
+    ∙ ap (λ (g : Gathering). counted_at g.report (kept c.time-came.result c.babel_section-section.result)) c.self.view_is
+    ∙ ap (λ (t : Option ℕ). counted_at c.args.self.now.report (kept t c.babel_section-section.result)) c.time-came.ensures
+    ∙ ap (λ (s : Option ℕ). counted_at c.args.self.now.report (kept (time_in (captured_of c.args.packet.now).moment) s))
+    (c.babel_section-section.ensures ∙ ap (section_with (captured_of c.args.packet.now).section) c.look-seen.ensures) in
     passed-push before (sighting_of (c.args.self.now.report.packets + 1) c.args.at (captured_of c.args.packet.now)) (with_taken taken c.args.self.now) _ _ (ap finding_of c.in-Passed.is) wanted
     (ap (λ (g : Gathering). taken ++ g.dump) c.self.view_is) (ap (λ (g : Gathering). g.dumps) c.self.view_is)
     (c.count.ensures ∙ ap (λ (r : Counts). counted_with r None) timed)
     (ap (λ (g : Gathering). g.senders) c.self.view_is)
-    gathered refl (finds-at _ _ _ _ wanted c.finding.ensures)
+    gathered refl (finds-at _ _ _ _ _ wanted c.look-seen.ensures c.finding.ensures)
 
 pub returns-in-Short-clause-ok : goal.returns-in-Short-clause-ok
 returns-in-Short-clause-ok c taken before gathered =
     let wanted = ap (λ (g : Gathering). g.wanted) c.self.view_is in
-    let came = kept (time_in (captured_of c.args.packet.now).moment) in
-    let timed : c.take_time.new.self ≡ counted_at c.args.self.now.report came =
-    c.take_time.ensures ∙ ap (λ (g : Gathering). counted_at g.report (kept c.time-came.result)) c.self.view_is
-    ∙ ap (λ (t : Option ℕ). counted_at c.args.self.now.report (kept t)) c.time-came.ensures in
+    let came = came_with (captured_of c.args.packet.now) (sight_in (captured_of c.args.packet.now)) in
+    let timed : counted_in c.take_time.new.self c.babel_section-section.result ≡ counted_at c.args.self.now.report came =
+    ap (λ (r : Counts). counted_in r c.babel_section-section.result) c.take_time.ensures
+    ∙ ap (λ (g : Gathering). counted_at g.report (kept c.time-came.result c.babel_section-section.result)) c.self.view_is
+    ∙ ap (λ (t : Option ℕ). counted_at c.args.self.now.report (kept t c.babel_section-section.result)) c.time-came.ensures
+    ∙ ap (λ (s : Option ℕ). counted_at c.args.self.now.report (kept (time_in (captured_of c.args.packet.now).moment) s))
+    (c.babel_section-section.ensures ∙ ap (section_with (captured_of c.args.packet.now).section) c.look-seen.ensures) in
     short-push before (sighting_of (c.args.self.now.report.packets + 1) c.args.at (captured_of c.args.packet.now)) (with_taken taken c.args.self.now) _ _ (ap finding_of c.in-Short.is) wanted
     (ap (λ (g : Gathering). taken ++ g.dump) c.self.view_is) (ap (λ (g : Gathering). g.dumps) c.self.view_is)
     (c.count_short.ensures ∙ ap short_counted timed)
     (ap (λ (g : Gathering). g.senders) c.self.view_is)
-    gathered refl (finds-at _ _ _ _ wanted c.finding.ensures)
+    gathered refl (finds-at _ _ _ _ _ wanted c.look-seen.ensures c.finding.ensures)
 
 pub returns-in-Left-clause-ok : goal.returns-in-Left-clause-ok
 returns-in-Left-clause-ok c taken before gathered =
     let wanted = ap (λ (g : Gathering). g.wanted) c.self.view_is in
-    let came = kept (time_in (captured_of c.args.packet.now).moment) in
-    let timed : c.take_time.new.self ≡ counted_at c.args.self.now.report came =
-    c.take_time.ensures ∙ ap (λ (g : Gathering). counted_at g.report (kept c.time-came.result)) c.self.view_is
-    ∙ ap (λ (t : Option ℕ). counted_at c.args.self.now.report (kept t)) c.time-came.ensures in
+    let came = came_with (captured_of c.args.packet.now) (sight_in (captured_of c.args.packet.now)) in
+    let timed : counted_in c.take_time.new.self c.babel_section-section.result ≡ counted_at c.args.self.now.report came =
+    ap (λ (r : Counts). counted_in r c.babel_section-section.result) c.take_time.ensures
+    ∙ ap (λ (g : Gathering). counted_at g.report (kept c.time-came.result c.babel_section-section.result)) c.self.view_is
+    ∙ ap (λ (t : Option ℕ). counted_at c.args.self.now.report (kept t c.babel_section-section.result)) c.time-came.ensures
+    ∙ ap (λ (s : Option ℕ). counted_at c.args.self.now.report (kept (time_in (captured_of c.args.packet.now).moment) s))
+    (c.babel_section-section.ensures ∙ ap (section_with (captured_of c.args.packet.now).section) c.look-seen.ensures) in
     left-push before (sighting_of (c.args.self.now.report.packets + 1) c.args.at (captured_of c.args.packet.now)) (with_taken taken c.args.self.now) _ _ c.in-Left.reason (ap finding_of c.in-Left.is)
     wanted
     (ap (λ (g : Gathering). taken ++ g.dump) c.self.view_is) (ap (λ (g : Gathering). g.dumps) c.self.view_is)
     (c.count-in-Left.ensures ∙ ap (λ (r : Counts). counted_with r (Some c.in-Left.reason)) timed)
     (ap (λ (g : Gathering). g.senders) c.self.view_is)
-    gathered refl (finds-at _ _ _ _ wanted c.finding.ensures)
+    gathered refl (finds-at _ _ _ _ _ wanted c.look-seen.ensures c.finding.ensures)
 
 pub returns-in-Refused-clause-err : goal.returns-in-Refused-clause-err
 returns-in-Refused-clause-err c =
     let wanted = ap (λ (g : Gathering). g.wanted) c.self.view_is in
     lack-refused c.args.self.now.wanted c.args.self.now.senders c.args.at (captured_of c.args.packet.now) c.in-Refused.lack _ _ (ap finding_of c.in-Refused.is) c.fault.ensures.value
-    (finds-at _ _ _ _ wanted c.finding.ensures)
+    (finds-at _ _ _ _ _ wanted c.look-seen.ensures c.finding.ensures)
 
 pub returns-in-Packet-clause-ok : goal.returns-in-Packet-clause-ok
 returns-in-Packet-clause-ok c =
     let wanted = ap (λ (g : Gathering). g.wanted) c.self.view_is in
-    let came = kept (time_in (captured_of c.args.packet.now).moment) in
-    let timed : c.take_time.new.self ≡ counted_at c.args.self.now.report came =
-    c.take_time.ensures ∙ ap (λ (g : Gathering). counted_at g.report (kept c.time-came.result)) c.self.view_is
-    ∙ ap (λ (t : Option ℕ). counted_at c.args.self.now.report (kept t)) c.time-came.ensures in
+    let came = came_with (captured_of c.args.packet.now) (sight_in (captured_of c.args.packet.now)) in
+    let timed : counted_in c.take_time.new.self c.babel_section-section.result ≡ counted_at c.args.self.now.report came =
+    ap (λ (r : Counts). counted_in r c.babel_section-section.result) c.take_time.ensures
+    ∙ ap (λ (g : Gathering). counted_at g.report (kept c.time-came.result c.babel_section-section.result)) c.self.view_is
+    ∙ ap (λ (t : Option ℕ). counted_at c.args.self.now.report (kept t c.babel_section-section.result)) c.time-came.ensures
+    ∙ ap (λ (s : Option ℕ). counted_at c.args.self.now.report (kept (time_in (captured_of c.args.packet.now).moment) s))
+    (c.babel_section-section.ensures ∙ ap (section_with (captured_of c.args.packet.now).section) c.look-seen.ensures) in
     on-ok4 c.add.result (λ dump dumps senders few taken before gathered.
     found-push before (sighting_of (c.args.self.now.report.packets + 1) c.args.at (captured_of c.args.packet.now)) (with_taken taken c.args.self.now) (with_taken taken c.add.new.self) _
-    c.in-Packet.place c.in-Packet.sender c.in-Packet.packet.now (ap finding_of c.in-Packet.is)
+    c.in-Packet.place c.in-Packet.sender c.in-Packet.octets.now c.in-Packet.has_trailer (ap finding_of c.in-Packet.is)
     (c.add.ensures.wanted ∙ wanted)
-    (ap (λ d. taken ++ d) (dump ∙ ap (λ (g : Gathering). dump_with g.wanted g.dump c.in-Packet.packet.now) c.self.view_is) ∙ dump-after c.args.self.now.wanted taken _ _)
-    (dumps ∙ ap (λ (n : ℕ). dumps_with c.self.inside.wanted c.self.inside.dumps n c.time-came.result (found c.in-Packet.place c.in-Packet.sender c.in-Packet.packet.now))
+    (ap (λ d. taken ++ d) (dump ∙ ap (λ (g : Gathering). dump_with g.wanted g.dump c.in-Packet.octets.now) c.self.view_is) ∙ dump-after c.args.self.now.wanted taken _ _)
+    (dumps ∙ ap (λ (n : ℕ). dumps_with c.self.inside.wanted c.self.inside.dumps n c.time-came.result (found c.in-Packet.place c.in-Packet.sender c.in-Packet.octets.now c.in-Packet.has_trailer))
     (ap (λ (r : Counts). r.packets) c.count_packet.ensures ∙ ap (λ (r : Counts). r.packets + 1) c.take_time.ensures)
-    ∙ ap (λ (g : Gathering). dumps_with g.wanted g.dumps (g.report.packets + 1) c.time-came.result (found c.in-Packet.place c.in-Packet.sender c.in-Packet.packet.now)) c.self.view_is
-    ∙ ap (λ (t : Option ℕ). dumps_with c.args.self.now.wanted c.args.self.now.dumps (c.args.self.now.report.packets + 1) t (found c.in-Packet.place c.in-Packet.sender c.in-Packet.packet.now))
+    ∙ ap (λ (g : Gathering). dumps_with g.wanted g.dumps (g.report.packets + 1) c.time-came.result (found c.in-Packet.place c.in-Packet.sender c.in-Packet.octets.now c.in-Packet.has_trailer)) c.self.view_is
+    ∙ ap (λ (t : Option ℕ). dumps_with c.args.self.now.wanted c.args.self.now.dumps (c.args.self.now.report.packets + 1) t (found c.in-Packet.place c.in-Packet.sender c.in-Packet.octets.now c.in-Packet.has_trailer))
     c.time-came.ensures)
-    (c.add.ensures.report ∙ c.count_packet.ensures ∙ ap (packet_counted c.take_time.new.self c.args.packet.now.link) c.updates_in-updates.ensures.interval
-    ∙ ap (λ (r : Counts). packet_counted r c.args.packet.now.link (interval_in c.in-Packet.packet.now)) timed)
-    (senders ∙ ap (λ (g : Gathering). tallied g.senders (record { place = c.in-Packet.place; sender = c.in-Packet.sender }) c.time-came.result c.in-Packet.packet.now) c.self.view_is
-    ∙ ap (λ (t : Option ℕ). tallied c.args.self.now.senders (record { place = c.in-Packet.place; sender = c.in-Packet.sender }) t c.in-Packet.packet.now) c.time-came.ensures)
-    few gathered refl (finds-at _ _ _ _ wanted c.finding.ensures)) c.add.ensures.dump c.add.ensures.dumps c.add.ensures.senders c.add.ensures.few
+    (c.add.ensures.report ∙ c.count_packet.ensures
+    ∙ ap (λ (i : Option ℕ). packet_counted (counted_in c.take_time.new.self c.babel_section-section.result) c.args.packet.now.link i c.in-Packet.has_trailer) c.updates_in-updates.ensures.interval
+    ∙ ap (λ (r : Counts). packet_counted r c.args.packet.now.link (interval_in c.in-Packet.octets.now) c.in-Packet.has_trailer) timed)
+    (senders ∙ ap (λ (g : Gathering). tallied g.senders (record { place = c.in-Packet.place; sender = c.in-Packet.sender }) c.time-came.result c.in-Packet.octets.now c.in-Packet.has_trailer) c.self.view_is
+    ∙ ap (λ (t : Option ℕ). tallied c.args.self.now.senders (record { place = c.in-Packet.place; sender = c.in-Packet.sender }) t c.in-Packet.octets.now c.in-Packet.has_trailer) c.time-came.ensures)
+    few gathered refl (finds-at _ _ _ _ _ wanted c.look-seen.ensures c.finding.ensures)) c.add.ensures.dump c.add.ensures.dumps c.add.ensures.senders c.add.ensures.few
 
 pub returns-in-Packet-clause-err : goal.returns-in-Packet-clause-err
 returns-in-Packet-clause-err c =
     let wanted = ap (λ (g : Gathering). g.wanted) c.self.view_is in
     too-many-refused c.add.result c.args.self.now.wanted _ c.args.self.now.senders c.args.at (captured_of c.args.packet.now)
-    (record { place = c.in-Packet.place; sender = c.in-Packet.sender }) c.in-Packet.packet.now _
-    (ap (λ (g : Gathering). g.senders) c.self.view_is) (ap finding_of c.in-Packet.is) (finds-at _ _ _ _ wanted c.finding.ensures) c.add.ensures.err
+    (record { place = c.in-Packet.place; sender = c.in-Packet.sender }) c.in-Packet.octets.now c.in-Packet.has_trailer _
+    (ap (λ (g : Gathering). g.senders) c.self.view_is) (ap finding_of c.in-Packet.is) (finds-at _ _ _ _ _ wanted c.look-seen.ensures c.finding.ensures) c.add.ensures.err
 
 pub returns-in-Passed-clause-origin : goal.returns-in-Passed-clause-origin
 returns-in-Passed-clause-origin c =
-    no-origin c.args.self.now.wanted _ _ passed (ap finding_of c.in-Passed.is) refl (finds-at _ _ _ _ (ap (λ (g : Gathering). g.wanted) c.self.view_is) c.finding.ensures)
+    no-origin c.args.self.now.wanted _ _ passed (ap finding_of c.in-Passed.is) refl (finds-at _ _ _ _ _ (ap (λ (g : Gathering). g.wanted) c.self.view_is) c.look-seen.ensures c.finding.ensures)
 
 pub returns-in-Short-clause-origin : goal.returns-in-Short-clause-origin
 returns-in-Short-clause-origin c =
-    no-origin c.args.self.now.wanted _ _ untold (ap finding_of c.in-Short.is) refl (finds-at _ _ _ _ (ap (λ (g : Gathering). g.wanted) c.self.view_is) c.finding.ensures)
+    no-origin c.args.self.now.wanted _ _ untold (ap finding_of c.in-Short.is) refl (finds-at _ _ _ _ _ (ap (λ (g : Gathering). g.wanted) c.self.view_is) c.look-seen.ensures c.finding.ensures)
 
 pub returns-in-Left-clause-origin : goal.returns-in-Left-clause-origin
 returns-in-Left-clause-origin c =
-    no-origin c.args.self.now.wanted _ _ (left c.in-Left.reason) (ap finding_of c.in-Left.is) refl (finds-at _ _ _ _ (ap (λ (g : Gathering). g.wanted) c.self.view_is) c.finding.ensures)
+    no-origin c.args.self.now.wanted _ _ (left c.in-Left.reason) (ap finding_of c.in-Left.is) refl (finds-at _ _ _ _ _ (ap (λ (g : Gathering). g.wanted) c.self.view_is) c.look-seen.ensures c.finding.ensures)
 
 pub returns-in-Packet-clause-origin : goal.returns-in-Packet-clause-origin
 returns-in-Packet-clause-origin c =
-    let what = found c.in-Packet.place c.in-Packet.sender c.in-Packet.packet.now in
-    some-origin c.add.result c.args.self.now.wanted _ _ what _ (ap finding_of c.in-Packet.is) (finds-at _ _ _ _ (ap (λ (g : Gathering). g.wanted) c.self.view_is) c.finding.ensures)
+    let what = found c.in-Packet.place c.in-Packet.sender c.in-Packet.octets.now c.in-Packet.has_trailer in
+    some-origin c.add.result c.args.self.now.wanted _ _ what _ (ap finding_of c.in-Packet.is) (finds-at _ _ _ _ _ (ap (λ (g : Gathering). g.wanted) c.self.view_is) c.look-seen.ensures c.finding.ensures)
     (ap (λ (g : Gathering). origin_noted g.wanted what) c.self.view_is) c.add.ensures.origin
 
 pub returns-in-Refused-clause-memory : goal.returns-in-Refused-clause-memory
@@ -116,19 +129,22 @@ pub returns-in-Packet-clause-memory : goal.returns-in-Packet-clause-memory
 returns-in-Packet-clause-memory c =
     let wanted = ap (λ (g : Gathering). g.wanted) c.self.view_is in
     found-needs c.add.result _ c.args.self.now.wanted _ c.args.self.now.senders (captured_of c.args.packet.now) (record { place = c.in-Packet.place; sender = c.in-Packet.sender })
-    c.in-Packet.packet.now _
-    wanted (ap (λ (g : Gathering). g.senders) c.self.view_is) (ap finding_of c.in-Packet.is) (finds-at _ _ _ _ wanted c.finding.ensures) c.add.ensures.memory
+    c.in-Packet.octets.now c.in-Packet.has_trailer _
+    wanted (ap (λ (g : Gathering). g.senders) c.self.view_is) (ap finding_of c.in-Packet.is) (finds-at _ _ _ _ _ wanted c.look-seen.ensures c.finding.ensures) c.add.ensures.memory
 
 pub returns-in-Lacking-clause-ok : goal.returns-in-Lacking-clause-ok
 returns-in-Lacking-clause-ok c =
     let wanted = ap (λ (g : Gathering). g.wanted) c.self.view_is in
-    let came = kept (time_in (captured_of c.args.packet.now).moment) in
-    let timed : c.take_time.new.self ≡ counted_at c.args.self.now.report came =
-    c.take_time.ensures ∙ ap (λ (g : Gathering). counted_at g.report (kept c.time-came.result)) c.self.view_is
-    ∙ ap (λ (t : Option ℕ). counted_at c.args.self.now.report (kept t)) c.time-came.ensures in
+    let came = came_with (captured_of c.args.packet.now) (sight_in (captured_of c.args.packet.now)) in
+    let timed : counted_in c.take_time.new.self c.babel_section-section.result ≡ counted_at c.args.self.now.report came =
+    ap (λ (r : Counts). counted_in r c.babel_section-section.result) c.take_time.ensures
+    ∙ ap (λ (g : Gathering). counted_at g.report (kept c.time-came.result c.babel_section-section.result)) c.self.view_is
+    ∙ ap (λ (t : Option ℕ). counted_at c.args.self.now.report (kept t c.babel_section-section.result)) c.time-came.ensures
+    ∙ ap (λ (s : Option ℕ). counted_at c.args.self.now.report (kept (time_in (captured_of c.args.packet.now).moment) s))
+    (c.babel_section-section.ensures ∙ ap (section_with (captured_of c.args.packet.now).section) c.look-seen.ensures) in
     let place = c.in-Lacking.place in
     let sender = c.in-Lacking.sender in
-    let finds = subst (Finds c.args.self.now.wanted (sight_in (captured_of c.args.packet.now))) (ap finding_of c.in-Lacking.is) (finds-at _ _ _ _ wanted c.finding.ensures) in
+    let finds = subst (Finds c.args.self.now.wanted (sight_in (captured_of c.args.packet.now))) (ap finding_of c.in-Lacking.is) (finds-at _ _ _ _ _ wanted c.look-seen.ensures c.finding.ensures) in
     on-ok c.add_lack.result (λ dumps taken before gathered.
     lacked-push before (sighting_of (c.args.self.now.report.packets + 1) c.args.at (captured_of c.args.packet.now)) (with_taken taken c.args.self.now) (with_taken taken c.add_lack.new.self) _
     place sender c.in-Lacking.lack (ap finding_of c.in-Lacking.is) (each_wanted _ _ _ _ _ finds) (c.add_lack.ensures.wanted ∙ wanted)
@@ -138,12 +154,12 @@ returns-in-Lacking-clause-ok c =
     ∙ ap (λ (g : Gathering). dumps_by g.dumps (g.report.packets + 1) None (lacked place sender c.in-Lacking.lack)) c.self.view_is)
     (c.add_lack.ensures.report ∙ c.count-in-Lacking.ensures ∙ ap (λ (r : Counts). counted_with r None) timed)
     (c.add_lack.ensures.senders ∙ ap (λ (g : Gathering). g.senders) c.self.view_is)
-    gathered refl (finds-at _ _ _ _ wanted c.finding.ensures)) c.add_lack.ensures.dumps
+    gathered refl (finds-at _ _ _ _ _ wanted c.look-seen.ensures c.finding.ensures)) c.add_lack.ensures.dumps
 
 pub returns-in-Lacking-clause-origin : goal.returns-in-Lacking-clause-origin
 returns-in-Lacking-clause-origin c =
     let what = lacked c.in-Lacking.place c.in-Lacking.sender c.in-Lacking.lack in
-    some-origin c.add_lack.result c.args.self.now.wanted _ _ what None (ap finding_of c.in-Lacking.is) (finds-at _ _ _ _ (ap (λ (g : Gathering). g.wanted) c.self.view_is) c.finding.ensures)
+    some-origin c.add_lack.result c.args.self.now.wanted _ _ what None (ap finding_of c.in-Lacking.is) (finds-at _ _ _ _ _ (ap (λ (g : Gathering). g.wanted) c.self.view_is) c.look-seen.ensures c.finding.ensures)
     (none-added c.args.self.now.wanted what refl) c.add_lack.ensures.origin
 
 pub returns-in-Lacking-clause-memory : goal.returns-in-Lacking-clause-memory
@@ -152,5 +168,5 @@ returns-in-Lacking-clause-memory c =
     if-err-all c.add_lack.result (λ fault memory. inr (inl (
       record { place = c.in-Lacking.place; sender = c.in-Lacking.sender },
       c.in-Lacking.lack,
-      subst (Finds c.args.self.now.wanted (sight_in (captured_of c.args.packet.now))) (ap finding_of c.in-Lacking.is) (finds-at _ _ _ _ wanted c.finding.ensures),
+      subst (Finds c.args.self.now.wanted (sight_in (captured_of c.args.packet.now))) (ap finding_of c.in-Lacking.is) (finds-at _ _ _ _ _ wanted c.look-seen.ensures c.finding.ensures),
     )))

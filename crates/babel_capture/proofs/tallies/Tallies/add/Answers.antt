@@ -23,19 +23,19 @@ add_first-requires c =
 pub returns-clause-ok : goal.returns-clause-ok
 returns-clause-ok c =
     let found : lookup (is_at (ghosts.cmp c.args.origin)) c.args.self.now ≡ Some c.in-Some.tally.now = search rules in
-    let more : c.in-Some-with.more ≡ one_more c.in-Some.tally.now c.args.time c.args.packet.now = search rules in
+    let more : c.in-Some-with.more ≡ one_more c.in-Some.tally.now c.args.time c.args.packet.now c.args.has_trailer = search rules in
     let sorted : IsStrictlySortedBy ghosts.cmp (keys_of c.args.self.now) = subst (λ (s : Senders). IsStrictlySortedBy ghosts.cmp (keys_of s)) c.self.view_is c.get_mut.ensures.ordered in
     let written : (c.get_mut.follows.lender c.in-Some-with.more).entries ≡ set_value (is_at (ghosts.cmp c.args.origin)) c.args.self.now c.in-Some-with.more =
     subst (λ (s : Senders). (c.get_mut.follows.lender c.in-Some-with.more).entries ≡ set_value (is_at (ghosts.cmp c.args.origin)) s c.in-Some-with.more) c.self.view_is
     (c.get_mut.follows.holds c.in-Some-with.more).0 in
-    updated-by c.args.self.now (c.get_mut.follows.lender c.in-Some-with.more).entries c.args.origin c.args.time c.args.packet.now c.in-Some.tally.now c.in-Some-with.more found more sorted written
+    updated-by c.args.self.now (c.get_mut.follows.lender c.in-Some-with.more).entries c.args.origin c.args.time c.args.packet.now c.args.has_trailer c.in-Some.tally.now c.in-Some-with.more found more sorted written
 
 pub returns-in_default-clause-memory : goal.returns-in_default-clause-memory
 returns-in_default-clause-memory c =
     let none : lookup (is_at (ghosts.cmp c.args.origin)) c.args.self.now ≡ None = search rules in
-    if-memory c.add_first.result _ (subst (λ (t : Option Tally). CountNeedsMemory t c.args.packet.now) (sym none ∙ unknown-by c.args.self.now c.args.origin) tt)
+    if-memory c.add_first.result _ (subst (λ (t : Option Tally). CountNeedsMemory t c.args.packet.now c.args.has_trailer) (sym none ∙ unknown-by c.args.self.now c.args.origin) tt)
 
 pub returns-in_default-with-clause-memory : goal.returns-in_default-with-clause-memory
 returns-in_default-with-clause-memory c memory =
     let found : lookup (is_at (ghosts.cmp c.args.origin)) c.args.self.now ≡ Some c.in-Some.tally.now = search rules in
-    subst (λ (t : Option Tally). CountNeedsMemory t c.args.packet.now) (sym found ∙ unknown-by c.args.self.now c.args.origin) (search rules)
+    subst (λ (t : Option Tally). CountNeedsMemory t c.args.packet.now c.args.has_trailer) (sym found ∙ unknown-by c.args.self.now c.args.origin) (search rules)

@@ -1,0 +1,37 @@
+use crate::block::Packet;
+use crate::seen::Seen;
+use crate::time::Time;
+use crate::wanted::Wanted;
+
+/// What is told of the packets of the sender that is named, if one is, that are passed over for
+/// their place or their time.
+#[derive(Clone, Copy)]
+pub(crate) struct Outside {
+    first: Option<Time>,
+}
+
+impl Outside {
+    /// None was passed over.
+    pub(crate) fn new() -> Outside {
+        Outside { first: None }
+    }
+
+    /// When the first of them came that has a time.
+    pub(crate) fn first(&self) -> Option<Time> {
+        self.first
+    }
+
+    /// Notes a packet that was passed over, and is seen so.
+    pub(crate) fn pass(&mut self, wanted: &Wanted, packet: &Packet<'_>, seen: &Seen<'_>) {
+        if self.first.is_none() && wanted.names(seen) {
+            self.first = packet.time();
+        }
+    }
+
+    /// Notes a packet that was passed over for its time.
+    pub(crate) fn pass_skipped(&mut self, wanted: &Wanted, packet: &Packet<'_>) {
+        if self.first.is_none() && wanted.is_named() {
+            self.pass(wanted, packet, &packet.look());
+        }
+    }
+}
