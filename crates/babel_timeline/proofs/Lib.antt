@@ -8,4 +8,5 @@ pub mod AnswerLaws
 pub mod ToldKeys
 pub mod BestLaws
 pub mod TakingLaws
+pub mod HearingLaws
 pub mod PlaceLaws

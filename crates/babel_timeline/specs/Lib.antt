@@ -7,3 +7,4 @@ pub mod Laws
 pub mod Telling
 pub mod BestAnswers
 pub mod Taking
+pub mod Hearing

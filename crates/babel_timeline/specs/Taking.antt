@@ -1,9 +1,6 @@
 -- The steps by which a packet's TLVs are taken and told: this project's own.
 use Rattle.std.specs.Prelude.{◌≡◌, ◌≢◌, ℕ, List, [], ◌∷◌, ◌++◌, ◌⊎◌, map, Option, Some, None}
-use Rattle.std.specs.Prelude.{unwrap_or}
 use Rattle.std.specs.declared.cmp.Ordering.{Ordering}
-use Rattle.std.specs.BTreeMap.{is_at}
-use Rattle.std.specs.Map.{lookup}
 use Rattle.babel_tlv.specs.Route.{Announcement}
 use Rattle.babel_timeline.specs.declared.change.Change.{Change}
 use Rattle.babel_timeline.specs.declared.subject.Subject.{Subject}
@@ -23,10 +20,6 @@ changes_told None changes = map tellings.Change changes
 changes_told (Some pair) changes = []
 
 module _ {S : Type 0} (cmp : S → S → Ordering) where
-  -- how many octets of the sender were heard
-  abbrev pub octets_heard : List (S × ℕ) → S → ℕ
-  octets_heard heard sender = unwrap_or (lookup (is_at (cmp sender)) heard) 0
-
   -- only rows of this sender change
   abbrev pub OthersStay : S → Rows S → Rows S → Type 0
   OthersStay sender rows after =

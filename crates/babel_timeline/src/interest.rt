@@ -1,6 +1,6 @@
 //! What is told of what senders hold.
-ghost use Rattle.std.specs.Prelude.{◌≡◌, ◌+◌, ◌<◌, ◌^◌, ◌∷◌, ◌++◌, [], List, length, slice_index};
-ghost use Rattle.std.specs.Prelude.{IfNone, IfSome, None, OnOk};
+ghost use Rattle.std.specs.Prelude.{◌≡◌, ◌+◌, ◌<◌, ◌^◌, ◌∷◌, ◌++◌, [], List, length};
+ghost use Rattle.std.specs.Prelude.{IfNone, IfOk, IfSome, None, Ok, OnOk, slice_index};
 ghost use Rattle.babel_tlv.specs.declared.event.Event.TheVariants as events;
 ghost use Rattle.babel_tlv.specs.declared.start.Start.{Start as StartValue};
 ghost use Rattle.babel_tlv.specs.Context.{context_after, first_context};
@@ -8,11 +8,13 @@ ghost use Rattle.babel_tlv.specs.EventKinds.{event_of};
 ghost use Rattle.babel_tlv.specs.FrameFaults.{AreTlvs};
 ghost use Rattle.babel_tlv.specs.Frames.{tlv_value};
 ghost use Rattle.babel_tlv.specs.Framing.{TlvAt, tlvs_of};
+ghost use Rattle.babel_tlv.specs.Says.{said as said_at, sayings_after};
 ghost use Rattle.babel_tlv.specs.Views.{seen_announcement};
 ghost use Rattle.babel_table.specs.Moments.{told_at, told_from, update_interval};
 ghost use Rattle.babel_timeline.specs.declared.change.ChangeKind.TheVariants as kinds;
 ghost use Rattle.babel_timeline.specs.Accounts.{said};
 ghost use Rattle.babel_timeline.specs.Changes.{change};
+ghost use Rattle.babel_timeline.specs.Hearing.{CountsMore};
 ghost use Rattle.babel_timeline.specs.Kept.{expiring};
 ghost use Rattle.babel_timeline.specs.Laws.{without};
 ghost use Rattle.babel_timeline.specs.Rows.{AllLast};
@@ -30,6 +32,7 @@ use crate::telling::Telling;
 use crate::timeline::Timeline;
 use crate::when::When;
 use babel_prefix::Family;
+use babel_table::Report;
 use babel_tlv::{
     Ann, EventKind, Fault, Held, Key, Route, Start, State, Tlv, Tlvs, View, check_body,
 };
@@ -277,7 +280,8 @@ impl Interest {
         }
     }
 
-    /// Takes a TLV of a packet that came at this time, after the TLVs that left this state.
+    /// Takes a TLV of a packet that came at this time, after the TLVs that left this state: what
+    /// kind of event it is.
     fn take_tlv<S: Sender>(
         &self,
         timeline: &mut Timeline<S>,
@@ -287,9 +291,11 @@ impl Interest {
         route: &mut Route,
         tlv: &Tlv<'_>,
         told: &mut Vec<Telling<S>>,
-    ) -> Result<(), Fault>
+    ) -> Result<EventKind, Fault>
         requires { time < 2 ^ 96 }
         ensures bounds { KeepsBounds timeline.old timeline.new }
+        ensures said { IfOk result
+            (λ kind. Ok (event_of kind route.new) ≡ said_at state.old (tlv_value tlv.now)) }
         ensures ok { OnOk result (Tells S.cmp timeline.old.factor self.now.asked
             (said_of self.now.asked self.now.view sender
             (told_at time state.old (tlv_value tlv.now) ∷ [])) time
@@ -304,11 +310,12 @@ impl Interest {
         let before = self.answer(timeline, sender);
         self.take(timeline, sender, when, kind, route, tlv.at, told)?;
         self.tell_answer(timeline, time, sender, before, told)?;
-        Ok(())
+        Ok(kind)
     }
 
     /// Takes the TLVs of a body, whose first octet lies at this offset, and what has expired when
-    /// it came. Where the body is not TLVs to its end (RFC 8966, 4.3), none of them is taken.
+    /// it came; counts the TLVs. Where the body is not TLVs to its end (RFC 8966, 4.3), none of them
+    /// is taken.
     pub(crate) fn take_body<S: Sender>(
         &self,
         timeline: &mut Timeline<S>,
@@ -317,10 +324,14 @@ impl Interest {
         time: u128,
         body: &[u8],
         at: u64,
+        report: &mut Report,
         told: &mut Vec<Telling<S>>,
     ) -> Result<(), Fault>
         requires fits { at + length body.now < 2 ^ 64 }
         requires in_time { time < 2 ^ 96 }
+        requires room { report.old.tlvs + length body.now < 2 ^ 64 }
+        ensures counts { OnOk result (CountsMore report.old
+            (sayings_after start.now [] (tlvs_of at body.now)) report.new) }
         ensures bounds { KeepsBounds timeline.old timeline.new }
         ensures whole { OnOk result (AreTlvs at body.now (tlvs_of at body.now)) }
         ensures ok { OnOk result (Tells S.cmp timeline.old.factor self.now.asked
@@ -333,7 +344,8 @@ impl Interest {
         let mut route = Route::unwritten();
         let mut tlvs = Tlvs::new(body, at);
         while let Some(tlv) = tlvs.advance() {
-            self.take_tlv(timeline, sender, time, &mut state, &mut route, &tlv, told)?;
+            let kind = self.take_tlv(timeline, sender, time, &mut state, &mut route, &tlv, told)?;
+            report.count(&tlv, kind);
         }
         Ok(self.expire(timeline, time, told)?)
     }

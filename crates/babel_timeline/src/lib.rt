@@ -10,6 +10,7 @@ mod asked;
 mod cells;
 mod change;
 mod entry;
+mod heard;
 mod interest;
 pub mod laws;
 mod queue;
