@@ -45,7 +45,7 @@ says_nothing events time untold none = refl
 says_nothing events time (left reason) none = refl
 says_nothing events time (refused lack) none = refl
 says_nothing events time (lacked place sender lack) none = refl
-says_nothing events time (found place sender packet) none = absurd (let origin : Origin = record { place = place; sender = sender } in let bad : None ≡ Some origin = none in cc)
+says_nothing events time (found place sender packet has_trailer) none = absurd (let origin : Origin = record { place = place; sender = sender } in let bad : None ≡ Some origin = none in cc)
 
 pub says_packet : (events : Events) (time : ℕ) (what : Found) (origin : Origin) (packet : List ℕ) (said : List (Said Speaker)) → Some origin ≡ origin_found what → packet ≡ octets_found what
     → IsSaid events time origin.place origin.sender packet said → Says events (Some time) what said
@@ -54,7 +54,7 @@ says_packet events time untold origin packet said is octets is_said = absurd (le
 says_packet events time (left reason) origin packet said is octets is_said = absurd (let bad : Some origin ≡ None = is in cc)
 says_packet events time (refused lack) origin packet said is octets is_said = absurd (let bad : Some origin ≡ None = is in cc)
 says_packet events time (lacked place sender lack) origin packet said is octets is_said = absurd (let bad : Some origin ≡ None = is in cc)
-says_packet events time (found place sender found_octets) origin packet said is octets is_said =
+says_packet events time (found place sender found_octets has_trailer) origin packet said is octets is_said =
     let own : Origin = record { place = place; sender = sender } in
     let some : Some origin ≡ Some own = is in
     let same : origin ≡ own = cc in

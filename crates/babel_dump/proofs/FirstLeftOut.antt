@@ -79,7 +79,7 @@ for_is reason passed is = absurd cc
 for_is reason untold is = absurd cc
 for_is reason (refused lack) is = absurd cc
 for_is reason (lacked place sender lack) is = absurd cc
-for_is reason (found place sender packet) is = absurd cc
+for_is reason (found place sender packet has_trailer) is = absurd cc
 
 -- the numbers of packets rise from one after this
 abbrev RisesFrom : ℕ → List Made → Type 0

@@ -12,7 +12,7 @@ use Rattle.babel_dump.specs.Run.{Output, output}
 use Rattle.babel_dump.specs.declared.events.Followed.{Followed}
 use Rattle.babel_dump.specs.declared.events_fault.EventsFault.{EventsFault}
 use Rattle.babel_dump.specs.declared.events_job.Events.{Events}
-use Rattle.babel_dump.specs.declared.outcome.Outcome.{Outcome}
+use Rattle.babel_dump.specs.declared.events_outcome.EventsOutcome.{EventsOutcome}
 use Rattle.babel_dump.specs.declared.speaker.Speaker.{Speaker}
 use Rattle.babel_dump.proofs.Devices.{gave_itself, gave_more, gave_none}
 
@@ -88,11 +88,11 @@ followed_whole events followed a b c writer buf so_far gave spent met = record {
 -- ---- the run
 
 -- it was followed to its end, and ended
-pub followed_ended : (events : Events) (followed : Followed) (a b : InputState) (u v w : OutputState) (result : Result Outcome EventsFault) → HasFollowed events a b (output u v) followed
-    → IfOk result (λ outcome. (fed : List ℕ) (told : List (Telling Speaker)) → IsFollowed events fed told followed → Ends events fed told (output v w) outcome)
+pub followed_ended : (events : Events) (followed : Followed) (a b : InputState) (u v w : OutputState) (result : Result EventsOutcome EventsFault) → HasFollowed events a b (output u v) followed
+    → IfOk result (λ answer. (fed : List ℕ) (told : List (Telling Speaker)) → IsFollowed events fed told followed → Ends events fed told (output v w) answer)
     → IfOk result (TellsEvents events a b (output u w))
 followed_ended events followed a b u v w (Err fault) has ends = tt
-followed_ended events followed a b u v w (Ok outcome) has ends =
+followed_ended events followed a b u v w (Ok answer) has ends =
     let first = has.goes in
     let end = ends has.octets first.more first.is_followed in
     let wrote = wrote_more events first.more end.more u v w first.wrote end.wrote in

@@ -46,7 +46,7 @@ FoundWhole untold = Unit {0}
 FoundWhole (left reason) = Unit {0}
 FoundWhole (refused lack) = Unit {0}
 FoundWhole (lacked place sender lack) = Unit {0}
-FoundWhole (found place sender packet) = IsPacket packet
+FoundWhole (found place sender packet has_trailer) = IsPacket packet
 
 payload_whole : (place : Place) (sender : Address) (payload : List ℕ) (what : Found) → PayloadIs place sender payload what → FoundWhole what
 payload_whole place sender payload what (inl (body, begins, is)) =
@@ -81,7 +81,7 @@ one_whole came untold packets whole are = are
 one_whole came (left reason) packets whole are = are
 one_whole came (refused lack) packets whole are = are
 one_whole came (lacked place sender lack) packets whole are = are
-one_whole came (found place sender packet) packets whole are = (whole, are)
+one_whole came (found place sender packet has_trailer) packets whole are = (whole, are)
 
 pub made_whole : (wanted : Wanted) (sightings : List Sighting) (made : List Made) → AreMade wanted sightings made → AreWhole (packets_in made)
 made_whole wanted [] made is = subst (λ (m : List Made). AreWhole (packets_in m)) (sym is) tt
@@ -97,7 +97,7 @@ one_octets came untold packets = refl
 one_octets came (left reason) packets = refl
 one_octets came (refused lack) packets = refl
 one_octets came (lacked place sender lack) packets = refl
-one_octets came (found place sender packet) packets = refl
+one_octets came (found place sender packet has_trailer) packets = refl
 
 pub made_octets : (made : List Made) → octets_in (packets_in made) ≡ flat_map (λ one. octets_found one.what) made
 made_octets [] = refl
@@ -115,7 +115,7 @@ one_ends at number came untold packets ends are = subst (λ (n : ℕ). AreEndsAt
 one_ends at number came (left reason) packets ends are = subst (λ (n : ℕ). AreEndsAt n packets ends) (omega arith) are
 one_ends at number came (refused lack) packets ends are = subst (λ (n : ℕ). AreEndsAt n packets ends) (omega arith) are
 one_ends at number came (lacked place sender lack) packets ends are = subst (λ (n : ℕ). AreEndsAt n packets ends) (omega arith) are
-one_ends at number came (found place sender packet) packets ends are =
+one_ends at number came (found place sender packet has_trailer) packets ends are =
     (record { end = at + length packet; number = number; time = time_of came; origin = Some (record { place = place; sender = sender }) }, ends, refl, refl, refl, are)
 
 pub made_ends : (at : ℕ) (made : List Made) → AreEndsAt at (packets_in made) (ends_from false at made)

@@ -33,7 +33,7 @@ timed_one came untold packets given are = are
 timed_one came (left reason) packets given are = are
 timed_one came (refused lack) packets given are = are
 timed_one came (lacked place sender lack) packets given are = are
-timed_one came (found place sender packet) packets given are = (unwrap_or (time_of came) 0, given, refl, told_time (time_of came), are)
+timed_one came (found place sender packet has_trailer) packets given are = (unwrap_or (time_of came) 0, given, refl, told_time (time_of came), are)
 
 timed_made : (made : List Made) → AreTimed (packets_in made) (packets_made made)
 timed_made [] = refl

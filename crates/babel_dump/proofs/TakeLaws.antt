@@ -24,7 +24,7 @@ use Rattle.babel_dump.specs.Run.{Output}
 use Rattle.babel_dump.specs.Speakers.{speaker_cmp}
 use Rattle.babel_dump.specs.declared.events.Followed.{Followed}
 use Rattle.babel_dump.specs.declared.events_job.Events.{Events}
-use Rattle.babel_dump.specs.declared.outcome.Outcome.{Outcome}
+use Rattle.babel_dump.specs.declared.events_outcome.EventsOutcome.{EventsOutcome}
 use Rattle.babel_dump.specs.declared.speaker.Speaker.{Speaker}
 use Rattle.babel_dump.proofs.EventsRuns.{told_so, told_until}
 use Rattle.babel_dump.proofs.FollowLaws.{kept_last, same_made}
@@ -146,13 +146,13 @@ when_timed : (untimed : Bool) (moment : Option ℕ) → untimed ≡ false → (i
 when_timed true moment timed = absurd (let bad : true ≡ false = timed in cc)
 when_timed false moment timed = refl
 
-pub ending : (events : Events) (fed : List ℕ) (told : Tellings) (writer : Output) (old new : Followed) (status : ℕ) (cut : Option ℕ) (outcome : Outcome)
+pub ending : (events : Events) (fed : List ℕ) (told : Tellings) (writer : Output) (old new : Followed) (status : ℕ) (cut : Option ℕ) (answer : EventsOutcome)
     → (is : IsFollowed events fed told old)
     → ((taken octets : List ℕ) → HasGiven old.capture taken octets → IsReadToCut old.capture.limit octets (with_taken taken old.capture.progress.gathering) cut)
     → (events.accept_cut ≡ false → cut ≡ None) → EndsBy events (moment_of old.capture) old new → WroteLines events new.told.items writer
-    → status ≡ senders_status old.capture.progress.gathering.senders → IsOutcomeOf outcome status old.capture.progress.gathering.report cut
-    → Ends events fed told writer outcome
-ending events fed told writer old new status cut outcome is read accepted ends wrote status_is outcome_is = by (same_made extent is.taken fed old.capture.progress old.capture.pending cut is.read given)
+    → status ≡ senders_status old.capture.progress.gathering.senders → IsOutcomeOf answer.outcome status old.capture.progress.gathering.report cut
+    → Ends events fed told writer answer
+ending events fed told writer old new status cut answer is read accepted ends wrote status_is outcome_is = by (same_made extent is.taken fed old.capture.progress old.capture.pending cut is.read given)
   where
     extent : Extent
     extent = followed_extent events
@@ -171,11 +171,11 @@ ending events fed told writer old new status cut outcome is read accepted ends w
 
     same_moment : given.is_read.blocks ≡ is.read.leads.blocks → moment_of old.capture ≡ (if untimed then None else moment)
     same_moment blocks =
-        ap (λ (e : Extent). if untimed then None else moment_up_to e.window old.capture.progress.context.start old.capture.progress.gathering.report.timing.last) is.limit
-        ∙ ap (λ (b : Before). if untimed then None else moment_up_to events.window b.start old.capture.progress.gathering.report.timing.last)
+        ap (λ (e : Extent). if untimed then None else moment_up_to e.window old.capture.progress.context.start old.capture.progress.gathering.report.timing.latest) is.limit
+        ∙ ap (λ (b : Before). if untimed then None else moment_up_to events.window b.start old.capture.progress.gathering.report.timing.latest)
         (is.read.leads.context ∙ ap (context_behind (start extent)) (sym blocks))
 
-    by : (given.is_read.blocks ≡ is.read.leads.blocks) × (given.is_read.gathered.made ≡ is.read.leads.gathered.made) → Ends events fed told writer outcome
+    by : (given.is_read.blocks ≡ is.read.leads.blocks) × (given.is_read.gathered.made ≡ is.read.leads.gathered.made) → Ends events fed told writer answer
     by (blocks, made) =
         let are : EndsBy events (if untimed then None else moment) old new = subst (λ (m : Option ℕ). EndsBy events m old new) (same_moment blocks) ends in
         let have = told_by_then events is.read.leads.gathered.made told (if untimed then None else moment) old new are is.have_told in
@@ -192,7 +192,7 @@ ending events fed told writer old new status cut outcome is read accepted ends w
           all_last = λ timed. subst (λ (m : Option ℕ). IfSome m (λ t. AllLast speaker_cmp events.expiry t new.teller.timeline.rows)) (when_timed untimed moment timed)
               (last_by_then events (if untimed then None else moment) old new are);
           wrote = wrote;
-          outcome_is = subst (λ (s : ℕ). IsOutcomeOf outcome s gathering.report cut) status_is outcome_is;
+          outcome_is = subst (λ (s : ℕ). IsOutcomeOf answer.outcome s gathering.report cut) status_is outcome_is;
         }
       where
         known : (no : Bool) (m : Option ℕ) (t : Tellings) (rows : Rows Speaker) → HaveTold events (if no then None else m) is.read.leads.gathered.made t rows

@@ -89,7 +89,7 @@ with_times true tally = record tally { first = None; last = None }
 with_times false tally = tally
 
 -- `ADDRESS interface N`, and ` link N vlan N.N packets N octets N updates N interval N.NN first
--- TIME last TIME`
+-- TIME last TIME trailers N`
 abbrev pub sender_front : Spelling → Origin → List ℕ
 sender_front spelling origin =
     address_text spelling origin.sender ++ codes " interface " ++ decimal origin.place.interface
@@ -99,16 +99,17 @@ sender_end place tally =
     link_text place.link ++ vlans_text place.vlans ++ codes " packets " ++ decimal tally.packets
     ++ codes " octets " ++ decimal tally.octets ++ codes " updates " ++ decimal tally.updates
     ++ codes " interval " ++ interval_text tally.interval ++ codes " first " ++ time_or tally.first
-    ++ codes " last " ++ time_or tally.last ++ newline
+    ++ codes " last " ++ time_or tally.last ++ codes " trailers " ++ decimal tally.trailers
+    ++ newline
 
 -- `ADDRESS interface N (NAME) link N vlan N.N packets N octets N updates N interval N.NN first TIME
--- last TIME`
+-- last TIME trailers N`
 abbrev pub sender_line : Spelling → (name : List ℕ) → Origin × Tally → List ℕ
 sender_line spelling name sender =
     sender_front spelling sender.0 ++ name_text name ++ sender_end sender.0.place sender.1
 
 -- `{"address":"ADDRESS","interface":N,"link":N,"vlans":[N,N],"name":`, and
--- `,"packets":N,"octets":N,"updates":N,"interval":N,"first":"TIME","last":"TIME"}`
+-- `,"packets":N,"octets":N,"updates":N,"interval":N,"first":"TIME","last":"TIME","trailers":N}`
 abbrev pub sender_front_json : Spelling → Origin → List ℕ
 sender_front_json spelling origin =
     codes "{\"address\":\"" ++ address_text spelling origin.sender ++ codes "\",\"interface\":"
@@ -123,10 +124,11 @@ sender_end_json tally =
     ++ codes ",\"updates\":" ++ decimal tally.updates
     ++ codes ",\"interval\":" ++ number_json tally.interval
     ++ codes ",\"first\":" ++ time_json tally.first
-    ++ codes ",\"last\":" ++ time_json tally.last ++ codes "}" ++ newline
+    ++ codes ",\"last\":" ++ time_json tally.last
+    ++ codes ",\"trailers\":" ++ decimal tally.trailers ++ codes "}" ++ newline
 
 -- `{"address":"ADDRESS","interface":N,"link":N,"vlans":[N,N],"name":"NAME"`, and then
--- `,"packets":N,"octets":N,"updates":N,"interval":N,"first":"TIME","last":"TIME"}`
+-- `,"packets":N,"octets":N,"updates":N,"interval":N,"first":"TIME","last":"TIME","trailers":N}`
 abbrev pub sender_json : Spelling → (name : List ℕ) → Origin × Tally → List ℕ
 sender_json spelling name sender =
     sender_front_json spelling sender.0 ++ name_json name ++ sender_end_json sender.1

@@ -33,7 +33,7 @@ use Rattle.babel_dump.specs.EventText.{event_in}
 use Rattle.babel_dump.specs.Run.{Output}
 use Rattle.babel_dump.specs.declared.addr_pair.AddrPair.{AddrPair}
 use Rattle.babel_dump.specs.declared.events_job.Events.{Events}
-use Rattle.babel_dump.specs.declared.outcome.Outcome.{Outcome}
+use Rattle.babel_dump.specs.declared.events_outcome.EventsOutcome.{EventsOutcome}
 use Rattle.babel_dump.specs.declared.speaker.Speaker.{Speaker}
 use Rattle.babel_dump.specs.Speakers.{speaker_cmp}
 
@@ -64,7 +64,7 @@ pub record IsSaid (events : Events) (time : ℕ) (place : Place) (sender : Addre
 
 -- what a record of a capture says: what its packet does, where it has one, and a time
 abbrev pub Says : Events → Option ℕ → Found → List (Said Speaker) → Type 0
-Says events (Some time) (found place sender packet) said =
+Says events (Some time) (found place sender packet has_trailer) said =
     IsSaid events time place sender packet said
 Says events time what said = said ≡ []
 
@@ -124,16 +124,16 @@ pub record AreLines (events : Events) (told : List (Telling Speaker)) (text : Li
   pub text_is : text
       ≡ flat_map (λ one. event_in events.format events.view events.pair one.0 one.1) named
 
--- the moment up to which the capture was read: the last of the window, or that of the last record
+-- the moment up to which the capture was read: the last of the window, or the latest time read
 abbrev pub moment_read : Events → List BlockAt → Gathering → Option ℕ
 moment_read events blocks gathering =
     moment_up_to events.window (context_behind (start (followed_extent events)) blocks).start
-    gathering.report.timing.last
+    gathering.report.timing.latest
 
 -- A run of `events` that ends well: the reader gave a capture, all that it had, and the writer took
 -- the lines of what its records told. All is told that ends by the moment that it was read to.
 pub record TellsEvents (events : Events) (old new : InputState) (writer : Output)
-    (outcome : Outcome) : Type 0 where
+    (answer : EventsOutcome) : Type 0 where
   pub octets : List ℕ
   pub gave : GaveOctets old new octets
   pub gathering : Gathering
@@ -151,4 +151,4 @@ pub record TellsEvents (events : Events) (old new : InputState) (writer : Output
   pub text : List ℕ
   pub lines : AreLines events told text
   pub wrote : Appends writer.old.taken writer.new.taken text
-  pub outcome_is : IsOutcomeOf outcome (senders_status gathering.senders) gathering.report cut
+  pub outcome_is : IsOutcomeOf answer.outcome (senders_status gathering.senders) gathering.report cut

@@ -22,7 +22,7 @@ use Rattle.babel_dump.specs.Run.{Output}
 use Rattle.babel_dump.specs.Speakers.{speaker_cmp}
 use Rattle.babel_dump.specs.declared.events.Followed.{Followed}
 use Rattle.babel_dump.specs.declared.events_job.Events.{Events}
-use Rattle.babel_dump.specs.declared.outcome.Outcome.{Outcome}
+use Rattle.babel_dump.specs.declared.events_outcome.EventsOutcome.{EventsOutcome}
 use Rattle.babel_dump.specs.declared.speaker.Speaker.{Speaker}
 
 -- it tells what these words ask for
@@ -101,7 +101,7 @@ EndsBy events (Some moment) old new =
 -- These octets are all of a capture that was followed so far. The writer took the lines of what is
 -- told besides, up to the moment that it was read to.
 pub record Ends (events : Events) (fed : List ℕ) (told : List (Telling Speaker)) (writer : Output)
-    (outcome : Outcome) : Type 0 where
+    (answer : EventsOutcome) : Type 0 where
   pub gathering : Gathering
   pub cut : Option ℕ
   pub is_read : IsReadToCut (followed_extent events) fed gathering cut
@@ -115,7 +115,7 @@ pub record Ends (events : Events) (fed : List ℕ) (told : List (Telling Speaker
       → IfSome (moment_read events is_read.is_read.blocks gathering)
       (λ moment. AllLast speaker_cmp events.expiry moment rows)
   pub wrote : WroteLines events more writer
-  pub outcome_is : IsOutcomeOf outcome (senders_status gathering.senders) gathering.report cut
+  pub outcome_is : IsOutcomeOf answer.outcome (senders_status gathering.senders) gathering.report cut
 
 -- with what the packet says, the tellings are those before and what it tells
 pub record HearsPacket (events : Events) (origin : Origin) (time : ℕ) (packet : List ℕ)

@@ -5,10 +5,13 @@ use Rattle.std.specs.List.{filter_map, join_by}
 use Rattle.std.specs.Option.{option_map}
 use Rattle.std.specs.Fmt.{decimal}
 use Rattle.babel_prefix.specs.Address.{Address}
+use Rattle.babel_capture.specs.declared.tallies.Origin.{Origin}
 use Rattle.babel_capture.specs.Counts.{Counts as CaptureCounts}
 use Rattle.babel_capture.specs.Counts.{all_reasons as all_left_out, count_at as left_out_at}
 use Rattle.babel_capture.specs.Counts.{reason_place as left_out_place}
 use Rattle.babel_table.specs.Counts.{Counts}
+use Rattle.babel_dump.specs.CaptureText.{name_json}
+use Rattle.babel_dump.specs.EventText.{place_json}
 use Rattle.babel_dump.specs.JsonText.{counted_object, quoted, report_members}
 use Rattle.babel_dump.specs.LeftOut.{left_out_name}
 use Rattle.babel_dump.specs.RunText.{newline}
@@ -24,6 +27,8 @@ abbrev pub note_name : Note → List ℕ
 note_name (notes.Ignored note) = codes "ignored"
 note_name (notes.LeftOut note) = codes "left-out"
 note_name notes.Cooked = codes "cooked-1"
+note_name (notes.Sections sections) = codes "sections"
+note_name (notes.Trailers packets) = codes "trailers"
 note_name (notes.CaptureCut at) = codes "capture-cut"
 note_name (notes.TooShort frames) = codes "too-short"
 note_name (notes.Backwards packet) = codes "backwards"
@@ -60,6 +65,8 @@ source_member spelling source =
 abbrev pub note_members : Note → List ℕ
 note_members (notes.Ignored note) = ignored_members note.report
 note_members (notes.LeftOut note) = left_out_members note.report
+note_members (notes.Sections sections) = number_member (codes "sections") sections
+note_members (notes.Trailers packets) = number_member (codes "packets") packets
 note_members (notes.CaptureCut at) = number_member (codes "at") at
 note_members (notes.TooShort frames) = number_member (codes "frames") frames
 note_members (notes.Backwards packet) = number_member (codes "packet") packet
@@ -81,3 +88,19 @@ abbrev pub note_json : SideNote → List ℕ
 note_json told =
     codes "{\"note\":\"" ++ note_name told.note ++ codes "\"" ++ note_members told.note
     ++ side_member told.side ++ codes "}" ++ newline
+
+-- ---- of a sender at its place, whose interface has this name
+
+-- `{"note":"NAME","sender":"ADDRESS","interface":N,"link":N,"vlans":[N,N],"name":`
+abbrev pub note_front : Spelling → Origin → Note → List ℕ
+note_front spelling origin note =
+    codes "{\"note\":\"" ++ note_name note ++ codes "\",\"sender\":\""
+    ++ address_text spelling origin.sender ++ place_json origin.place
+
+abbrev pub note_rest : Note → List ℕ
+note_rest note = note_members note ++ codes "}" ++ newline
+
+-- `{"note":"NAME","sender":"ADDRESS","interface":N,"link":N,"vlans":[N,N],"name":"NAME",..}`
+abbrev pub note_of_sender : Spelling → Origin → (name : List ℕ) → SideNote → List ℕ
+note_of_sender spelling origin name told =
+    note_front spelling origin told.note ++ name_json name ++ note_rest told.note

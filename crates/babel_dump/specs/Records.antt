@@ -31,7 +31,7 @@ packet_in came untold = []
 packet_in came (left reason) = []
 packet_in came (refused lack) = []
 packet_in came (lacked place sender lack) = []
-packet_in came (found place sender packet) = (time_of came, packet) ∷ []
+packet_in came (found place sender packet has_trailer) = (time_of came, packet) ∷ []
 
 abbrev pub packets_in : List Made → List (Option ℕ × List ℕ)
 packets_in made = flat_map (λ one. packet_in one.came one.what) made

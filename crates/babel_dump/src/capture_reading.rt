@@ -12,10 +12,3 @@ pub struct CaptureReading {
     /// Whether the capture is refused if a wanted datagram of it is left out: `--strict`.
     pub strict: bool,
 }
-
-impl CaptureReading {
-    /// Whether each packet is to have a time.
-    pub(crate) fn is_timed(&self) -> bool {
-        matches!(self.window, Window::Between { .. })
-    }
-}

@@ -158,6 +158,7 @@ pub(crate) fn command<'a>(alloc: Global) -> Result<Command<'a>, AllocError> {
         )
         .after_help(AFTER_HELP)
         .no_binary_name(true)
+        .args_override_self(true)
         .bin_name("babel-dump")?
         .subcommand_required(true);
     let command = with_tables(alloc, command)?;
@@ -210,9 +211,15 @@ fn lookup<'a>(alloc: Global) -> Result<Command<'a>, AllocError> {
         .arg(strict(alloc))?
         .arg(json(alloc))?
         .arg(short(alloc))?
-        .arg(to.required(false).required_unless_present("each")?)?
+        .arg(to.required(false))?
         .arg(src.required(false))?
-        .arg(each(alloc)?)
+        .arg(each(alloc)?)?
+        .group(
+            ArgGroup::new(alloc, "asked")
+                .arg("to")?
+                .arg("each")?
+                .required(true),
+        )
 }
 
 /// The option for the pairs to look up.
@@ -222,7 +229,7 @@ fn each<'a>(alloc: Global) -> Result<Arg<'a>, AllocError> {
     Arg::new(alloc, "each")
         .long("each")
         .value_name("PAIRS")
-        .action(ArgAction::Set)
+        .action(ArgAction::Append)
         .help(help)
         .conflicts_with("to")?
         .conflicts_with("src")
@@ -238,7 +245,7 @@ fn normalise<'a>(alloc: Global) -> Result<Command<'a>, AllocError> {
         .long("body")
         .value_name("OCTETS")
         .value_parser(value_parser!(u16).range(128..))
-        .action(ArgAction::Set)
+        .action(ArgAction::Append)
         .help("How long the body of a packet may be, from 128 to 65535 octets [default: 1024]");
     of_one_dump(alloc, command)?
         .arg(strict(alloc))?
@@ -464,7 +471,7 @@ fn events<'a>(alloc: Global) -> Result<Command<'a>, AllocError> {
     let expiry = expiry(
         alloc,
         "Tell as well when a route was not announced again within FACTOR times its Interval; 3.5 \
-         in RFC 8966, appendix B",
+         in RFC 8966, appendix B, and BIRD, 6 in babeld 1.12",
     );
     let to = address(
         alloc,
@@ -554,7 +561,7 @@ fn with_settings<'a>(alloc: Global, command: Command<'a>) -> Result<Command<'a>,
     let expiry = expiry(
         alloc,
         "Leave out what was not announced again within FACTOR times its Interval, at --until or \
-         else at the end of a capture; 3.5 in RFC 8966, appendix B",
+         else at the end of a capture; 3.5 in RFC 8966, appendix B, and BIRD, 6 in babeld 1.12",
     );
     let max_routes = max_routes(
         alloc,
@@ -595,7 +602,7 @@ fn moment<'a>(alloc: Global, id: &'a str, help: &'a str) -> Arg<'a> {
     Arg::new(alloc, id)
         .long(id)
         .value_name("TIME")
-        .action(ArgAction::Set)
+        .action(ArgAction::Append)
         .help(help)
 }
 
@@ -604,7 +611,7 @@ fn expiry<'a>(alloc: Global, help: &'a str) -> Arg<'a> {
     Arg::new(alloc, "expiry")
         .long("expiry")
         .value_name("FACTOR")
-        .action(ArgAction::Set)
+        .action(ArgAction::Append)
         .help(help)
 }
 
@@ -619,7 +626,7 @@ fn number<'a>(alloc: Global, id: &'a str, name: &'a str, most: i64, help: &'a st
         .long(id)
         .value_name(name)
         .value_parser(value_parser!(u32).range(1..=most))
-        .action(ArgAction::Set)
+        .action(ArgAction::Append)
         .help(help)
 }
 
@@ -629,7 +636,7 @@ fn address<'a>(alloc: Global, id: &'a str, help: &'a str) -> Arg<'a> {
         .long(id)
         .value_name("ADDRESS")
         .required(true)
-        .action(ArgAction::Set)
+        .action(ArgAction::Append)
         .help(help)
 }
 
@@ -653,7 +660,7 @@ fn place<'a>(alloc: Global, id: &'a str, help: &'a str) -> Arg<'a> {
     Arg::new(alloc, id)
         .long(id)
         .value_name("INTERFACE")
-        .action(ArgAction::Set)
+        .action(ArgAction::Append)
         .help(help)
 }
 

@@ -2,7 +2,7 @@
 //! the capture is read.
 ghost use Rattle.std.specs.Prelude.{◌≡◌, ◌+◌, ◌-◌, ◌∷◌, ◌++◌, ◌^◌, ◌<◌, ◌≤◌, ℕ, List, []};
 ghost use Rattle.std.specs.Prelude.{None, IfOk, IfSome, OnOk, false, length, slice_range};
-ghost use Rattle.std.specs.Prelude.{vec_capacity};
+ghost use Rattle.std.specs.Prelude.{map, vec_capacity};
 ghost use Rattle.std.specs.List.{flat_map};
 ghost use Rattle.std.specs.Option.{option_map};
 ghost use Rattle.babel_capture.specs.Capture.{HasGiven, IsReadToCut, moment_read};
@@ -17,6 +17,7 @@ ghost use Rattle.babel_dump.specs.EventsRun.{HaveTold, TellsEvents, followed_by}
 ghost use Rattle.babel_dump.specs.Followed.{AreToHear, Ends, EndsBy, Goes, HasFollowed};
 ghost use Rattle.babel_dump.specs.Followed.{HearsPacket, IsFollowed, Suits, WroteLines};
 ghost use Rattle.babel_dump.specs.Followed.{named_event};
+ghost use Rattle.babel_dump.specs.HeardSenders.{heard_of, heard_told, sender_heard};
 ghost use Rattle.babel_dump.specs.Run.{output};
 ghost use Rattle.babel_dump.specs.Slices.{WroteFront};
 ghost use Rattle.babel_dump.specs.declared.speaker.Speaker.{Speaker as SpeakerSaid};
@@ -27,6 +28,7 @@ use crate::byte_out::ByteOut;
 use crate::event_line::write_event;
 use crate::events_fault::EventsFault;
 use crate::events_job::Events;
+use crate::events_outcome::{EventsOutcome, HeardSender};
 use crate::factor::Factor;
 use crate::input_fault::InputFault;
 use crate::outcome::{Outcome, Reports};
@@ -65,15 +67,15 @@ pub fn run_events<R: ByteIn, W: ByteOut>(
     events: &Events,
     reader: &mut R,
     writer: &mut W,
-) -> Result<Outcome, EventsFault>
+) -> Result<EventsOutcome, EventsFault>
     requires reader { HasRoomToCount (R.state reader.old) }
     requires writer { HasRoomToWrite (W.state writer.old) }
-    ensures { IfOk result (TellsEvents events.now (R.state reader.old) (R.state reader.new)
-        (output (W.state writer.old) (W.state writer.new))) }
+    ensures { IfOk result (λ answer. TellsEvents events.now (R.state reader.old)
+        (R.state reader.new) (output (W.state writer.old) (W.state writer.new)) answer) }
 {
     let mut followed = Followed::new(alloc, events)?;
     followed.follow(events, reader, writer)?;
-    followed.end(events, writer)
+    followed.end(alloc, events, writer)
 }
 
 impl Followed {
@@ -211,24 +213,58 @@ impl Followed {
 
     /// Ends the capture, of which all was read: tells what has expired up to the moment that it was
     /// read to.
-    fn end<W: ByteOut>(mut self, events: &Events, writer: &mut W) -> Result<Outcome, EventsFault>
+    fn end<W: ByteOut>(
+        mut self,
+        alloc: Global,
+        events: &Events,
+        writer: &mut W,
+    ) -> Result<EventsOutcome, EventsFault>
         requires few_failures { (W.state writer.old).failures < 2 ^ 64 - 1 }
         requires few_flushes { (W.state writer.old).flushes < 2 ^ 64 - 1 }
         requires told { self.told.items ≡ [] }
         requires empty { self.buffer.items ≡ [] }
         requires room { 384 ≤ vec_capacity self.buffer }
-        ensures { IfOk result (λ outcome. (fed : List ℕ) (told : List (TellingSaid SpeakerSaid))
+        ensures { IfOk result (λ answer. (fed : List ℕ) (told : List (TellingSaid SpeakerSaid))
             → IsFollowed events.now fed told self → Ends events.now fed told
-            (output (W.state writer.old) (W.state writer.new)) outcome) }
+            (output (W.state writer.old) (W.state writer.new)) answer) }
     {
         let cut = self.cut(events)?;
         let status = self.status(events)?;
+        let senders = self.senders(alloc)?;
         self.expire(events)?;
         self.write(events, writer)?;
         let report = self.capture.gathered().report();
-        Ok(Outcome {
+        let outcome = Outcome {
             status,
             reports: Reports::Capture { report, cut },
+        };
+        Ok(EventsOutcome { outcome, senders })
+    }
+
+    /// What was heard of each sender, by place, then by address.
+    fn senders(&self, alloc: Global) -> Result<Vec<HeardSender>, AllocError>
+        ensures { IfOk result (λ senders. map heard_told senders.items
+            ≡ map (sender_heard self.now) self.now.capture.progress.gathering.senders) }
+    {
+        let mut senders = Vec::new(alloc);
+        for (origin, _tally) in self.capture.gathered().senders().iter() {
+            senders.push(self.heard(alloc, *origin)?)?;
+        }
+        Ok(senders)
+    }
+
+    /// What was heard of this sender.
+    fn heard(&self, alloc: Global, origin: Origin) -> Result<HeardSender, AllocError>
+        ensures { IfOk result (λ heard. heard_told heard ≡ heard_of self.now origin) }
+    {
+        let Origin { place, sender } = origin;
+        let mut name = Vec::new(alloc);
+        name.extend_from_slice(self.capture.gathered().name(place.interface))?;
+        let report = self.teller.report(Speaker { sender, place });
+        Ok(HeardSender {
+            origin,
+            name,
+            report,
         })
     }
 

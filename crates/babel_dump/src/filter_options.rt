@@ -40,6 +40,6 @@ fn word<'a>(alloc: Global, id: &'a str, name: &'a str, help: &'a str) -> Arg<'a>
     Arg::new(alloc, id)
         .long(id)
         .value_name(name)
-        .action(ArgAction::Set)
+        .action(ArgAction::Append)
         .help(help)
 }

@@ -1,15 +1,8 @@
-//! The texts of `clap`, as they are printed.
+//! The help texts of `clap`, as they are printed.
 use std::alloc::{AllocError, Global};
 
 /// No line of a help text is longer, where it has a blank to break at.
 const COLUMNS: usize = 80;
-
-/// How tips of `clap` begin that are of no use here: no file is called as an option, and
-/// `--strict`, which `show` has not, is no `--short`.
-const MISLEADING: [&str; 2] = [
-    "  tip: to pass '",
-    "  tip: a similar argument exists: '--short'",
-];
 
 /// A help text whose lines are broken at blanks where they are too long. A line goes on below its
 /// last column: where the text after two blanks begins.
@@ -50,25 +43,4 @@ fn push_blanks(lines: &mut String, count: usize) -> Result<(), AllocError> {
         lines.push(' ')?;
     }
     Ok(())
-}
-
-/// A text of what is wrong with the words, without a tip that misleads, and without the empty line
-/// that stands before it alone.
-pub(crate) fn without_misleading_tip(alloc: Global, text: &str) -> Result<String, AllocError> {
-    let mut lines = String::new(alloc);
-    let mut after_empty = false;
-    for line in text.lines() {
-        if is_misleading(line) || (after_empty && line.is_empty()) {
-            continue;
-        }
-        lines.push_str(line)?;
-        lines.push('\n')?;
-        after_empty = line.is_empty();
-    }
-    Ok(lines)
-}
-
-fn is_misleading(line: &str) -> bool {
-    let [as_a_value, short] = MISLEADING;
-    line.starts_with(as_a_value) || line.starts_with(short)
 }

@@ -1,11 +1,13 @@
 //! What a user can do where an input is refused.
-use crate::dump_input::begins_capture;
+use crate::dump_input::{begins_capture, begins_dump};
 use crate::events_fault::EventsFault;
 use crate::events_job::Events;
 use crate::ignored::IgnoredTlv;
 use crate::input_fault::InputFault;
 use crate::job::Job;
+use crate::note::Note;
 use crate::pairs_fault::PairsFault;
+use crate::reading::capture_limit;
 use crate::run_fault::{RunFault, Side};
 use crate::sender_keys::SenderKeys;
 use babel_capture::{Fault as CaptureFault, Reason as LeftOutReason};
@@ -34,7 +36,7 @@ pub enum Hint {
     /// The octets are text.
     #[error("hint: this is text, and neither a dump of Babel packets nor a capture")]
     Text,
-    /// A block of a capture has no length that it can have.
+    /// A capture begins within a capture.
     #[error("hint: captures joined by cat are not one capture; use mergecap")]
     Joined,
     /// What comes after a packet begins no packet.
@@ -52,8 +54,9 @@ pub enum Hint {
     #[error("hint: this looks like a dump, not a capture: use show, lookup, normalise, key, pairs, \
              compare or diff")]
     Dump,
-    /// The octets are no capture.
-    #[error("hint: a capture is a file of pcap or pcapng, as tcpdump -w writes it")]
+    /// The octets are neither a capture nor a dump.
+    #[error("hint: a capture is a file of pcap or pcapng, as tcpdump -w writes it; editcap -F pcap \
+             makes one of other formats")]
     Format,
     /// The capture is cut short.
     #[error("hint: the recorder was stopped within a record; --accept-cut reads the complete \
@@ -85,15 +88,19 @@ pub enum Hint {
     /// A line of `--each` is not a pair of addresses.
     #[error("hint: a line has a destination and a source of one family, with blanks between them")]
     NotAPair,
+    /// Times run backwards in a capture.
+    #[error("hint: reordercap FILE SORTED sorts the packets of a capture by their times")]
+    Reorder,
     /// The fault of a dump in a capture tells where a TLV is in the dump.
     #[error("hint: this counts the octets of the dump, as extract writes it")]
     Offset,
 }
 
 /// What makes of compressed octets what was compressed, by their first octets: RFC 1952, 2.3.1;
-/// the file formats of xz, 2.1.1.1; RFC 8878, 3.1.1.
-const COMPRESSED: [(&[u8], &str); 3] = [
+/// the file formats of bzip2 and of xz, 2.1.1.1; RFC 8878, 3.1.1.
+const COMPRESSED: [(&[u8], &str); 4] = [
     (&[0x1f, 0x8b], "zcat"),
+    (&[b'B', b'Z', b'h'], "bzcat"),
     (&[0xfd, b'7', b'z', b'X'], "xzcat"),
     (&[0x28, 0xb5, 0x2f, 0xfd], "zstdcat"),
 ];
@@ -115,6 +122,14 @@ impl Hint {
         match reason {
             Reason::UnknownEncoding => Hint::of_encoding(job.limits()?),
             Reason::NoNextHop => Some(Hint::NoNextHop(side.option())),
+            _ => None,
+        }
+    }
+
+    /// What can be done about what a note tells of a capture.
+    pub fn of_note(note: &Note) -> Option<Hint> {
+        match note {
+            Note::Backwards(_) => Some(Hint::Reorder),
             _ => None,
         }
     }
@@ -150,7 +165,9 @@ impl Hint {
     /// octets, or of the dump of a sender in it.
     pub fn of_sender_keys(keys: &SenderKeys, fault: &InputFault, begins: &[u8]) -> Option<Hint> {
         match fault {
-            InputFault::Capture(fault) => Hint::of_capture(keys.limits.bytes(), fault, begins),
+            InputFault::Capture(fault) => {
+                Hint::of_capture(capture_limit(keys.limits.bytes()), fault, begins)
+            }
             InputFault::Dump(Fault::TooManyPairs) => Some(Hint::Pairs(keys.limits.entries())),
             InputFault::Dump(Fault::TooLong) => Some(Hint::Octets(keys.limits.bytes())),
             InputFault::Ignored(
@@ -188,16 +205,13 @@ impl Hint {
         }
     }
 
-    /// What octets are that begin so, where they are neither a dump nor a capture.
-    pub fn of_begins(begins: &[u8]) -> Option<Hint> {
-        Hint::of_other(begins)
-    }
-
     fn of_input(job: &Job, side: Side, fault: &InputFault, begins: &[u8]) -> Option<Hint> {
         match fault {
             InputFault::Dump(fault) => Hint::of_dump(job, *fault, begins),
             InputFault::Ignored(tlv) => Hint::of_reason(job, tlv.reason, side),
-            InputFault::Capture(fault) => Hint::of_capture(job.most_octets(), fault, begins),
+            InputFault::Capture(fault) => {
+                Hint::of_capture(job.most_octets_of_capture(), fault, begins)
+            }
             InputFault::SeveralInterfaces(_) => Some(Hint::Interface(side.place_option())),
             InputFault::NoPackets(_) => Some(Hint::Senders),
             InputFault::LeftOut(_) | InputFault::NoUpdates | InputFault::Read => None,
@@ -209,7 +223,8 @@ impl Hint {
             Fault::TooManyRoutes { .. } => Some(Hint::Routes(job.limits()?.entries())),
             Fault::TooManyPairs => Hint::of_too_many(job),
             Fault::TooLong => Some(Hint::Octets(job.most_octets())),
-            Fault::BadMagic { at: 0 } => Hint::of_other(begins),
+            Fault::Truncated { at: 0 } | Fault::BadMagic { at: 0 } | Fault::BadVersion { at: 0 }
+                if !begins_dump(begins) => Some(Hint::of_other(begins)),
             Fault::BadMagic { .. } => Some(Hint::Trailer),
             _ => None,
         }
@@ -226,22 +241,33 @@ impl Hint {
     }
 
     /// What octets are that are neither a dump nor a capture, by the first of them.
-    fn of_other(begins: &[u8]) -> Option<Hint> {
+    fn of_other(begins: &[u8]) -> Hint {
         for (magic, program) in &COMPRESSED {
             if begins.starts_with(magic) {
-                return Some(Hint::Compressed(program));
+                return Hint::Compressed(program);
             }
         }
-        let is_text = !begins.is_empty()
-            && begins.iter().all(|octet| octet.is_ascii_graphic() || octet.is_ascii_whitespace());
-        if is_text { Some(Hint::Text) } else { None }
+        if is_text(begins) {
+            Hint::Text
+        } else {
+            Hint::Format
+        }
+    }
+
+    /// What to do about a block of a capture that has no length that it can have, and begins with
+    /// these octets.
+    pub fn of_block(begins: &[u8]) -> Option<Hint> {
+        if begins_capture(begins) {
+            Some(Hint::Joined)
+        } else {
+            None
+        }
     }
 
     fn of_capture(limit: u32, fault: &CaptureFault, begins: &[u8]) -> Option<Hint> {
         match fault {
             CaptureFault::NotCapture if begins.starts_with(&[42, 2]) => Some(Hint::Dump),
-            CaptureFault::NotCapture => Hint::of_other(begins).or(Some(Hint::Format)),
-            CaptureFault::BadLength { .. } => Some(Hint::Joined),
+            CaptureFault::NotCapture => Some(Hint::of_other(begins)),
             CaptureFault::CutShort { .. } => Some(Hint::Cut),
             CaptureFault::Snapped { .. } => Some(Hint::Snapped),
             CaptureFault::Fragment { .. } => Some(Hint::Fragment),
@@ -252,4 +278,15 @@ impl Hint {
             _ => None,
         }
     }
+}
+
+/// Whether these octets, which are the first of an input, are text: UTF-8, of which the last
+/// character may be cut, without control characters but tab, line feed and carriage return.
+fn is_text(begins: &[u8]) -> bool {
+    let is_utf8 = match str::from_utf8(begins) {
+        Ok(_) => true,
+        Err(error) => error.error_len().is_none(),
+    };
+    let is_plain = |octet: &u8| *octet >= 32 || matches!(octet, b'\t' | b'\n' | b'\r');
+    !begins.is_empty() && is_utf8 && begins.iter().all(is_plain)
 }

@@ -7,11 +7,11 @@ use crate::capture_reading::CaptureReading;
 use crate::filter::Filter;
 use crate::format::Format;
 use crate::key_text::Named;
-use crate::reading::{Reading, TimeOption};
+use crate::reading::{Reading, TimeOption, capture_limit};
 use crate::run_fault::Side;
 use crate::spelling::Spelling;
 use babel_canon::Body;
-use babel_capture::Place;
+use babel_capture::{Place, Window};
 use babel_prefix::Addr;
 use babel_table::Limits;
 use babel_tlv::View;
@@ -332,14 +332,15 @@ impl Job {
         }
     }
 
-    /// Whether a time is asked for of the input on this side, if it is a capture.
-    pub(crate) fn is_timed(&self, side: Side) -> bool {
-        if let Job::Senders { reading, .. } | Job::Extract { reading, .. } = self {
-            return reading.is_timed();
+    /// Where and when the packets came that are read of the input on this side, if it is a capture:
+    /// the place, if one is named, and the window.
+    pub(crate) fn asked_packets(&self, side: Side) -> (Option<Place>, Window) {
+        if let Job::Extract { reading, place, .. } = self {
+            return (*place, reading.window);
         }
         match side {
-            Side::First => is_timed(self.reading()),
-            Side::Other => is_timed(self.other_reading()),
+            Side::First => asked_packets(self.reading()),
+            Side::Other => asked_packets(self.other_reading()),
         }
     }
 
@@ -348,6 +349,14 @@ impl Job {
         match self {
             Job::Senders { reading, .. } | Job::Extract { reading, .. } => reading.limit,
             _ => self.limits().map_or(0, |limits| limits.bytes()),
+        }
+    }
+
+    /// How many octets of an input are read at most, if that is a capture.
+    pub(crate) fn most_octets_of_capture(&self) -> u32 {
+        match self {
+            Job::Senders { reading, .. } | Job::Extract { reading, .. } => reading.limit,
+            _ => capture_limit(self.most_octets()),
         }
     }
 
@@ -400,6 +409,10 @@ impl Job {
 pub enum Refusal {
     /// The words are wrong: for standard error, status 2.
     Usage(String),
+    /// As `Usage`: the first word is no command. It may be a file.
+    NoCommand { text: String, word: String },
+    /// As `Usage`: the sender is missing of what is in this file.
+    NoSender { text: String, file: String },
     /// The words ask for help: for standard output, status 0.
     Help(String),
     /// An allocation was refused: `out of memory` on standard error, status 5.
@@ -436,10 +449,10 @@ fn for_captures(reading: Option<Reading>) -> ForCaptures {
     }
 }
 
-/// Whether a time is asked for of a capture that is read so.
-fn is_timed(reading: Option<Reading>) -> bool {
+/// Where and when the packets came that are read of a capture that is read so.
+fn asked_packets(reading: Option<Reading>) -> (Option<Place>, Window) {
     match reading {
-        Some(reading) => reading.of_capture().is_timed(),
-        None => false,
+        Some(reading) => (reading.place, reading.window),
+        None => (None, Window::Whole),
     }
 }

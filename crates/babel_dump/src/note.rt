@@ -16,6 +16,11 @@ pub enum Note {
     LeftOut(LeftOutNote),
     /// Babel packets came in frames that name no interface: of Linux cooked, version 1.
     Cooked,
+    /// Babel packets came in so many sections of a capture, each of which describes its interfaces
+    /// anew.
+    Sections(u64),
+    /// So many packets have octets after the body, as the trailer of RFC 8967, 3.
+    Trailers(u64),
     /// A capture is cut short at this offset, and was read up to there.
     CaptureCut(u64),
     /// So many frames were too short to tell whether they had a datagram of Babel.
@@ -44,7 +49,20 @@ impl fmt::Display for Note {
             Note::LeftOut(note) => write!(f, "{note}"),
             Note::Cooked => f.write_str(
                 "frames of Linux cooked, version 1, name no interface, so links can't be told \
-                 apart; record with -y LINUX_SLL2",
+                 apart; record with -y LINUX_SLL2, or, where a link has VLAN tags, on its \
+                 interface",
+            ),
+            Note::Sections(sections) => write!(
+                f,
+                "{sections} sections; the interfaces of each are others: mergecap makes them one"
+            ),
+            Note::Trailers(1) => f.write_str(
+                "1 packet has octets after its body; authentication (RFC 8967) is not checked",
+            ),
+            Note::Trailers(packets) => write!(
+                f,
+                "{packets} packets have octets after their bodies; authentication (RFC 8967) is \
+                 not checked"
             ),
             Note::CaptureCut(at) => write!(f, "capture cut short at {at}, and read up to there"),
             Note::TooShort(1) => f.write_str("1 frame too short to tell"),

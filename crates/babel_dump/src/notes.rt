@@ -1,13 +1,14 @@
 //! The notes of a run: one list, for standard error and, as JSON, for the output.
 ghost use Rattle.std.specs.Prelude.{◌-◌, ◌^◌, ◌<◌, ◌≤◌, vec_capacity};
 ghost use Rattle.std.specs.List.{flat_map};
-ghost use Rattle.babel_dump.specs.NoteJson.{note_json};
+ghost use Rattle.babel_dump.specs.NoteJson.{note_json, note_of_sender};
 ghost use Rattle.babel_dump.specs.Run.{output};
 ghost use Rattle.babel_dump.specs.Slices.{WroteText};
 
 use crate::byte_out::ByteOut;
 use crate::captured::CaptureNotes;
 use crate::events_job::Events;
+use crate::events_outcome::{EventsOutcome, HeardSender};
 use crate::ignored_note::IgnoredNote;
 use crate::job::Job;
 use crate::key::MadeKey;
@@ -17,13 +18,15 @@ use crate::outcome::{Outcome, Reports};
 use crate::push_note::push_note_json;
 use crate::run_fault::{RunFault, Side};
 use crate::sender_keys::SenderKeys;
+use crate::sender_notes::write_sender_notes;
+use crate::spelling::Spelling;
 use crate::write::{WriteFailed, write_all, write_text};
-use babel_capture::{Report as CaptureReport, Window};
+use babel_capture::Report as CaptureReport;
 use babel_table::Report;
 use std::alloc::{AllocError, Global};
 
-/// No job has more notes: eight about each dump of a comparison, and one about both.
-const MOST: usize = 17;
+/// No job has more notes: ten about each dump of a comparison, and one about both.
+const MOST: usize = 21;
 
 /// The nanoseconds of a hundredth of a second.
 const HUNDREDTH: u128 = 10_000_000;
@@ -90,13 +93,12 @@ impl Notes {
                 }
             }
             Reports::Capture { report, cut } => {
-                let is_timed = job.is_timed(Side::First);
                 let notes = CaptureNotes {
                     report,
                     cut,
                     passed: 0,
                 };
-                self.add_capture(Side::First, notes, is_timed)?;
+                self.add_capture(Side::First, notes, report.interval())?;
                 match (job, report.short()) {
                     (Job::Senders { .. }, 1..) => {
                         self.add(Side::First, Note::TooShort(report.short()))
@@ -107,40 +109,60 @@ impl Notes {
         }
     }
 
-    /// Gathers the notes of what `events` read of a capture.
+    /// What there is to know of what `events` read of a capture, and of the dump of the sender that
+    /// is named, where it has packets at one place: nothing if the command is quiet.
     pub fn gather_followed(
         &mut self,
         events: &Events,
-        outcome: &Outcome,
+        answer: &EventsOutcome,
     ) -> Result<(), AllocError> {
-        match outcome.reports {
-            Reports::Capture { report, cut } => {
-                let passed = 0;
-                let capture = CaptureNotes {
-                    report,
-                    cut,
-                    passed,
-                };
-                self.gather_capture(events.quiet, events.window, capture)
-            }
-            _ => Ok(()),
+        self.list.clear();
+        let Reports::Capture { report, cut } = answer.outcome.reports else {
+            return Ok(());
+        };
+        if events.quiet {
+            return Ok(());
+        }
+        let named = answer.named_report(events);
+        if let Some(heard) = named {
+            self.add_ignored(Side::First, heard)?;
+        }
+        let passed = 0;
+        let capture = CaptureNotes {
+            report,
+            cut,
+            passed,
+        };
+        self.add_capture(Side::First, capture, report.interval())?;
+        match named {
+            Some(heard) => self.add_updates(Side::First, heard),
+            None => Ok(()),
         }
     }
 
-    /// What there is to know of the capture of `events`, or of `key` without `--from`, of which the
-    /// packets in a window are read: nothing if the command is quiet.
+    /// What there is to know of what `events` heard of a sender: nothing if it is quiet.
+    pub fn gather_heard(&mut self, events: &Events, heard: &HeardSender) -> Result<(), AllocError> {
+        self.list.clear();
+        if events.quiet {
+            return Ok(());
+        }
+        self.add_ignored(Side::First, heard.report)?;
+        self.add_updates(Side::First, heard.report)
+    }
+
+    /// What there is to know of the capture of `key` without `--from`, and of the greatest Interval
+    /// there: nothing if the command is quiet.
     pub fn gather_capture(
         &mut self,
         quiet: bool,
-        window: Window,
         capture: CaptureNotes,
+        interval: Option<u16>,
     ) -> Result<(), AllocError> {
         self.list.clear();
         if quiet {
             return Ok(());
         }
-        let is_timed = matches!(window, Window::Between { .. });
-        self.add_capture(Side::First, capture, is_timed)
+        self.add_capture(Side::First, capture, interval)
     }
 
     /// What there is to know of the dump of a sender in it, which has this key.
@@ -172,8 +194,8 @@ impl Notes {
             self.add_ignored(side, report)?;
         }
         if let Some(capture) = capture {
-            let passed = capture.passed;
-            self.add_capture(side, capture, job.is_timed(side))?;
+            let (passed, interval) = (capture.passed, capture.report.interval());
+            self.add_capture(side, capture, interval)?;
             self.add_passed(side, passed)?;
         }
         self.add_updates(side, report)
@@ -203,13 +225,14 @@ impl Notes {
         }
     }
 
-    /// Adds what was left out of a capture, that frames named no interface, where it is cut short,
-    /// where times run backwards, if times are asked for, and that it is shorter than an Interval.
+    /// Adds what was left out of a capture, that frames named no interface, that its sections
+    /// describe others, that packets have trailers, where it is cut short, where times run
+    /// backwards, and that it is shorter than this Interval.
     fn add_capture(
         &mut self,
         side: Side,
         capture: CaptureNotes,
-        is_timed: bool,
+        interval: Option<u16>,
     ) -> Result<(), AllocError> {
         if let Some(note) = LeftOutNote::of(capture.report) {
             self.add(side, Note::LeftOut(note))?;
@@ -217,14 +240,19 @@ impl Notes {
         if capture.report.cooked() > 0 {
             self.add(side, Note::Cooked)?;
         }
+        if capture.report.sections() > 1 {
+            self.add(side, Note::Sections(capture.report.sections()))?;
+        }
+        if capture.report.trailers() > 0 {
+            self.add(side, Note::Trailers(capture.report.trailers()))?;
+        }
         if let Some(at) = capture.cut {
             self.add(side, Note::CaptureCut(at))?;
         }
-        match capture.report.timing().backwards {
-            Some(packet) if is_timed => self.add(side, Note::Backwards(packet))?,
-            _ => {}
+        if let Some(packet) = capture.report.timing().backwards {
+            self.add(side, Note::Backwards(packet))?;
         }
-        match short_span(&capture.report) {
+        match short_span(&capture.report, interval) {
             Some(note) => self.add(side, note),
             None => Ok(()),
         }
@@ -240,12 +268,30 @@ impl Notes {
         write_notes(writer, &self.list, &mut self.line)?;
         Ok(())
     }
+
+    /// Writes a JSON object for each note, which is about this sender, and flushes.
+    pub fn write_json_of<W: ByteOut>(
+        &mut self,
+        writer: &mut W,
+        spelling: Spelling,
+        heard: &HeardSender,
+    ) -> Result<(), RunFault>
+        requires few_failures { (W.state writer.old).failures < 2 ^ 64 - 1 }
+        requires few_flushes { (W.state writer.old).flushes < 2 ^ 64 - 1 }
+        ensures { WroteText (output (W.state writer.old) (W.state writer.new))
+            (flat_map (note_of_sender spelling heard.now.origin heard.now.name.items)
+            self.old.list.items) result }
+    {
+        let HeardSender { origin, name, .. } = heard;
+        write_sender_notes(writer, spelling, origin, name, &self.list, &mut self.line)?;
+        Ok(())
+    }
 }
 
 /// That what was read of a capture spans less than the greatest Interval of an Update that
 /// announces, where each packet has a time.
-fn short_span(report: &CaptureReport) -> Option<Note> {
-    let interval = report.interval()?;
+fn short_span(report: &CaptureReport, interval: Option<u16>) -> Option<Note> {
+    let interval = interval?;
     let timing = report.timing();
     if timing.has_untimed {
         return None;

@@ -36,18 +36,23 @@ pub(crate) struct PlaceInWords(pub Place);
 impl fmt::Display for PlaceInWords {
     fn fmt<W: fmt::Write>(&self, f: &mut fmt::Formatter<W>) -> fmt::Result {
         write!(f, " interface {}", self.0.interface)?;
-        if let Some(link) = self.0.link {
-            write!(f, " link {link}")?;
-        }
-        let mut mark = " vlan ";
-        for number in &self.0.vlans.numbers() {
-            if *number != 0 {
-                write!(f, "{mark}{number}")?;
-                mark = ".";
-            }
-        }
-        Ok(())
+        write_behind_interface(f, self.0)
     }
+}
+
+/// Writes ` link N vlan N.N`, as far as a place has them.
+fn write_behind_interface<W: fmt::Write>(f: &mut fmt::Formatter<W>, place: Place) -> fmt::Result {
+    if let Some(link) = place.link {
+        write!(f, " link {link}")?;
+    }
+    let mut mark = " vlan ";
+    for number in &place.vlans.numbers() {
+        if *number != 0 {
+            write!(f, "{mark}{number}")?;
+            mark = ".";
+        }
+    }
+    Ok(())
 }
 
 /// A sender and its place in words, unless that is interface 0 alone.
@@ -58,11 +63,49 @@ impl fmt::Display for SenderInWords {
     fn fmt<W: fmt::Write>(&self, f: &mut fmt::Formatter<W>) -> fmt::Result {
         let Origin { place, sender } = self.0;
         write!(f, "{sender}")?;
-        if place.interface == 0 && place.link.is_none() && place.vlans == Vlans::none() {
+        if place == Place::on(0) {
             return Ok(());
         }
         write!(f, "{}", PlaceInWords(place))
     }
+}
+
+/// A sender and its place, whose interface has this name, as the lines of `senders` have them; the
+/// place is left out where it is interface 0 alone, without a name.
+#[derive(Clone, Copy)]
+pub struct NamedOrigin<'a> {
+    pub origin: Origin,
+    /// The name of its interface, as a capture has it; empty where it has none.
+    pub name: &'a [u8],
+}
+
+impl fmt::Display for NamedOrigin<'_> {
+    fn fmt<W: fmt::Write>(&self, f: &mut fmt::Formatter<W>) -> fmt::Result {
+        let Origin { place, sender } = self.origin;
+        write!(f, "{sender}")?;
+        if self.name.is_empty() && place == Place::on(0) {
+            return Ok(());
+        }
+        write!(f, " interface {}", place.interface)?;
+        if !self.name.is_empty() {
+            write_name(f, self.name)?;
+        }
+        write_behind_interface(f, place)
+    }
+}
+
+/// Writes ` (NAME)`: letters, digits, `.`, `-` and `_` as they are, and each other octet as `\xHH`.
+fn write_name<W: fmt::Write>(f: &mut fmt::Formatter<W>, name: &[u8]) -> fmt::Result {
+    f.write_str(" (")?;
+    for octet in name {
+        match octet {
+            b'a'..=b'z' | b'A'..=b'Z' | b'0'..=b'9' | b'.' | b'-' | b'_' => {
+                f.write_char(*octet as char)?;
+            }
+            _ => write!(f, "\\x{octet:02x}")?,
+        }
+    }
+    f.write_char(')')
 }
 
 /// The place that a word of `--interface` names, as `PlaceWord` gives it: `1`, `1/3`, `1:10` or

@@ -145,9 +145,9 @@ pub(crate) fn push_sender_front(buffer: &mut Vec<u8>, spelling: Spelling, origin
 
 /// Appends the link and the VLANs of a sender, and what it sent: the end of a line.
 pub(crate) fn push_sender_end(buffer: &mut Vec<u8>, place: Place, tally: Tally)
-    requires { HasRoom buffer.old 239 }
+    requires { HasRoom buffer.old 269 }
     ensures text { buffer.new.items ≡ buffer.old.items ++ sender_end place tally }
-    ensures room { TookRoom buffer.old buffer.new 239 }
+    ensures room { TookRoom buffer.old buffer.new 269 }
 {
     push_link(buffer, place.link);
     push_marked(buffer, " vlan ", ".", &place.vlans.numbers());
@@ -163,6 +163,8 @@ pub(crate) fn push_sender_end(buffer: &mut Vec<u8>, place: Place, tally: Tally)
     push_time_or(buffer, tally.first);
     push_text(buffer, " last ");
     push_time_or(buffer, tally.last);
+    push_text(buffer, " trailers ");
+    push_decimal(buffer, tally.trailers);
     push_octet(buffer, b'\n');
 }
 

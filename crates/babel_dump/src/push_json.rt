@@ -143,9 +143,9 @@ pub(crate) fn push_place_json(buffer: &mut Vec<u8>, place: Place)
 
 /// Appends what a sender sent: the end of an object.
 pub(crate) fn push_sender_end_json(buffer: &mut Vec<u8>, tally: Tally)
-    requires { HasRoom buffer.old 193 }
+    requires { HasRoom buffer.old 225 }
     ensures text { buffer.new.items ≡ buffer.old.items ++ sender_end_json tally }
-    ensures room { TookRoom buffer.old buffer.new 193 }
+    ensures room { TookRoom buffer.old buffer.new 225 }
 {
     push_text(buffer, r#","packets":"#);
     push_decimal(buffer, tally.packets);
@@ -159,6 +159,8 @@ pub(crate) fn push_sender_end_json(buffer: &mut Vec<u8>, tally: Tally)
     push_time_json(buffer, tally.first);
     push_text(buffer, r#","last":"#);
     push_time_json(buffer, tally.last);
+    push_text(buffer, r#","trailers":"#);
+    push_decimal(buffer, tally.trailers);
     push_text(buffer, "}");
     push_octet(buffer, b'\n');
 }

@@ -1,7 +1,8 @@
 //! Notes as JSON (RFC 8259), appended to a buffer that has room for them.
 ghost use Rattle.std.specs.Prelude.{◌≡◌, ◌+◌, ◌≤◌, ◌++◌, ◌*◌, length};
 ghost use Rattle.babel_dump.specs.NoteJson.{ignored_members, left_out_members, note_json};
-ghost use Rattle.babel_dump.specs.NoteJson.{note_members, note_name, number_member, side_member};
+ghost use Rattle.babel_dump.specs.NoteJson.{note_front, note_members, note_name, note_rest};
+ghost use Rattle.babel_dump.specs.NoteJson.{number_member, side_member};
 ghost use Rattle.babel_dump.specs.NoteJson.{source_member};
 ghost use Rattle.babel_dump.specs.Slices.{HasRoom, TookRoom};
 ghost use Rattle.babel_dump.specs.TextParts.{comma_separated, left_out_objects};
@@ -10,10 +11,11 @@ use crate::left_out::{REASONS, name as left_out_name};
 use crate::note::{Note, SideNote};
 use crate::push::{push_decimal, push_octet, push_text};
 use crate::push_addr::push_addr;
+use crate::push_json::push_place_json;
 use crate::push_report::{push_counted_object, push_report_members};
 use crate::run_fault::Side;
 use crate::spelling::Spelling;
-use babel_capture::{Reason, Report as CaptureReport};
+use babel_capture::{Origin, Reason, Report as CaptureReport};
 use babel_prefix::Addr;
 use babel_table::Report;
 
@@ -32,6 +34,31 @@ pub(crate) fn push_note_json(buffer: &mut Vec<u8>, told: SideNote)
     push_octet(buffer, b'\n');
 }
 
+/// Appends a note about a sender, up to the name of its interface.
+pub(crate) fn push_note_front(buffer: &mut Vec<u8>, spelling: Spelling, origin: Origin, note: &Note)
+    requires { HasRoom buffer.old 220 }
+    ensures text { buffer.new.items
+        ≡ buffer.old.items ++ note_front spelling origin note.now }
+    ensures room { TookRoom buffer.old buffer.new 220 }
+{
+    push_text(buffer, r#"{"note":""#);
+    push_text(buffer, name(note));
+    push_text(buffer, r#"","sender":""#);
+    push_addr(buffer, spelling, origin.sender);
+    push_place_json(buffer, origin.place);
+}
+
+/// Appends the rest of a note about a sender.
+pub(crate) fn push_note_rest(buffer: &mut Vec<u8>, note: &Note)
+    requires { HasRoom buffer.old 1502 }
+    ensures text { buffer.new.items ≡ buffer.old.items ++ note_rest note.now }
+    ensures room { TookRoom buffer.old buffer.new 1502 }
+{
+    push_members(buffer, note);
+    push_text(buffer, "}");
+    push_octet(buffer, b'\n');
+}
+
 /// The name of a note.
 fn name(note: &Note) -> &'static str
     ensures text { result.now ≡ note_name note.now }
@@ -41,6 +68,8 @@ fn name(note: &Note) -> &'static str
         Note::Ignored(_) => "ignored",
         Note::LeftOut(_) => "left-out",
         Note::Cooked => "cooked-1",
+        Note::Sections(_) => "sections",
+        Note::Trailers(_) => "trailers",
         Note::CaptureCut(_) => "capture-cut",
         Note::TooShort(_) => "too-short",
         Note::Backwards(_) => "backwards",
@@ -72,6 +101,8 @@ fn push_members(buffer: &mut Vec<u8>, note: &Note)
     match note {
         Note::Ignored(note) => push_ignored(buffer, &note.report),
         Note::LeftOut(note) => push_left_out(buffer, &note.report),
+        Note::Sections(sections) => push_member(buffer, "sections", *sections),
+        Note::Trailers(packets) => push_member(buffer, "packets", *packets),
         Note::CaptureCut(at) => push_member(buffer, "at", *at),
         Note::TooShort(frames) => push_member(buffer, "frames", *frames),
         Note::Backwards(packet) => push_member(buffer, "packet", *packet),

@@ -10,23 +10,23 @@ use babel_capture::Time;
 use jiff_core::civil;
 
 /// The nanoseconds of a day, an hour, a minute, and a second.
-const DAY: u64 = 86_400_000_000_000;
+pub(crate) const DAY: u64 = 86_400_000_000_000;
 
-const HOUR: u64 = 3_600_000_000_000;
+pub(crate) const HOUR: u64 = 3_600_000_000_000;
 
-const MINUTE: u64 = 60_000_000_000;
+pub(crate) const MINUTE: u64 = 60_000_000_000;
 
-const SECOND: u64 = 1_000_000_000;
+pub(crate) const SECOND: u64 = 1_000_000_000;
 
 /// How many days after the first date of the calendar's crate 1 January 1970 is.
 const EPOCH: u32 = 4_371_587;
 
 /// A date, in numbers.
 #[derive(Clone, Copy)]
-struct Date {
-    year: u32,
-    month: u32,
-    day: u32,
+pub(crate) struct Date {
+    pub year: u32,
+    pub month: u32,
+    pub day: u32,
 }
 
 /// Appends a time.
@@ -59,7 +59,7 @@ fn push_day(buffer: &mut Vec<u8>, day: u32)
 }
 
 /// The date so many days after 1 January 1970.
-fn date_of(day: u32) -> Date
+pub(crate) fn date_of(day: u32) -> Date
     requires { day < 2932897 }
     ensures year { result.year ≡ year_of day }
     ensures month { result.month ≡ month_of day }

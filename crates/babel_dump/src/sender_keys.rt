@@ -122,6 +122,17 @@ impl SenderKeys {
         Ok(origins)
     }
 
+    /// The greatest Interval of the Updates that announce, of the senders whose keys are asked for.
+    pub fn interval(&self, gathered: &Gathered) -> Option<u16> {
+        let mut greatest = None;
+        for (origin, tally) in gathered.senders() {
+            if is_asked(self.place, origin) {
+                greatest = greatest.max(tally.interval);
+            }
+        }
+        greatest
+    }
+
     /// The key of the dump of a sender at its place; its line names the file, and then these. The
     /// seed is that by which keys are found in the dump.
     ///

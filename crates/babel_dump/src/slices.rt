@@ -314,7 +314,7 @@ pub(crate) fn write_name<W: ByteOut>(
     requires room { 384 ≤ vec_capacity buffer.old }
     ensures front { WroteFront (output (W.state writer.old) (W.state writer.new))
         (buffer.old.items ++ escaped (escape format) name.now) buffer.new.items result }
-    ensures room { OnOk result (384 ≤ vec_capacity buffer.new) }
+    ensures room { vec_capacity buffer.old ≤ vec_capacity buffer.new }
 {
     let escape = escape_of(format);
     for octet in name {
@@ -331,6 +331,7 @@ pub(crate) fn make_room<W: ByteOut>(writer: &mut W, buffer: &mut Vec<u8>) -> Res
     ensures front { WroteFront (output (W.state writer.old) (W.state writer.new))
         buffer.old.items buffer.new.items result }
     ensures room { OnOk result (HasRoom buffer.new 384) }
+    ensures capacity { vec_capacity buffer.old ≤ vec_capacity buffer.new }
 {
     if buffer.capacity() - buffer.len() >= LONGEST_LINE {
         return Ok(());

@@ -2,18 +2,22 @@
 use std::io;
 use std::io::{Read, Write};
 
-/// How many of a dump's first octets are remembered: as many as tell a capture.
-const MAGIC: usize = 4;
+/// How many of an input's first octets are remembered: enough to tell text from other octets.
+const FIRST: usize = 64;
 
-/// The first octets that a reader gave, at most four.
+/// How many of the octets that came last are remembered: a piece of a capture, and before it more
+/// than the longest header of a block.
+const LAST: usize = 65_600;
+
+/// The first octets that a reader gave, at most 64.
 #[derive(Drop)]
 struct Beginning {
-    octets: [u8; MAGIC],
+    octets: [u8; FIRST],
     len: usize,
 }
 
 impl Beginning {
-    /// Remembers these octets where fewer than four came before.
+    /// Remembers these octets where fewer than 64 came before.
     fn remember(&mut self, octets: &[u8]) {
         for octet in octets {
             let Some(place) = self.octets.get_mut(self.len) else {
@@ -25,11 +29,54 @@ impl Beginning {
     }
 }
 
-/// A reader that remembers the first octets that it gave, and why it failed last.
+/// The octets that a reader gave last: the one with offset N stands in place N of so many, counted
+/// round.
+#[derive(Drop)]
+struct Ending {
+    octets: [u8; LAST],
+    /// How many octets it gave in all.
+    given: u64,
+}
+
+impl Ending {
+    /// Remembers these octets, which come after those before them.
+    fn remember(&mut self, octets: &[u8]) {
+        let after = match self.octets.get_mut(place_of(self.given)..) {
+            Some(room) => put(room, octets),
+            None => octets,
+        };
+        put(&mut self.octets, after);
+        self.given = self.given.saturating_add(octets.len() as u64);
+    }
+
+    /// The octet with this offset, if it is remembered.
+    fn at(&self, offset: u64) -> Option<u8> {
+        let after = self.given.checked_sub(offset)?;
+        if after == 0 || after > LAST as u64 {
+            return None;
+        }
+        self.octets.get(place_of(offset)).copied()
+    }
+}
+
+/// The place of the octet with this offset.
+fn place_of(offset: u64) -> usize {
+    (offset % LAST as u64) as usize
+}
+
+/// Puts octets where there is room, and gives those for which there is none.
+fn put<'a>(room: &mut [u8], octets: &'a [u8]) -> &'a [u8] {
+    let len = room.len().min(octets.len());
+    room[..len].copy_from_slice(&octets[..len]);
+    &octets[len..]
+}
+
+/// A reader that remembers the first octets that it gave and the last ones, and why it failed last.
 #[derive(Drop)]
 pub struct WatchedReader<R> {
     reader: R,
     beginning: Beginning,
+    ending: Ending,
     error: Option<io::Error>,
 }
 
@@ -38,20 +85,33 @@ impl<R> WatchedReader<R> {
         WatchedReader {
             reader,
             beginning: Beginning {
-                octets: [0; MAGIC],
+                octets: [0; FIRST],
                 len: 0,
+            },
+            ending: Ending {
+                octets: [0; LAST],
+                given: 0,
             },
             error: None,
         }
     }
 
-    /// The first octets that it gave, at most four.
+    /// The first octets that it gave, at most 64.
     pub fn begins(&self) -> &[u8] {
         let beginning = &self.beginning;
         match beginning.octets.get(..beginning.len) {
             Some(octets) => octets,
             None => &beginning.octets,
         }
+    }
+
+    /// The four octets from this offset on, if they came last.
+    pub fn four_at(&self, offset: u64) -> Option<[u8; 4]> {
+        let mut four = [0; 4];
+        for (octet, place) in four.iter_mut().zip(offset..) {
+            *octet = self.ending.at(place)?;
+        }
+        Some(four)
     }
 
     /// Why it failed last, if it did.
@@ -68,6 +128,7 @@ impl<R: Read> Read for WatchedReader<R> {
             Ok(n) => {
                 if let Some(octets) = buf.get(..n) {
                     self.beginning.remember(octets);
+                    self.ending.remember(octets);
                 }
                 Ok(n)
             }

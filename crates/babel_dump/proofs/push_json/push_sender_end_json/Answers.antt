@@ -10,4 +10,5 @@ returns-clause-text c =
     let interval = appended before _ _ _ _ (appended before _ _ _ _ updates c.push_text-4.ensures.text) c.push_interval_json.ensures.text in
     let first = appended before _ _ _ _ (appended before _ _ _ _ interval c.push_text-5.ensures.text) c.push_time_json.ensures.text in
     let last = appended before _ _ _ _ (appended before _ _ _ _ first c.push_text-6.ensures.text) c.push_time_json-2.ensures.text in
-    appended before _ _ _ _ (appended before _ _ _ _ last c.push_text-7.ensures.text) c.push_octet.ensures.text
+    let trailers = appended before _ _ _ _ (appended before _ _ _ _ last c.push_text-7.ensures.text) c.push_decimal-4.ensures.text in
+    appended before _ _ _ _ (appended before _ _ _ _ trailers c.push_text-8.ensures.text) c.push_octet.ensures.text

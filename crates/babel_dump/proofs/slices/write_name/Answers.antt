@@ -14,5 +14,5 @@ loop-octet-preserved g c =
     let took = took_more _ _ _ _ c.loop-octet.buffer.items left _ c.loop-octet.invariant.took c.in_ok-make_room.ensures.front in
     record {
       took = pushed_at (octet_text c.escape_of-escape.result.now) c.args.name.now c.loop-octet.octet-index 0 _ _ left _ took (omega arith) c.push_name_octet.ensures.text;
-      room = omega (arith, c.push_name_octet.ensures.room, c.in_ok-make_room.ensures.room);
+      room = omega (arith, c.loop-octet.invariant.room, c.make_room.ensures.capacity, c.push_name_octet.ensures.room);
     }

@@ -9,5 +9,5 @@ abbrev pub invariant-loop-octet : goal.invariant-loop-octet
 invariant-loop-octet g l = record {
   took : Took (output (g.W.ByteOut.state l.initial.writer) (g.W.ByteOut.state l.writer)) (l.initial.buffer.items ++ escaped l.escape l.name)
       (l.buffer.items ++ escaped l.escape (drop l.octet-index l.name));
-  room : 384 ≤ vec_capacity l.buffer;
+  room : vec_capacity l.initial.buffer ≤ vec_capacity l.buffer;
 }
