@@ -292,7 +292,8 @@ impl Reader {
         let len = match self.layout {
             Layout::Pcap(order) => {
                 let kept = order.u32_at(octets, 8);
-                if kept > LONGEST_PACKET {
+                let is_blank = kept == 0 && order.u32_at(octets, 12) == 0;
+                if kept > LONGEST_PACKET || is_blank {
                     return Err(Fault::BadLength(at));
                 }
                 16 + kept
@@ -308,7 +309,7 @@ impl Reader {
         Ok(Some(len as usize))
     }
 
-    /// The moment that is meant: the end of the window, or else the last record that was read.
+    /// The moment that is meant: the end of the window, or else the latest time that was read.
     fn end(&self) -> Option<i128> {
         let until = self
             .window
@@ -316,7 +317,7 @@ impl Reader {
             .and_then(|window| window.until.as_ref());
         match until {
             Some(until) => Some(until.at(self.start?)),
-            None => self.found.time,
+            None => self.found.latest,
         }
     }
 
@@ -769,6 +770,8 @@ struct Tally {
     packets: u64,
     octets: u64,
     updates: u64,
+    /// How many packets have octets after the body.
+    trailers: u64,
     /// The greatest of the Updates that announce.
     interval: Option<u16>,
     first: i128,
@@ -878,8 +881,9 @@ struct Found {
     packets: u64,
     left_out: [Option<(u64, u64)>; 8],
     sink: Sink,
-    /// The time of the record that was read last; and whether each has one.
+    /// The time of the record that was read last, and the latest; and whether each has one.
     time: Option<i128>,
+    latest: Option<i128>,
     is_timed: bool,
     /// The sender found last, and its tally, which is not among the others yet.
     last: Option<(Origin, Tally)>,
@@ -894,6 +898,7 @@ impl Found {
             left_out: [None; 8],
             sink,
             time: None,
+            latest: None,
             is_timed: true,
             last: None,
             tallies: HashMap::with_hasher(Seed::new()),
@@ -910,6 +915,7 @@ impl Found {
     ) -> Result<(), Fault> {
         self.is_timed &= time.is_some();
         self.time = time;
+        self.latest = self.latest.max(time);
         let Some(seen) = seen else {
             return Ok(self.pass());
         };
@@ -924,6 +930,10 @@ impl Found {
         if !is_wanted {
             return Ok(self.pass());
         }
+        let carried = match seen.what {
+            What::Payload(payload) => payload.len(),
+            _ => 0,
+        };
         let packet = match seen.what {
             What::Unread(reason) => Err(reason),
             What::Lacking(lack) if self.wanted.sender.is_some() => {
@@ -941,6 +951,7 @@ impl Found {
         };
         let time = time.unwrap_or(0);
         let mut sent = Tally::of(packet, time);
+        sent.trailers = u64::from(packet.len() < carried);
         if let Sink::Tallies = self.sink {
             (sent.updates, sent.interval) = updates_in(packet);
         }
@@ -1000,6 +1011,7 @@ impl Tally {
             packets: 1,
             octets: packet.len() as u64,
             updates: 0,
+            trailers: 0,
             interval: None,
             first: time,
             last: time,
@@ -1010,6 +1022,7 @@ impl Tally {
         self.packets += sent.packets;
         self.octets += sent.octets;
         self.updates += sent.updates;
+        self.trailers += sent.trailers;
         self.interval = self.interval.max(sent.interval);
         self.first = self.first.min(sent.first);
         self.last = self.last.max(sent.last);
@@ -1367,6 +1380,7 @@ fn senders(words: &Words) -> Result<u8, Failure> {
             packets,
             octets,
             updates,
+            trailers,
             interval,
             ..
         } = tally;
@@ -1383,7 +1397,8 @@ fn senders(words: &Words) -> Result<u8, Failure> {
             writeln!(
                 out,
                 "{{\"address\":\"{sender}\",{place},\"packets\":{packets},\"octets\":{octets},\
-                 \"updates\":{updates},\"interval\":{interval},\"first\":{},\"last\":{}}}",
+                 \"updates\":{updates},\"interval\":{interval},\"first\":{},\"last\":{},\
+                 \"trailers\":{trailers}}}",
                 quoted(first),
                 quoted(last)
             )?;
@@ -1394,7 +1409,7 @@ fn senders(words: &Words) -> Result<u8, Failure> {
             writeln!(
                 out,
                 "{sender} {place} packets {packets} octets {octets} updates {updates} \
-                 interval {interval} first {} last {}",
+                 interval {interval} first {} last {} trailers {trailers}",
                 or_none(first),
                 or_none(last)
             )?;

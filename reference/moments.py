@@ -433,10 +433,10 @@ def window_of(options):
 
 
 def end_of(found, window):
-    """The moment that is meant: the end of the window, or else the last record that was read."""
+    """The moment that is meant: the end of the window, or else the latest time that was read."""
     if window and window.until:
         return window.until.at(found.start)
-    return found.records[-1][1] if found.records else None
+    return max((time for _, time in found.records if time is not None), default=None)
 
 
 def read(octets, options):
@@ -479,7 +479,7 @@ def table_of(octets, options):
     end = end_of(found, window)
     rows = table(said, factor, options.hold, end)
     intervals = [reader.interval_of(sum(found.packets.values(), []))]
-    notes = list(reader.time_notes(found, intervals, window))
+    notes = list(reader.time_notes(found, intervals))
     if not factor and reader.span_of(found) is not None:
         notes += stale_note(stale(said, end))
     return rows, reader.texts_of(notes)
@@ -514,7 +514,7 @@ def events(octets, options):
         return Answer(3, lines_of(told, found, options), (str(cause),))
     status, none = (0, ()) if found.packets else (1, ("no Babel packets",))
     intervals = [reader.interval_of(sent) for sent in found.packets.values()]
-    notes = [*reader.notes_of(found), *reader.time_notes(found, intervals, window)]
+    notes = [*reader.notes_of(found), *reader.time_notes(found, intervals)]
     output = lines_of(told, found, options)
     if options.json and not options.quiet:
         output += "".join(reader.json_line(says) for _, says in notes).encode()

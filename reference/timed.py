@@ -202,7 +202,7 @@ def answered(program, words, octets):
     times."""
     done = subprocess.run([program, *words, "-"], input=octets, capture_output=True)
     output, errors = done.stdout, done.stderr.decode().splitlines()
-    errors = [line for line in errors if not line.startswith("hint: ")]
+    errors = [reader.without_absence(line) for line in errors if not line.startswith("hint: ")]
     if words[0] != "events":
         lines = output.splitlines(keepends=True)
         output = b"".join(

@@ -5,6 +5,7 @@ It is written from draft-ietf-opsawg-pcap, draft-ietf-opsawg-pcapng, RFC 791, RF
 layer gives the octets of the next one.
 """
 
+import collections
 import datetime
 import fractions
 import functools
@@ -60,7 +61,8 @@ class NoTime(Exception):
 @dataclass
 class Packet:
     """A captured packet: the offset of its block, its interface and link type, the octets kept, how
-    many there were, and when it came, in nanoseconds since 1970, where its block tells."""
+    many there were, and when it came, in nanoseconds since 1970, where its block tells; and which
+    section of the capture has it."""
 
     at: int
     interface: int
@@ -68,6 +70,7 @@ class Packet:
     frame: bytes
     whole: int
     time: int = None
+    section: int = 0
 
 
 @dataclass
@@ -86,9 +89,10 @@ class Seen:
 class Found:
     """What a capture gives: each sender's packets at each place, for each reason the numbers of the
     packets left out, how many frames were too short to tell, and how many packets came in frames
-    that name no interface. The time of the first record; of each that was read its number and its
-    time, where it has one that can be told; and in their order the origin, the packet and the place
-    among these records of all packets; and of each origin these places."""
+    that name no interface; of each sender at each place how many have octets after the body; and
+    the sections in which datagrams of Babel came. The time of the first record; of each that was
+    read its number and its time, where it has one that can be told; and in their order the origin,
+    the packet and the place among these records of all packets; and of each origin these places."""
 
     packets: dict = field(default_factory=dict)
     start: int = None
@@ -98,6 +102,8 @@ class Found:
     left_out: dict = field(default_factory=dict)
     short: int = 0
     cooked: int = 0
+    trailers: collections.Counter = field(default_factory=collections.Counter)
+    sections: set = field(default_factory=set)
     names: list = field(default_factory=list)
     cut: int = None
 
@@ -181,7 +187,7 @@ def pcap_packets(octets, order, limit, _names):
     refuse_version(octets, 0, 4, order, [(2, 4)])
 
     def length(header):
-        if number(header, 8) > LONGEST_PACKET:
+        if number(header, 8) > LONGEST_PACKET or header[8:16] == bytes(8):
             raise Fault(f"bad length at {at}")
         return 16 + number(header, 8)
 
@@ -197,7 +203,7 @@ def pcap_packets(octets, order, limit, _names):
 
 def pcapng_packets(octets, limit, names):
     """The packets of a pcapng file, and then where it is cut, if it is."""
-    order, interfaces, first, at = None, [], 0, 0
+    order, interfaces, first, section, at = None, [], 0, -1, 0
     number = lambda block, at, count=4: int.from_bytes(block[at : at + count], order)
 
     def length(header):
@@ -216,7 +222,8 @@ def pcapng_packets(octets, limit, names):
         if interface >= len(interfaces):
             raise Fault(f"no such interface at {at}")
         link, _, time_of = interfaces[interface]
-        return Packet(at, interface, link, frame, whole, None if units is None else time_of(units))
+        time = None if units is None else time_of(units)
+        return Packet(at, interface, link, frame, whole, time, section)
 
     while at < len(octets):
         block = block_of(octets, at, length, 24 if order is None else 12, limit)
@@ -226,7 +233,7 @@ def pcapng_packets(octets, limit, names):
         is_section = block.startswith(b"\n\r\r\n")
         if is_section:
             order = byte_order(block, 8, [0x1A2B3C4D])
-            first = len(interfaces)
+            first, section = len(interfaces), section + 1
         if number(block, len(block) - 4) != len(block):
             raise Fault(f"bad length at {at}")
         if is_section:
@@ -530,11 +537,12 @@ def hundredths(centiseconds):
     return f"{whole}.{part:02}".rstrip("0").rstrip(".")
 
 
-def time_notes(found, intervals, window):
+def time_notes(found, intervals):
     """The notes on times: that they run backwards, and that what was read spans less than the
     greatest of these Intervals."""
-    for (_, before), (number, time) in zip(found.records, found.records[1:]):
-        if window and time < before:
+    records = [record for record in found.records if record[1] is not None]
+    for (_, before), (number, time) in zip(records, records[1:]):
+        if time < before:
             text = f"times run backwards at packet {number}"
             yield text, {"note": "backwards", "packet": number}
             break
@@ -617,6 +625,8 @@ def take(found, packet, number, wanted):
     found.short += seen == SHORT
     if not isinstance(seen, Seen):
         return
+    if seen.what == "whole":
+        found.sections.add(packet.section)
     place = packet.interface, seen.link, seen.vlans
     if not wanted(seen.sender, place):
         return
@@ -635,6 +645,7 @@ def take(found, packet, number, wanted):
     found.places.setdefault(origin, []).append(len(found.records))
     found.sent.append((origin, babel, len(found.records)))
     found.cooked += packet.link == 113
+    found.trailers[origin] += len(babel) < len(seen.payload)
 
 
 @dataclass
@@ -710,12 +721,13 @@ def sender_line(origin, found, as_json):
             "name": name_text(name) or None,
         }
         says.update(packets=len(sent), octets=octets, updates=updates)
-        says.update(interval=interval, first=first, last=last)
+        says.update(interval=interval, first=first, last=last, trailers=found.trailers[origin])
         return json_line(says)
     counts = f"packets {len(sent)} octets {octets} updates {updates}"
     seconds = "-" if interval is None else f"{interval // 100}.{interval % 100:02}"
     times = f"interval {seconds} first {first or '-'} last {last or '-'}"
-    return f"{address} {place_text(place, name)} {counts} {times}\n"
+    trailers = f"trailers {found.trailers[origin]}"
+    return f"{address} {place_text(place, name)} {counts} {times} {trailers}\n"
 
 
 def name_at(place, names):
@@ -733,7 +745,7 @@ def ends_of(origin, found):
 
 COOKED = (
     "frames of Linux cooked, version 1, name no interface, so links can't be told apart; record "
-    "with -y LINUX_SLL2"
+    "with -y LINUX_SLL2, or, where a link has VLAN tags, on its interface"
 )
 
 
@@ -758,6 +770,20 @@ def notes_of(found):
         yield f"{total} {datagrams} left out: {counts}", {"note": "left-out", "reasons": reasons}
     if found.cooked:
         yield COOKED, {"note": "cooked-1"}
+    if len(found.sections) > 1:
+        yield (
+            f"{len(found.sections)} sections; the interfaces of each are others: mergecap makes "
+            "them one",
+            {"note": "sections", "sections": len(found.sections)},
+        )
+    if trailers := found.trailers.total():
+        packets = (
+            "1 packet has octets after its body"
+            if trailers == 1
+            else f"{trailers} packets have octets after their bodies"
+        )
+        text = f"{packets}; authentication (RFC 8967) is not checked"
+        yield text, {"note": "trailers", "packets": trailers}
     if found.cut is not None:
         text = f"capture cut short at {found.cut}, and read up to there"
         yield text, {"note": "capture-cut", "at": found.cut}
@@ -798,7 +824,7 @@ def senders(
     lines = [sender_line(origin, found, as_json) for origin in origins]
     status, none = (0, ()) if lines else (1, ("no Babel packets",))
     intervals = [interval_of(found.packets[origin]) for origin in origins]
-    notes = [*notes_of(found), *time_notes(found, intervals, window), *short_note(found)]
+    notes = [*notes_of(found), *time_notes(found, intervals), *short_note(found)]
     lines += [json_line(says) for _, says in notes if as_json]
     return Answer(status, "".join(lines).encode(), none + texts_of(notes))
 
@@ -810,6 +836,11 @@ def only_place(found):
         more = len(places) - LISTED_PLACES
         listed = ", ".join(places[:LISTED_PLACES]) + (f", and {more} more" if more > 0 else "")
         raise Fault(f"packets from this sender on several interfaces: {listed}")
+
+
+def without_absence(line):
+    """The line; of a sender that has no packets, without where and when."""
+    return re.sub(r"(no packets from [0-9a-f:.]+).*", r"\1", line)
 
 
 def extract(
@@ -833,7 +864,7 @@ def extract(
     except (Fault, NoTime) as fault:
         return Answer(2 if isinstance(fault, NoTime) else 3, errors=(str(fault),))
     sent = sum(found.packets.values(), [])
-    notes = texts_of([*notes_of(found), *time_notes(found, [interval_of(sent)], window)])
+    notes = texts_of([*notes_of(found), *time_notes(found, [interval_of(sent)])])
     if not sent:
         return Answer(1, errors=(f"no packets from {text_of(sender.version, int(sender))}", *notes))
     dump = b"".join(sent)

@@ -52,7 +52,8 @@ OPTIONS = [], ["--v4-via-v6"], ["--ignore", "seqno,metric"], ["--since", "+6.5"]
 
 def run(program, words, capture):
     done = subprocess.run([program, *words, capture], capture_output=True, text=True)
-    errors = [line for line in done.stderr.splitlines() if not line.startswith("hint: ")]
+    lines = done.stderr.splitlines()
+    errors = [reader.without_absence(line) for line in lines if not line.startswith("hint: ")]
     return done.returncode, done.stdout.splitlines(), errors
 
 

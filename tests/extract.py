@@ -225,11 +225,17 @@ NOISE = [
 ]
 
 
+def noise(frame, interface=0):
+    """A record of this frame; of one without an octet, which had 60, since a record of a frame that
+    had none is refused."""
+    return made.Record(frame, interface, None if frame else 60)
+
+
 def among_others(dump, interface=0):
     """The records of a dump, each after two that are not of it."""
     rng = random.Random(1)
     for record in records_of(dump, interface=interface):
-        yield from (made.Record(frame, interface) for frame in rng.choices(NOISE, k=2))
+        yield from (noise(frame, interface) for frame in rng.choices(NOISE, k=2))
         yield record
 
 
@@ -687,7 +693,7 @@ def expect(tally, what, found, wanted):
 
 
 def run(program, words, capture=b"", **how):
-    """What a run answers, but for its hints."""
+    """What a run answers, but for its hints, and where and when a sender has no packets."""
     done = subprocess.run(
         [program, *words],
         input=capture,
@@ -697,9 +703,8 @@ def run(program, words, capture=b"", **how):
         **how,
     )
     lines = done.stderr.decode().splitlines()
-    return reader.Answer(
-        done.returncode, done.stdout, tuple(line for line in lines if not line.startswith("hint: "))
-    )
+    lines = (reader.without_absence(line) for line in lines if not line.startswith("hint: "))
+    return reader.Answer(done.returncode, done.stdout, tuple(lines))
 
 
 def without_notes(answer):

@@ -257,8 +257,8 @@ COMPLETED = (
     ("babel-dump nor", ["normalise"]),
     ("babel-dump key --ro", ["--routes"]),
     ("babel-dump events --ma", ["--max-routes"]),
-    ("babel-dump show x.pcap --from f", ["fe80:0:0:0:0:0:0:1", "fe80:0:0:0:0:0:0:2"]),
-    ("babel-dump compare x.pcap now.pcap --other-from f", ["fe80:0:0:0:0:0:0:1"]),
+    ("babel-dump show x.pcap --from f", ["fe80::1", "fe80::2"]),
+    ("babel-dump compare x.pcap now.pcap --other-from f", ["fe80::1"]),
     ("babel-dump show x.dump --from f", []),
     ("babel-dump pairs --ignore next-hop,s", ["next-hop,seqno"]),
     ("babel-dump diff --color a", ["always", "auto"]),
@@ -428,7 +428,7 @@ def check(tally, _long):
         folder = pathlib.Path(folder)
         transcript.link(program, folder)
         transcript.link_examples(folder)
-        for name in "program", "time", "hold", "events":
+        for name in "program", "worked", "time", "hold", "events", "words":
             transcript.play(TOP / f"tests/{name}.txt", folder, tally)
         transcript.put(dict(large_dumps()), folder)
         transcript.play(TOP / "tests/limits.txt", folder, tally)

@@ -28,13 +28,10 @@ def check_tables(program, tally):
 
 def check_drill(program, tally):
     """The rows at each moment of the drill are the listener's, but for those that are explained."""
-    rows, moments = drill.counts(drill.differing(program, ["--expiry", "3.5"]))
-    problem = f"{rows} rows differ, at {moments} moments"
-    is_wrong = rows > drill.MOST_ROWS or moments > drill.MOST_MOMENTS
-    tally.check("the listener's tables of the drill", problem if is_wrong else "")
-    rows, _ = drill.counts(drill.differing(program, []))
-    problem = "" if rows > drill.MOST_ROWS else "they differ no more without --expiry"
-    tally.check("the listener's tables of the drill, without --expiry", problem)
+    for options, explained in drill.EXPLAINED:
+        rows, moments = found = drill.counts(drill.differing(program, options))
+        problem = "" if found == explained else f"{rows} rows differ, at {moments} moments"
+        tally.check(f"the listener's tables of the drill: {' '.join(['show', *options])}", problem)
 
 
 def check_canonical(program, folder, tally):

@@ -1,22 +1,18 @@
 mod captures;
 mod devices;
-mod events_words;
 mod failures;
-mod forms;
 mod notes;
 mod one_call;
 mod one_command;
 mod pairs_files;
-mod places;
 mod refusals;
 mod refused_memory;
 mod sender_keys;
 mod strict;
-mod words;
 
 ghost use Rattle.std.specs.Prelude.{◌<◌};
 
-use babel_dump::{Asked, Job, RunFault, read_words, run_job, status_of};
+use babel_dump::{Asked, DumpFile, Job, RunFault, read_words, run_job, status_of};
 use babel_prefix::{Addr, parse_addr};
 use babel_table::Limits;
 use babel_tlv::Mode;
@@ -121,6 +117,15 @@ fn one_job(alloc: Global, line: &str) -> Result<Job, Fail> {
         return Err(Fail::from("several jobs"));
     }
     Ok(jobs.into_iter().next().ok_or("no job")?)
+}
+
+/// The file of a job is the one that is wanted; standard input where none is.
+fn expect_file(rt: &impl Abort, line: &str, given: &DumpFile, wanted: Option<&str>) {
+    let name = match given {
+        DumpFile::StandardInput => None,
+        DumpFile::Named(name) => Some(name.as_str()),
+    };
+    assert!(rt; name == wanted, "{given:?} of {line}");
 }
 
 /// Runs a case.

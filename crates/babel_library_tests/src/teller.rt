@@ -2,7 +2,7 @@
 use crate::dumps::octets;
 use babel_prefix::{Addr, Family};
 use babel_timeline::{ChangeKind, Teller, Telling};
-use babel_tlv::{Fault, Start, View};
+use babel_tlv::{Fault, Reason, Start, View};
 use std::alloc::Global;
 use std::test::Fail;
 
@@ -18,6 +18,9 @@ const ELEVEN: &str = "2a02001c060a00000200000000000001080e0100200001900001000b0a
 const WIDE: &str = "2a020019060a00000200000000000001080b0100080001900001000c0a";
 
 const NONE_AT_ALL: &str = "2a02000c080a0000000001900000ffff";
+
+/// An Update in encoding 4, which is not read.
+const UNREAD: &str = "2a02000c080a0400000001900001000a";
 
 /// A packet whose one TLV runs past its end.
 const PAST_END: &str = "2a020002080a";
@@ -118,6 +121,27 @@ fn changes_are_told(rt: HostRuntime) -> Result<(), Fail> {
     assert!(rt; are_told(&told, &[(9, 2, 32, 0, 'x')]));
     let fault = hears(alloc, &mut teller, 3, 20, "2a02", &mut told).err();
     assert_eq!(rt; fault, Some(Fault::Truncated { at: 0 }));
+    Ok(())
+}
+
+#[test]
+fn tlvs_are_counted(rt: HostRuntime) -> Result<(), Fail> {
+    let alloc = rt.alloc();
+    let mut teller: Teller<u64> = Teller::new(alloc, None, 1, View::all(), None);
+    let mut told = Vec::new(alloc);
+    hears(alloc, &mut teller, 2, 0, UNREAD, &mut told)?;
+    hears(alloc, &mut teller, 1, 1, TEN, &mut told)?;
+    hears(alloc, &mut teller, 1, 2, UNREAD, &mut told)?;
+    hears(alloc, &mut teller, 1, 3, UNREAD, &mut told)?;
+    let report = teller.report(1);
+    assert_eq!(rt; report.tlvs(), 4);
+    assert_eq!(rt; report.updates(), 3);
+    assert_eq!(rt; report.ignored(Reason::UnknownEncoding), Some((2, 36)));
+    assert_eq!(rt;
+        teller.report(2).ignored(Reason::UnknownEncoding),
+        Some((1, 4))
+    );
+    assert_eq!(rt; teller.report(3).tlvs(), 0);
     Ok(())
 }
 

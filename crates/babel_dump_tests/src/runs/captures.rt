@@ -1,9 +1,8 @@
 //! The runs over captures, over devices that follow a script, and the words that ask for them.
 use super::devices::{ScriptedIn, ScriptedOut};
-use super::one_job;
-use super::words::expect_file;
+use super::{expect_file, one_job};
 use babel_capture::Fault;
-use babel_dump::{InputFault, Job, RunFault, Side, parse_factor, run_job, status_of};
+use babel_dump::{Hint, InputFault, Job, RunFault, Side, run_job, status_of};
 use std::alloc::Global;
 use std::process::Abort;
 use std::test::Fail;
@@ -35,9 +34,9 @@ pub static CAPTURE: [u8; 122] = [
 ];
 
 pub const SENDERS: &str = "192.0.2.1 interface 0 packets 1 octets 4 updates 0 interval - \
-     first 1970-01-01T00:00:00.000000000Z last 1970-01-01T00:00:00.000000000Z\n\
+     first 1970-01-01T00:00:00.000000000Z last 1970-01-01T00:00:00.000000000Z trailers 0\n\
      192.0.2.2 interface 0 packets 1 octets 4 updates 0 interval - \
-     first 1970-01-01T00:00:00.000000000Z last 1970-01-01T00:00:00.000000000Z\n";
+     first 1970-01-01T00:00:00.000000000Z last 1970-01-01T00:00:00.000000000Z trailers 1\n";
 
 /// What the two commands write of the capture.
 static WRITTEN: [(&str, &str); 3] = [
@@ -75,7 +74,7 @@ fn run(alloc: Global, line: &str, octets: &[u8], failing: (u64, u64)) -> Result<
 
 /// What is asked of these octets ends in this fault, if any, with this status, and writes these
 /// octets.
-pub fn expect_run(
+fn expect_run(
     rt: &impl Abort,
     alloc: Global,
     line: &str,
@@ -166,36 +165,6 @@ fn each_write_that_fails(rt: HostRuntime) -> Result<(), Fail> {
     Ok(())
 }
 
-/// Where a capture that is cut after so many octets is at fault, if it is.
-fn fault_of_cut(len: usize) -> Option<Fault> {
-    match len {
-        0..24 => Some(Fault::NotCapture),
-        24 | 72 => None,
-        25..72 => Some(Fault::CutShort { at: 24 }),
-        _ => Some(Fault::CutShort { at: 72 }),
-    }
-}
-
-#[test]
-fn a_capture_cut_at_each_octet(rt: HostRuntime) -> Result<(), Fail> {
-    for len in 0..CAPTURE.len() {
-        if let Some(fault) = fault_of_cut(len) {
-            let fault = RunFault::Input(Side::First, InputFault::Capture(fault));
-            expect_run(
-                &rt,
-                rt.alloc(),
-                "senders",
-                &CAPTURE[..len],
-                (0, 0),
-                Some(&fault),
-                3,
-                &[],
-            )?;
-        }
-    }
-    Ok(())
-}
-
 /// Words, how many octets they allow, whether they ask for no notes, and the file; standard input
 /// where there is none.
 static WORDS: [(&str, u32, bool, Option<&str>); 2] = [
@@ -218,61 +187,29 @@ fn words_of_captures(rt: HostRuntime) -> Result<(), Fail> {
     Ok(())
 }
 
-#[test]
-fn words_of_factors(rt: HostRuntime) -> Result<(), Fail> {
-    for (word, ten_millionths) in [
-        ("3.5", 35_000_000),
-        ("003.5000000", 35_000_000),
-        ("4.1234561", 41_234_561),
-        ("0.0000001", 1),
-        ("1000", 10_000_000_000),
-        ("1000.0000000", 10_000_000_000),
-    ] {
-        let factor = parse_factor(word).ok_or("no factor")?;
-        assert_eq!(rt; factor.ten_millionths(), ten_millionths, "of {word}");
-    }
-    for word in [
-        "",
-        "q",
-        "0",
-        "0.0",
-        ".5",
-        "3.",
-        "3.50000000",
-        "1000.0000001",
-        "1001",
-        "-1",
-        "+1",
-        "1e3",
-        "3,5",
-        " 1",
-        "3.5.1",
-        "4294967296",
-    ] {
-        assert_eq!(rt; parse_factor(word), None, "of {word}");
-    }
-    Ok(())
-}
-
-/// What is asked of a dump, and the option that is for captures alone.
-static MISPLACED: [(&str, Option<&str>); 6] = [
-    ("show --from :: --expiry 3.5", Some("--expiry")),
-    ("key --from :: --expiry 3.5 --until +1", Some("--until")),
-    ("pairs --from :: --expiry 3.5 --since +1", Some("--since")),
-    ("compare --from :: --expiry 3.5 a b", Some("--expiry")),
-    (
-        "diff --from :: --expiry 3.5 --other-until +1 a b",
-        Some("--expiry"),
-    ),
-    ("lookup --from :: --to ::", None),
+/// Words, and how many octets a capture may have by them.
+static LIMITS: [(&str, &str); 4] = [
+    ("show --from ::", "1073741824"),
+    ("key --max-octets 1073741825 --from ::", "1073741825"),
+    ("senders", "1073741824"),
+    ("extract --max-octets 71 --from ::", "71"),
 ];
 
 #[test]
-fn times_of_dumps(rt: HostRuntime) -> Result<(), Fail> {
-    for (line, option) in &MISPLACED {
+fn limits_of_captures(rt: HostRuntime) -> Result<(), Fail> {
+    let fault = InputFault::Capture(Fault::TooLong { at: 24 });
+    let fault = RunFault::Input(Side::First, fault);
+    for (line, limit) in &LIMITS {
         let job = one_job(rt.alloc(), line)?;
-        assert_eq!(rt; job.misplaced(false, false), *option, "of {line}");
-        assert_eq!(rt; job.misplaced(true, true), None, "of {line}");
+        let hint = Hint::of(&job, &fault, &[]).ok_or("no hint")?;
+        let text = format!(in rt.alloc();
+            "hint: the limit is {limit} octets; --max-octets raises it"
+        )?;
+        assert_eq!(rt;
+            format!(in rt.alloc(); "{hint}")?.as_str(),
+            text.as_str(),
+            "of {line}"
+        );
     }
     Ok(())
 }
