@@ -22,7 +22,7 @@ _babel_dump_files() {
 _babel_dump_senders() {
     local file
     file=$(_babel_dump_files | sed -n "$1p")
-    [[ -f $file ]] && "${COMP_WORDS[0]}" senders --accept-cut --quiet "$file" 2>/dev/null |
+    [[ -f $file ]] && "${COMP_WORDS[0]}" senders --short --accept-cut --quiet "$file" 2>/dev/null |
         cut -d ' ' -f 1
 }
 

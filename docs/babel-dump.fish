@@ -24,7 +24,8 @@ function __babel_dump_senders
     end
     set -l file $files[$argv[1]]
     test -f "$file"
-    and $words[1] senders --accept-cut --quiet $file 2>/dev/null | string replace -r ' .*' ''
+    and $words[1] senders --short --accept-cut --quiet $file 2>/dev/null |
+        string replace -r ' .*' ''
 end
 
 # An option of these commands.
