@@ -55,7 +55,7 @@ class Fault(Exception):
 
 
 class NoTime(Exception):
-    """A word that is no time."""
+    """A word that is no time, or two that are the wrong way round."""
 
 
 @dataclass
@@ -508,6 +508,15 @@ class Window:
     since: Moment = None
     until: Moment = None
 
+    def is_backwards(self):
+        """It ends before it begins, whatever the capture."""
+        since, until = self.since, self.until
+        return (
+            None not in (since, until)
+            and since.from_start == until.from_start
+            and since.nanoseconds > until.nanoseconds
+        )
+
     def has(self, start, time):
         return (self.since is None or self.since.at(start) <= time) and (
             self.until is None or time <= self.until.at(start)
@@ -522,7 +531,10 @@ def window_of(since, until):
     for word, moment in zip((since, until), moments):
         if word is not None and moment is None:
             raise NoTime(f"not a time: {word}")
-    return Window(*moments)
+    window = Window(*moments)
+    if window.is_backwards():
+        raise NoTime("--since is later than --until")
+    return window
 
 
 def span_of(found):
