@@ -45,6 +45,9 @@ OFFSETS = None, None, 0, 5, -1, -3_600
 POWERS = None, 0, 3, 6, 9, 12, 127, 128, 138, 160, 255
 # The notes that moments.py has, of those of a table.
 NOTES = re.compile(r"note: (the capture spans|times run backwards|[0-9]+ routes? w)")
+# The notes that it has not, of those of events: what TLVs are ignored, or missing.
+TLV_NOTES = re.compile(r"note: (.*: )?([0-9]+ of [0-9]+ TLVs? ignored|no Updates)")
+TLV_OBJECTS = b'{"note":"ignored"', b'{"note":"no-updates"'
 
 
 # ---- random packets
@@ -197,14 +200,27 @@ def runs(rng, octets):
         yield ["events", *pair, *named, *common]
 
 
+def are_backwards(words):
+    """Whether their times are the wrong way round, whatever the capture: such words are refused."""
+    times = dict(zip(words, words[1:]))
+    try:
+        reader.window_of(times.get("--since"), times.get("--until"))
+    except reader.NoTime:
+        return True
+    return False
+
+
 def answered(program, words, octets):
-    """What a run answers, but for its hints, and of a table for all but rows and the notes on
-    times."""
+    """What a run answers, but for its hints, of events for the notes on TLVs, and of a table for all
+    but rows and the notes on times."""
     done = subprocess.run([program, *words, "-"], input=octets, capture_output=True)
     output, errors = done.stdout, done.stderr.decode().splitlines()
     errors = [reader.without_absence(line) for line in errors if not line.startswith("hint: ")]
-    if words[0] != "events":
-        lines = output.splitlines(keepends=True)
+    lines = output.splitlines(keepends=True)
+    if words[0] == "events":
+        output = b"".join(line for line in lines if not line.startswith(TLV_OBJECTS))
+        errors = [line for line in errors if not TLV_NOTES.match(line)]
+    else:
         output = b"".join(
             line for line in lines if not line.startswith((b"tlvs ", b"ignored "))
         )
@@ -230,6 +246,8 @@ def checked(program, captures, seed, plain):
         octets = capture(rng)
         found = []
         for words in runs(rng, octets):
+            if are_backwards(words):
+                continue
             wanted = wanted_of(words, octets, plain)
             given = answered(program, words, octets)
             problem = f"capture {turn}, {' '.join(words)}: {given} in place of {wanted}"
