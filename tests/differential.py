@@ -26,6 +26,7 @@ RANDOM_DUMPS = 2_000
 RANDOM_DUMPS_LONG = 50_000
 CAPTURES = 300
 CAPTURES_LONG = 3_000
+BACKWARDS = ("--since is later than --until",)
 
 
 def check(tally, long):
@@ -49,7 +50,9 @@ def check(tally, long):
         for what, problem in says.checked(program, dumps, SEED):
             tally.check(f"the definitions beside what a dump says: {what}", problem)
         plain = build(PLAIN_OF_CAPTURES, folder)
-        extract.check_cases(plain, extract.cases_of(tally), tally, extract.without_notes)
+        # The plain program takes times the wrong way round, which are refused as words.
+        cases = (case for case in extract.cases_of(tally) if case.answer.errors != BACKWARDS)
+        extract.check_cases(plain, cases, tally, extract.without_notes)
         captures = CAPTURES_LONG if long else CAPTURES
         for side, is_plain in (program, False), (plain, True):
             for command, _, problem in checked_captures(side, captures, SEED, is_plain):
