@@ -9,7 +9,7 @@ const LEAST: u8 = 2;
 
 /// What `::` stands for in the short text of an IPv6 address: its longest run of two or more zero
 /// groups, and of several the first (RFC 5952, 4.2).
-#[derive(Clone, Copy, Debug, PartialEq, Eq)]
+#[derive(Clone, Copy)]
 pub struct Gap {
     /// The number of groups before the run.
     pub start: u8,

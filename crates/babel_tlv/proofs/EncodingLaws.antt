@@ -1,6 +1,6 @@
 -- The encodings in which Updates have prefixes: by their numbers, and for pairs.
 use Rattle.std.proofs.Common.{inl, inr, ◌≡◌, ℕ, Bool, true, false, cond, eqb, ltb, ◌||◌, Option, Some, None, refl, subst}
-use Rattle.std.specs.Prelude.{◌&&◌, ◌⊎◌, IfSome}
+use Rattle.std.specs.Prelude.{◌&&◌, IfSome}
 use Rattle.std.proofs.lemmas.Bool.{eqb-true}
 use Rattle.babel_prefix.specs.declared.family.Family.{Family}
 use Rattle.babel_prefix.specs.declared.family.Family.TheVariants.{V4, V6}

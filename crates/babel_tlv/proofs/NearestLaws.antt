@@ -1,6 +1,6 @@
 -- What stands before a TLV is what the nearest earlier one set.
-use Rattle.std.proofs.Common.{inl, inr, ◌≡◌, List, [], ◌∷◌, ◌++◌, Option, Some, None, refl, sym, ap, subst, ◌∙◌}
-use Rattle.std.specs.Prelude.{ℕ, ◌⊎◌}
+use Rattle.std.proofs.Common.{inl, inr, ◌≡◌, List, [], ◌∷◌, ◌++◌, Option, Some, None, refl, sym, ap, subst}
+use Rattle.std.specs.Prelude.{ℕ}
 use Rattle.std.specs.Option.{option_or}
 use Rattle.std.proofs.lemmas.List.{append-nil}
 use Rattle.babel_prefix.specs.declared.family.Family.{Family}
@@ -11,7 +11,7 @@ use Rattle.babel_tlv.specs.declared.prefix_encoding.PrefixEncoding.TheVariants.{
 use Rattle.babel_tlv.specs.Framing.{TlvAt}
 use Rattle.babel_tlv.specs.Context.{context_after, given_default, given_next_hop, given_router_id, of_family}
 use Rattle.babel_tlv.specs.Kept.{kept_for, prefix_for}
-use Rattle.babel_tlv.specs.Nearest.{SetsNone, IsSetTo, IsNearest, DefaultIsNearest, NextHopIsNearest, RouterIdIsNearest}
+use Rattle.babel_tlv.specs.Nearest.{SetsNone, IsNearest, DefaultIsNearest, NextHopIsNearest, RouterIdIsNearest}
 
 module _ (X : Type 0) (sets : List TlvAt → TlvAt → Option X) where
   none_of_none : (before : List TlvAt) → SetsNone X sets [] before

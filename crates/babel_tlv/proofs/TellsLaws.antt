@@ -20,7 +20,7 @@ use Rattle.babel_tlv.specs.Forming.{field_len, formed, omitted, prefix_from, pre
 use Rattle.babel_tlv.specs.Framing.{TlvAt}
 use Rattle.babel_tlv.specs.Kept.{kept_for, prefix_for}
 use Rattle.babel_tlv.specs.Route.{RouteKey, is_reserved}
-use Rattle.babel_tlv.specs.Says.{IgnoredTellsNothing, current_router_id, encoded_reason, hop_reason, key_of, key_reason, key_tells, refuses}
+use Rattle.babel_tlv.specs.Says.{IgnoredTellsNothing, current_router_id, encoded_reason, hop_reason, key_of, key_reason, key_tells}
 use Rattle.babel_tlv.specs.Says.{route_reason, route_tells, router_id_reason, source_of, tells, wildcard_reason, wildcard_tells}
 use Rattle.babel_tlv.specs.SubTlv.{and_then, sub_tlvs}
 use Rattle.babel_tlv.proofs.SubTlvLaws.{sub_tlvs_are}

@@ -1,5 +1,5 @@
 -- What a view sees tells what is the same under it.
-use Rattle.std.proofs.Common.{inl, ◌≡◌, ◌≢◌, ℕ, ◌<◌, ◌^◌, Bool, true, false, List, length, refl, sym, ap, ◌∙◌, arith, rules}
+use Rattle.std.proofs.Common.{inl, ◌≡◌, ◌≢◌, ℕ, ◌<◌, ◌^◌, Bool, true, false, List, length, refl, ap, ◌∙◌, arith, rules}
 use Rattle.std.specs.Prelude.{if◌then◌else◌, slice_index, IsFalse}
 use Rattle.babel_prefix.specs.Address.{Address, IsAddress}
 use Rattle.babel_tlv.specs.declared.held.Held.{Held}

@@ -6,7 +6,7 @@ use crate::reason::Reason;
 use crate::route::Route;
 
 /// What a TLV says, but for the route that it says it of: RFC 8966, 4.6.
-#[derive(Clone, Copy, Debug, PartialEq, Eq)]
+#[derive(Clone, Copy)]
 pub enum EventKind {
     /// An Update with a finite metric: the route.
     Announce,

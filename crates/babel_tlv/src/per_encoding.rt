@@ -7,7 +7,7 @@ use babel_prefix::Addr;
 use std::marker::Model;
 
 /// The address of a prefix of each encoding, if one is known: RFC 8966, 4.5; RFC 9229, 4.1.
-#[derive(Clone, Copy, Debug, PartialEq, Eq)]
+#[derive(Clone, Copy)]
 pub(crate) struct PerEncoding {
     v4: Option<Addr>,
     v6: Option<Addr>,

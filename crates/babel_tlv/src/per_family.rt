@@ -6,7 +6,7 @@ use babel_prefix::{Addr, Family};
 use std::marker::Model;
 
 /// An address of each family, if one is known: RFC 8966, 4.5.
-#[derive(Clone, Copy, Debug, PartialEq, Eq)]
+#[derive(Clone, Copy)]
 pub(crate) struct PerFamily {
     v4: Option<Addr>,
     v6: Option<Addr>,

@@ -4,7 +4,7 @@ use babel_prefix::{Addr, Family, Prefix};
 
 /// The place where `State::step_into` writes what an Update announces or retracts: moving this
 /// through each layer, for each TLV, took a third of the time of reading.
-#[derive(Clone, Copy, Debug, PartialEq, Eq)]
+#[derive(Clone, Copy)]
 pub struct Route {
     /// What the route is for.
     pub key: Key,

@@ -4,7 +4,7 @@ ghost use Rattle.babel_tlv.specs.Context.{sent_by};
 use babel_prefix::Addr;
 
 /// What the packets of a dump begin with: RFC 8966, 4.5.
-#[derive(Clone, Copy, Debug, PartialEq, Eq)]
+#[derive(Clone, Copy)]
 pub struct Start {
     /// Who sent the packets.
     pub sender: Addr,
