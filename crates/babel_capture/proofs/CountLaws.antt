@@ -12,6 +12,7 @@ use Rattle.babel_capture.specs.declared.reason.Reason.{Reason}
 use Rattle.babel_capture.specs.declared.reason.Reason.TheVariants as reasons
 use Rattle.babel_capture.specs.Findings.{Found, passed, untold, left, refused, lacked, found}
 use Rattle.babel_capture.specs.declared.sections.Sections.{Sections}
+use Rattle.babel_capture.specs.declared.tallies.Origin.{Origin}
 use Rattle.babel_capture.specs.declared.timing.Timing.{Timing}
 use Rattle.babel_capture.specs.Counts.{Made, Counts, all_reasons, is_left_for, left_for, is_short, is_cooked, is_cooked_link, has_trailer, interval_found, timing_of, counts_of}
 use Rattle.babel_capture.specs.Counting.{one_more, left_with, counted, counted_at}
@@ -44,21 +45,21 @@ map-same f g same [] = refl
 map-same f g same (r ∷ rs) = ap (λ (x : Count). x ∷ map f rs) (same r) ∙ ap (λ (t : List Count). g r ∷ t) (map-same f g same rs)
 
 -- one more datagram left out changes the place of its reason
-set_one : (f : Reason → Count) (at : ℕ) (reason : Reason) → map (λ (r : Reason). bumped (is_left_for r (left reason)) at (f r)) all_reasons ≡ left_with (map f all_reasons) (Some reason) at
-set_one f at reasons.Truncated = refl
-set_one f at reasons.BadMagic = refl
-set_one f at reasons.BadVersion = refl
-set_one f at reasons.Fragment = refl
-set_one f at reasons.Snapped = refl
-set_one f at reasons.CutShort = refl
-set_one f at reasons.OtherPort = refl
-set_one f at reasons.NotLinkLocal = refl
+set_one : (f : Reason → Count) (at : ℕ) (reason : Reason) (missed : Option Origin) → map (λ (r : Reason). bumped (is_left_for r (left reason missed)) at (f r)) all_reasons ≡ left_with (map f all_reasons) (Some reason) at
+set_one f at reasons.Truncated missed = refl
+set_one f at reasons.BadMagic missed = refl
+set_one f at reasons.BadVersion missed = refl
+set_one f at reasons.Fragment missed = refl
+set_one f at reasons.Snapped missed = refl
+set_one f at reasons.CutShort missed = refl
+set_one f at reasons.OtherPort missed = refl
+set_one f at reasons.NotLinkLocal missed = refl
 
 -- why a datagram is left out, if it is
 abbrev reason_of : Found → Option Reason
 reason_of passed = None
 reason_of untold = None
-reason_of (left reason) = Some reason
+reason_of (left reason missed) = Some reason
 reason_of (refused lack) = None
 reason_of (lacked place sender lack) = None
 reason_of (found place sender packet has_trailer) = None
@@ -66,7 +67,7 @@ reason_of (found place sender packet has_trailer) = None
 by_found : (f : Reason → Count) (at : ℕ) (what : Found) → map (λ (r : Reason). bumped (is_left_for r what) at (f r)) all_reasons ≡ left_with (map f all_reasons) (reason_of what) at
 by_found f at passed = refl
 by_found f at untold = refl
-by_found f at (left reason) = set_one f at reason
+by_found f at (left reason missed) = set_one f at reason missed
 by_found f at (refused lack) = refl
 by_found f at (lacked place sender lack) = refl
 by_found f at (found place sender packet has_trailer) = refl
@@ -121,7 +122,7 @@ module _ (old : Counts) (link : Link) where
       ≡ counted old link what
   by_what passed = left_so old.left_out
   by_what untold = unfound old.left_out (old.short + 1)
-  by_what (left reason) = left_so (left_with old.left_out (Some reason) (old.packets + 1))
+  by_what (left reason missed) = left_so (left_with old.left_out (Some reason) (old.packets + 1))
   by_what (refused lack) = left_so old.left_out
   by_what (lacked place sender lack) = left_so old.left_out
   by_what (found place sender packet has_trailer) =

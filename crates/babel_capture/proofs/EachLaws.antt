@@ -78,7 +78,7 @@ origin_exact a b at =
 octets_one : (time : Option ℕ) (what : Found) → flat_map (λ (packet : ℕ × List ℕ). packet.1) (timed_found time what) ≡ octets_found what
 octets_one time passed = refl
 octets_one time untold = refl
-octets_one time (left reason) = refl
+octets_one time (left reason missed) = refl
 octets_one time (refused lack) = refl
 octets_one time (lacked place sender lack) = refl
 octets_one time (found place sender packet has_trailer) = append-nil packet
@@ -105,7 +105,7 @@ module _ (origin : Origin) where
   abbrev lack_from : ℕ → Found → Option LackAt
   lack_from number passed = None
   lack_from number untold = None
-  lack_from number (left reason) = None
+  lack_from number (left reason missed) = None
   lack_from number (refused lack) = None
   lack_from number (lacked place sender lack) =
       cond (is_at (origin_cmp origin) (record { place = place; sender = sender })) (Some (record { packet = number; lack = lack })) None
@@ -297,7 +297,7 @@ module _ (origin : Origin) where
       → dump_at (dumps_by dumps number time what) origin ≡ own_with (dump_at dumps origin) (packets_from time what) (lack_from number what)
   with_one dumps number time passed = same_own (dump_at dumps origin)
   with_one dumps number time untold = same_own (dump_at dumps origin)
-  with_one dumps number time (left reason) = same_own (dump_at dumps origin)
+  with_one dumps number time (left reason missed) = same_own (dump_at dumps origin)
   with_one dumps number time (refused lack) = same_own (dump_at dumps origin)
   with_one dumps number time (lacked place sender lack) =
       with_added dumps (record { place = place; sender = sender }) [] (Some (record { packet = number; lack = lack }))

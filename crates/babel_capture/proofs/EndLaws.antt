@@ -5,6 +5,7 @@ use Rattle.std.specs.Prelude.{IsTrue, Some}
 use Rattle.std.specs.List.{flat_map}
 use Rattle.std.proofs.lemmas.List.{append-nil}
 use Rattle.std.proofs.lemmas.List.Concat.{flat_map-append}
+use Rattle.babel_capture.specs.declared.noted.Noted.{Noted}
 use Rattle.babel_capture.specs.declared.packet_end.PacketEnd.{PacketEnd}
 use Rattle.babel_capture.specs.declared.tallies.Origin.{Origin}
 use Rattle.babel_capture.specs.declared.wanted.Wanted.{Wanted}
@@ -13,12 +14,12 @@ use Rattle.babel_capture.specs.Blocks.{Sighting, sight_in, sighting_of, skipped_
 use Rattle.babel_capture.specs.Contents.{Captured, Content, file, section, describes, holds, skips, nothing}
 use Rattle.babel_capture.specs.Counts.{Made}
 use Rattle.babel_capture.specs.Findings.{Found, passed, untold, left, refused, lacked, found, Finds, is_in_turn}
-use Rattle.babel_capture.specs.Gathering.{AreMade, BlockNeedsMemory, OriginIs, dump_of, octets_found, origin_noted, origin_found}
+use Rattle.babel_capture.specs.Gathering.{AreMade, BlockNeedsMemory, NotedIs, dump_of, missed_in, noted_of, octets_found, origin_noted, origin_found}
 use Rattle.babel_capture.specs.Times.{Came, time_of}
 use Rattle.babel_capture.specs.PacketEnds.{time_told, AreEnds, end_found, ends_from, ends_of, is_noted, is_packet}
 use Rattle.babel_capture.specs.Sight.{Sight, other}
 use Rattle.babel_capture.specs.Tallies.{Senders}
-use Rattle.babel_capture.proofs.GatherLaws.{AddsOrigin, no-origin}
+use Rattle.babel_capture.proofs.GatherLaws.{IsNotedOf, no-origin}
 use Rattle.babel_capture.proofs.OneCapture.{finds_one, made_one}
 
 -- ---- one packet more
@@ -83,15 +84,19 @@ if-more : (b : Bool) (ends : List PacketEnd) (end : PacketEnd) → (if b then en
 if-more true ends end = refl
 if-more false ends end = sym (append-nil ends)
 
-abbrev end_at : ℕ → ℕ → Came → Option Origin → PacketEnd
-end_at end number came origin = record { end = end; number = number; time = time_of came; origin = origin }
+abbrev end_at : ℕ → ℕ → Came → Noted → PacketEnd
+end_at end number came note = record { end = end; number = number; time = time_of came; origin = note.origin; missed = note.missed }
+
+-- all that may be noted
+abbrev note_of : Found → Noted
+note_of what = record { origin = origin_found what; missed = missed_in what }
 
 -- the end of a packet more, where there is a dump
 dump-more : (in_turn : Bool) (taken more : List ℕ) (gone kept : List Made) (one : Made) (ends : List PacketEnd) → taken ≡ octets_made gone
     → taken ++ more ≡ octets_made ((gone ++ kept) ++ one ∷ []) → ends ≡ ends_from in_turn 0 kept
-    → noted in_turn (end_at (length more) one.number one.came (origin_found one.what)) ends ≡ ends_from in_turn 0 (kept ++ one ∷ [])
+    → noted in_turn (end_at (length more) one.number one.came (note_of one.what)) ends ≡ ends_from in_turn 0 (kept ++ one ∷ [])
 dump-more in_turn taken more gone kept one ends is_taken is_more are =
-    let origin = origin_found one.what in
+    let note = note_of one.what in
     let all : octets_made ((gone ++ kept) ++ one ∷ []) ≡ (octets_made gone ++ octets_made kept) ++ octets_found one.what =
     octets-push (gone ++ kept) one ∙ ap (λ (t : List ℕ). t ++ octets_found one.what) (flat_map-append (λ (m : Made). octets_found m.what) gone kept) in
     let there : length more ≡ (0 + length (octets_made kept)) + length (octets_found one.what) =
@@ -104,7 +109,7 @@ dump-more in_turn taken more gone kept one ends is_taken is_more are =
       length-append (octets_made gone) (octets_made kept),
       length-append (octets_made gone ++ octets_made kept) (octets_found one.what),
     ) in
-    ap (λ (n : ℕ). noted in_turn (end_at n one.number one.came origin) ends) there ∙ if-more (is_noted in_turn origin) ends _
+    ap (λ (n : ℕ). noted in_turn (end_at n one.number one.came note) ends) there ∙ if-more (is_noted in_turn note.origin) ends _
     ∙ ap (λ (t : List PacketEnd). t ++ end_found in_turn (0 + length (octets_made kept)) one.number (time_of one.came) one.what) are ∙ sym (ends-push in_turn 0 kept one)
 
 with-one : (wanted : Wanted) (taken : List ℕ) (made : List Made) (one : Made) (ends new : List PacketEnd) → (are : AreEnds wanted taken made ends) → new ≡ ends_of wanted (are.kept ++ one ∷ [])
@@ -117,20 +122,20 @@ with-one wanted taken made one ends new are is = record {
   are_ends = is;
 }
 
-one-more : (wanted : Wanted) (taken more : List ℕ) (made : List Made) (one : Made) (origin : Option Origin) (ends : List PacketEnd) → origin ≡ origin_noted wanted one.what
+one-more : (wanted : Wanted) (taken more : List ℕ) (made : List Made) (one : Made) (note : Noted) (ends : List PacketEnd) → note ≡ noted_of wanted one.what
     → taken ++ more ≡ dump_of wanted (made ++ one ∷ []) → AreEnds wanted taken made ends
-    → AreEnds wanted taken (made ++ one ∷ []) (noted (is_in_turn wanted) (end_at (length more) one.number one.came origin) ends)
-one-more wanteds.Everyone taken more made one origin ends is is_more are =
-    with-one wanteds.Everyone taken made one ends _ are (ap (λ (o : Option Origin). noted false (end_at (length more) one.number one.came o) ends) is ∙ are.are_ends)
-one-more wanteds.Each taken more made one origin ends is is_more are =
-    with-one wanteds.Each taken made one ends _ are (ap (λ (o : Option Origin). noted false (end_at (length more) one.number one.came o) ends) is ∙ are.are_ends)
-one-more (wanteds.Sender sender place false) taken more made one origin ends is is_more are =
-    with-one (wanteds.Sender sender place false) taken made one ends _ are (ap (λ (o : Option Origin). noted false (end_at (length more) one.number one.came o) ends) is ∙ are.are_ends)
-one-more (wanteds.Sender sender place true) taken more made one origin ends is is_more are =
-    with-one (wanteds.Sender sender place true) taken made one ends _ are (ap (λ (o : Option Origin). noted false (end_at (length more) one.number one.came o) ends) is
+    → AreEnds wanted taken (made ++ one ∷ []) (noted (is_in_turn wanted) (end_at (length more) one.number one.came note) ends)
+one-more wanteds.Everyone taken more made one note ends is is_more are =
+    with-one wanteds.Everyone taken made one ends _ are (ap (λ (n : Noted). noted false (end_at (length more) one.number one.came n) ends) is ∙ are.are_ends)
+one-more wanteds.Each taken more made one note ends is is_more are =
+    with-one wanteds.Each taken made one ends _ are (ap (λ (n : Noted). noted false (end_at (length more) one.number one.came n) ends) is ∙ are.are_ends)
+one-more (wanteds.Sender sender place false) taken more made one note ends is is_more are =
+    with-one (wanteds.Sender sender place false) taken made one ends _ are (ap (λ (n : Noted). noted false (end_at (length more) one.number one.came n) ends) is ∙ are.are_ends)
+one-more (wanteds.Sender sender place true) taken more made one note ends is is_more are =
+    with-one (wanteds.Sender sender place true) taken made one ends _ are (ap (λ (n : Noted). noted false (end_at (length more) one.number one.came n) ends) is
     ∙ dump-more false taken more are.gone are.kept one ends are.taken_is (is_more ∙ ap (λ (m : List Made). octets_made (m ++ one ∷ [])) are.whole) are.are_ends)
-one-more (wanteds.InTurn sender place) taken more made one origin ends is is_more are =
-    with-one (wanteds.InTurn sender place) taken made one ends _ are (ap (λ (o : Option Origin). noted true (end_at (length more) one.number one.came o) ends) is
+one-more (wanteds.InTurn sender place) taken more made one note ends is is_more are =
+    with-one (wanteds.InTurn sender place) taken made one ends _ are (ap (λ (n : Noted). noted true (end_at (length more) one.number one.came n) ends) is
     ∙ dump-more true taken more are.gone are.kept one ends are.taken_is (is_more ∙ ap (λ (m : List Made). octets_made (m ++ one ∷ [])) are.whole) are.are_ends)
 
 none-more : (wanted : Wanted) (taken : List ℕ) (before : List Sighting) (made others : List Made) (end : PacketEnd) (ends : List PacketEnd)
@@ -141,44 +146,44 @@ none-more wanted taken before made others end ends are are_too none ended =
     subst (AreEnds wanted taken others) is (subst (λ (m : List Made). AreEnds wanted taken m ends) same ended)
 
 -- a packet more
-packet-after : (wanted : Wanted) (taken more : List ℕ) (number count : ℕ) (origin : Option Origin) (here : Sighting) (before : List Sighting) (made others : List Made)
+packet-after : (wanted : Wanted) (taken more : List ℕ) (number count : ℕ) (note : Noted) (here : Sighting) (before : List Sighting) (made others : List Made)
     (ends : List PacketEnd)
     → here.number ≡ number → number ≡ length before + 1 → count ≡ length (before ++ here ∷ []) → AreMade wanted before made → AreMade wanted (before ++ here ∷ []) others
-    → AddsOrigin wanted here.what origin → taken ++ more ≡ dump_of wanted others → AreEnds wanted taken made ends
-    → AreEnds wanted taken others (noted (is_in_turn wanted) (end_at (length more) count here.came origin) ends)
-packet-after wanted taken more number count origin here before made others ends numbered is_number is_count are are_too (what, finds, is) is_more ended =
+    → IsNotedOf wanted here.what note → taken ++ more ≡ dump_of wanted others → AreEnds wanted taken made ends
+    → AreEnds wanted taken others (noted (is_in_turn wanted) (end_at (length more) count here.came note) ends)
+packet-after wanted taken more number count note here before made others ends numbered is_number is_count are are_too (what, finds, is) is_more ended =
     by (last-made wanted before here others are_too)
   where
-    by : IsLast wanted before here others → AreEnds wanted taken others (noted (is_in_turn wanted) (end_at (length more) count here.came origin) ends)
+    by : IsLast wanted before here others → AreEnds wanted taken others (noted (is_in_turn wanted) (end_at (length more) count here.came note) ends)
     by last =
         (let same : made ≡ last.front = made_one wanted before made last.front are last.are_front in
         let whole : others ≡ made ++ last.one ∷ [] = last.whole ∙ ap (λ (m : List Made). m ++ last.one ∷ []) (sym same) in
         let is_last : last.one.number ≡ count = last.number ∙ numbered ∙ omega (arith, is_number, is_count, length-append before (here ∷ [])) in
-        let added : origin ≡ origin_noted wanted last.one.what = is ∙ ap (origin_noted wanted) (finds_one wanted here.what what last.one.what finds last.finds) in
-        subst (λ (m : List Made). AreEnds wanted taken m (noted (is_in_turn wanted) (end_at (length more) count here.came origin) ends)) (sym whole)
-        (subst (λ (n : ℕ). AreEnds wanted taken (made ++ last.one ∷ []) (noted (is_in_turn wanted) (end_at (length more) n here.came origin) ends)) is_last
-        (subst (λ (c : Came). AreEnds wanted taken (made ++ last.one ∷ []) (noted (is_in_turn wanted) (end_at (length more) last.one.number c origin) ends)) last.came
-        (one-more wanted taken more made last.one origin ends added (is_more ∙ ap (dump_of wanted) whole) ended))))
+        let added : note ≡ noted_of wanted last.one.what = is ∙ ap (noted_of wanted) (finds_one wanted here.what what last.one.what finds last.finds) in
+        subst (λ (m : List Made). AreEnds wanted taken m (noted (is_in_turn wanted) (end_at (length more) count here.came note) ends)) (sym whole)
+        (subst (λ (n : ℕ). AreEnds wanted taken (made ++ last.one ∷ []) (noted (is_in_turn wanted) (end_at (length more) n here.came note) ends)) is_last
+        (subst (λ (c : Came). AreEnds wanted taken (made ++ last.one ∷ []) (noted (is_in_turn wanted) (end_at (length more) last.one.number c note) ends)) last.came
+        (one-more wanted taken more made last.one note ends added (is_more ∙ ap (dump_of wanted) whole) ended))))
 
 -- a block more, after which there are so many packets
-pub ends-after : (wanted : Wanted) (taken more : List ℕ) (number count at : ℕ) (content : Content) (origin : Option Origin) (before : List Sighting) (made others : List Made)
+pub ends-after : (wanted : Wanted) (taken more : List ℕ) (number count at : ℕ) (content : Content) (note : Noted) (before : List Sighting) (made others : List Made)
     (ends : List PacketEnd)
     → number ≡ length before + 1 → count ≡ length (before ++ sightings_in number at content) → AreMade wanted before made → AreMade wanted (before ++ sightings_in number at content) others
-    → OriginIs wanted content origin → taken ++ more ≡ dump_of wanted others → AreEnds wanted taken made ends
-    → AreEnds wanted taken others (noted (is_packet content && is_in_turn wanted) (record { end = length more; number = count; time = time_told content; origin = origin }) ends)
-ends-after wanted taken more number count at (file order interface) origin before made others ends is_number is_count are are_too is is_more ended =
-    none-more wanted taken before made others _ ends are are_too is ended
-ends-after wanted taken more number count at (section order) origin before made others ends is_number is_count are are_too is is_more ended =
-    none-more wanted taken before made others _ ends are are_too is ended
-ends-after wanted taken more number count at (describes interface name) origin before made others ends is_number is_count are are_too is is_more ended =
-    none-more wanted taken before made others _ ends are are_too is ended
-ends-after wanted taken more number count at nothing origin before made others ends is_number is_count are are_too is is_more ended =
-    none-more wanted taken before made others _ ends are are_too is ended
-ends-after wanted taken more number count at (holds packet) origin before made others ends is_number is_count are are_too is is_more ended =
-    packet-after wanted taken more number count origin (sighting_of number at packet) before made others ends refl is_number is_count are are_too is is_more ended
-ends-after wanted taken more number count at (skips packet) origin before made others ends is_number is_count are are_too is is_more ended =
-    packet-after wanted taken more number count origin (skipped_of number at packet) before made others ends refl is_number is_count are are_too
-    (subst (AddsOrigin wanted other) (sym is) (no-origin wanted other passed passed refl refl refl)) is_more ended
+    → NotedIs wanted content note → taken ++ more ≡ dump_of wanted others → AreEnds wanted taken made ends
+    → AreEnds wanted taken others (noted (is_packet content && is_in_turn wanted) (record { end = length more; number = count; time = time_told content; origin = note.origin; missed = note.missed }) ends)
+ends-after wanted taken more number count at (file order interface) note before made others ends is_number is_count are are_too is is_more ended =
+    none-more wanted taken before made others _ ends are are_too (ap (λ (n : Noted). n.origin) is) ended
+ends-after wanted taken more number count at (section order) note before made others ends is_number is_count are are_too is is_more ended =
+    none-more wanted taken before made others _ ends are are_too (ap (λ (n : Noted). n.origin) is) ended
+ends-after wanted taken more number count at (describes interface name) note before made others ends is_number is_count are are_too is is_more ended =
+    none-more wanted taken before made others _ ends are are_too (ap (λ (n : Noted). n.origin) is) ended
+ends-after wanted taken more number count at nothing note before made others ends is_number is_count are are_too is is_more ended =
+    none-more wanted taken before made others _ ends are are_too (ap (λ (n : Noted). n.origin) is) ended
+ends-after wanted taken more number count at (holds packet) note before made others ends is_number is_count are are_too is is_more ended =
+    packet-after wanted taken more number count note (sighting_of number at packet) before made others ends refl is_number is_count are are_too is is_more ended
+ends-after wanted taken more number count at (skips packet) note before made others ends is_number is_count are are_too is is_more ended =
+    packet-after wanted taken more number count note (skipped_of number at packet) before made others ends refl is_number is_count are are_too
+    (subst (IsNotedOf wanted other) (sym is) (passed, refl, no-origin wanted passed refl)) is_more ended
 
 -- what is noted needed memory
 abbrev IsFoundIn : Wanted → Sight → Type 0
@@ -188,7 +193,7 @@ found_in : (wanted : Wanted) (sight : Sight) (what : Found) (origin : Origin) �
 found_in wanted sight (found place sender packet has_trailer) origin finds is = (record { place = place; sender = sender }, packet, has_trailer, finds)
 found_in wanted sight passed origin finds is = absurd cc
 found_in wanted sight untold origin finds is = absurd cc
-found_in wanted sight (left reason) origin finds is = absurd cc
+found_in wanted sight (left reason missed) origin finds is = absurd cc
 found_in wanted sight (refused lack) origin finds is = absurd cc
 found_in wanted sight (lacked place sender lack) origin finds is = absurd cc
 
@@ -205,15 +210,18 @@ not-told : (origin : Option Origin) → origin ≡ None → IsTrue (is_noted fal
 not-told None none told = cc
 not-told (Some origin) none told = cc
 
-pub noted-needs : (wanted : Wanted) (senders : Senders) (content : Content) (origin : Option Origin) → OriginIs wanted content origin
-    → IsTrue (is_noted (is_packet content && is_in_turn wanted) origin) → BlockNeedsMemory wanted senders content
-noted-needs wanted senders (file order interface) origin is told = tt
-noted-needs wanted senders (describes interface name) origin is told = tt
-noted-needs wanted senders (section order) origin is told = absurd (not-told origin is told)
-noted-needs wanted senders nothing origin is told = absurd (not-told origin is told)
-noted-needs wanted senders (skips packet) origin is told = subst (λ (o : Option Origin). IsTrue (is_noted (is_in_turn wanted) o)) is told
-noted-needs wanted senders (holds packet) None is told = inr (inr told)
-noted-needs wanted senders (holds packet) (Some origin) (what, finds, is) told = added-needs wanted senders packet what origin finds is
+pub noted-needs : (wanted : Wanted) (senders : Senders) (content : Content) (note : Noted) → NotedIs wanted content note
+    → IsTrue (is_noted (is_packet content && is_in_turn wanted) note.origin) → BlockNeedsMemory wanted senders content
+noted-needs wanted senders (file order interface) note is told = tt
+noted-needs wanted senders (describes interface name) note is told = tt
+noted-needs wanted senders (section order) note is told = absurd (not-told note.origin (ap (λ (n : Noted). n.origin) is) told)
+noted-needs wanted senders nothing note is told = absurd (not-told note.origin (ap (λ (n : Noted). n.origin) is) told)
+noted-needs wanted senders (skips packet) note is told = subst (λ (n : Noted). IsTrue (is_noted (is_in_turn wanted) n.origin)) is told
+noted-needs wanted senders (holds packet) note (what, finds, is) told = by note.origin (ap (λ (n : Noted). n.origin) is) told
+  where
+    by : (origin : Option Origin) → origin ≡ origin_noted wanted what → IsTrue (is_noted (is_in_turn wanted) origin) → BlockNeedsMemory wanted senders (holds packet)
+    by None none noted_so = inr (inr noted_so)
+    by (Some origin) one noted_so = added-needs wanted senders packet what origin finds one
 
 -- in turn each packet has an end
 noted-long : (in_turn : Bool) (end : PacketEnd) (ends : List PacketEnd) → IsTrue in_turn → length (noted in_turn end ends) ≡ length ends + 1
@@ -227,12 +235,12 @@ noted-long false end ends is = absurd cc
 not-noted : (end : PacketEnd) (ends : List PacketEnd) → end.origin ≡ None → length (noted false end ends) ≡ length ends + 0
 not-noted end ends none = ap (λ (o : Option Origin). length (if is_noted false o then ends ++ end ∷ [] else ends)) none ∙ omega arith
 
-pub noted-each : (wanted : Wanted) (content : Content) (end : PacketEnd) (ends : List PacketEnd) → OriginIs wanted content end.origin → IsTrue (is_in_turn wanted)
+pub noted-each : (wanted : Wanted) (content : Content) (end : PacketEnd) (ends : List PacketEnd) → NotedIs wanted content (record { origin = end.origin; missed = end.missed }) → IsTrue (is_in_turn wanted)
     → length (noted (is_packet content && is_in_turn wanted) end ends) ≡ length ends + (if is_packet content then 1 else 0)
-noted-each wanted (file order interface) end ends is in_turn = not-noted end ends is
-noted-each wanted (section order) end ends is in_turn = not-noted end ends is
-noted-each wanted (describes interface name) end ends is in_turn = not-noted end ends is
-noted-each wanted nothing end ends is in_turn = not-noted end ends is
+noted-each wanted (file order interface) end ends is in_turn = not-noted end ends (ap (λ (n : Noted). n.origin) is)
+noted-each wanted (section order) end ends is in_turn = not-noted end ends (ap (λ (n : Noted). n.origin) is)
+noted-each wanted (describes interface name) end ends is in_turn = not-noted end ends (ap (λ (n : Noted). n.origin) is)
+noted-each wanted nothing end ends is in_turn = not-noted end ends (ap (λ (n : Noted). n.origin) is)
 noted-each wanted (holds packet) end ends is in_turn = noted-long (is_in_turn wanted) end ends in_turn
 noted-each wanted (skips packet) end ends is in_turn = noted-long (is_in_turn wanted) end ends in_turn
 

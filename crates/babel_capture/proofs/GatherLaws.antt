@@ -12,6 +12,7 @@ use Rattle.babel_capture.specs.declared.wanted.Wanted.TheVariants as wanteds
 use Rattle.babel_capture.specs.declared.fault.Fault.{Fault}
 use Rattle.babel_capture.specs.declared.fault.Fault.TheVariants as faults
 use Rattle.babel_capture.specs.declared.lack.Lack.{Lack}
+use Rattle.babel_capture.specs.declared.noted.Noted.{Noted}
 use Rattle.babel_capture.specs.declared.place.Place.{Place}
 use Rattle.babel_capture.specs.declared.tallies.Origin.{Origin}
 use Rattle.babel_capture.specs.Blocks.{Sighting, sight_in}
@@ -21,7 +22,7 @@ use Rattle.babel_capture.specs.Counting.{counted, counted_at, counted_with, shor
 use Rattle.babel_capture.specs.Findings.{CarriedIs, Found, LackIs, PayloadIs, passed, untold, left, refused, lacked, found, Finds}
 use Rattle.babel_capture.specs.Lack.{lack_fault}
 use Rattle.babel_capture.specs.Sight.{Carried, Sight, carries, datagram, lacking, not_link_local, other, other_port, too_short}
-use Rattle.babel_capture.specs.Gathering.{AreMade, BlockNeedsMemory, PacketNeedsMemory, IsTaken, Gathering, IsGathered, IsRefusedPacket, octets_found, dump_of, dump_with, origin_noted, origin_found}
+use Rattle.babel_capture.specs.Gathering.{AreMade, BlockNeedsMemory, PacketNeedsMemory, IsTaken, Gathering, IsGathered, IsRefusedPacket, octets_found, dump_of, dump_with, missed_in, noted_of, nothing_noted, origin_noted, origin_found}
 use Rattle.babel_capture.specs.Dumps.{Dumps, dumps_by, dumps_of, dumps_with}
 use Rattle.babel_capture.specs.Tallies.{Senders, IsOneTooMany, senders_with, senders_of, tallied}
 use Rattle.babel_capture.specs.Times.{time_of}
@@ -118,9 +119,9 @@ on-ok (Err e) goes is = tt
 few_kept : (before : List Sighting) (old new : Gathering) → new.senders ≡ old.senders → IsGathered before old → length new.senders ≤ 65536
 few_kept before old new same gathered = subst (λ (s : Senders). length s ≤ 65536) (sym (same ∙ gathered.senders)) gathered.taken.few
 
--- what is seen adds a packet of this origin to the dump, or none
-abbrev pub AddsOrigin : Wanted → Sight → Option Origin → Type 0
-AddsOrigin wanted sight origin = (what : Found) × Finds wanted sight what × (origin ≡ origin_noted wanted what)
+-- this is noted of what is seen
+abbrev pub IsNotedOf : Wanted → Sight → Noted → Type 0
+IsNotedOf wanted sight noted = (what : Found) × Finds wanted sight what × (noted ≡ noted_of wanted what)
 
 -- the same as the code meets them
 module _ (before : List Sighting) (next : Sighting) (old new : Gathering) (finding : Found) where
@@ -141,11 +142,11 @@ module _ (before : List Sighting) (next : Sighting) (old new : Gathering) (findi
       (few_kept before old new senders gathered) tt gathered number
       (subst (Finds old.wanted next.what) is finds)
 
-  pub left-push : (reason : Reason) → finding ≡ left reason → new.wanted ≡ old.wanted → new.dump ≡ old.dump → new.dumps ≡ old.dumps
+  pub left-push : (reason : Reason) (missed : Option Origin) → finding ≡ left reason missed → new.wanted ≡ old.wanted → new.dump ≡ old.dump → new.dumps ≡ old.dumps
       → new.report ≡ counted_with (counted_at old.report next.came) (Some reason) → new.senders ≡ old.senders → Goes
-  left-push reason is same dump dumps report senders gathered number finds =
-      gathered-push before next old new (left reason) same (dump ∙ dump-stays old.wanted old.dump)
-      (dumps ∙ dumps-stay old.wanted old.dumps next.number (time_of next.came) (left reason) refl) report senders
+  left-push reason missed is same dump dumps report senders gathered number finds =
+      gathered-push before next old new (left reason missed) same (dump ∙ dump-stays old.wanted old.dump)
+      (dumps ∙ dumps-stay old.wanted old.dumps next.number (time_of next.came) (left reason missed) refl) report senders
       (few_kept before old new senders gathered) tt gathered number
       (subst (Finds old.wanted next.what) is finds)
 
@@ -225,18 +226,21 @@ found-needs (Err fault) wanted before here senders packet origin octets has_trai
   subst (λ (w : Wanted). PacketNeedsMemory w senders origin octets has_trailer) same (subst (λ (s : Senders). PacketNeedsMemory wanted s origin octets has_trailer) are (needs memory)),
 )
 
--- whose packet was added to the dump
-pub none-added : (wanted : Wanted) (what : Found) → origin_found what ≡ None → None ≡ origin_noted wanted what
+-- what was noted
+none-added : (wanted : Wanted) (what : Found) → origin_found what ≡ None → None ≡ origin_noted wanted what
 none-added wanteds.Everyone what none = refl
 none-added wanteds.Each what none = refl
 none-added (wanteds.Sender sender place true) what none = sym none
 none-added (wanteds.Sender sender place false) what none = refl
 none-added (wanteds.InTurn sender place) what none = sym none
 
-pub no-origin : (wanted : Wanted) (sight : Sight) (finding what : Found) → finding ≡ what → origin_found what ≡ None → Finds wanted sight finding → AddsOrigin wanted sight None
-no-origin wanted sight finding what is none finds = (what, subst (Finds wanted sight) is finds, none-added wanted what none)
+pub no-origin : (wanted : Wanted) (what : Found) → origin_found what ≡ None → record nothing_noted { missed = missed_in what } ≡ noted_of wanted what
+no-origin wanted what none = ap (λ (o : Option Origin). record { origin = o; missed = missed_in what }) (none-added wanted what none)
 
-pub some-origin : {E : Type 0} (r : Result (Option Origin) E) (wanted : Wanted) (sight : Sight) (finding what : Found) (added : Option Origin) → finding ≡ what → Finds wanted sight finding
-    → added ≡ origin_noted wanted what → IfOk r (λ origin. origin ≡ added) → IfOk r (λ origin. AddsOrigin wanted sight origin)
-some-origin (Ok origin) wanted sight finding what added is finds whose told = (what, subst (Finds wanted sight) is finds, told ∙ whose)
-some-origin (Err fault) wanted sight finding what added is finds whose told = tt
+pub noted-one : (wanted : Wanted) (sight : Sight) (finding what : Found) (noted : Noted) → finding ≡ what → Finds wanted sight finding → noted ≡ noted_of wanted what → IsNotedOf wanted sight noted
+noted-one wanted sight finding what noted is finds noted_so = (what, subst (Finds wanted sight) is finds, noted_so)
+
+pub noted-ok : {E : Type 0} (r : Result Noted E) (wanted : Wanted) (sight : Sight) (finding what : Found) (noted : Noted) → finding ≡ what → Finds wanted sight finding
+    → noted ≡ noted_of wanted what → IfOk r (λ told. told ≡ noted) → IfOk r (λ told. IsNotedOf wanted sight told)
+noted-ok (Ok told) wanted sight finding what noted is finds so same = noted-one wanted sight finding what told is finds (same ∙ so)
+noted-ok (Err fault) wanted sight finding what noted is finds so same = tt

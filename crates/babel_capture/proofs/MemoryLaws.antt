@@ -25,7 +25,7 @@ use Rattle.babel_capture.specs.Lengths.{block_len, first_len, layout_len, len_wi
 use Rattle.babel_capture.specs.Gathering.{IsRefused}
 use Rattle.babel_capture.specs.Link.{link_of}
 use Rattle.babel_capture.specs.Numbers.{number_at}
-use Rattle.babel_capture.specs.Reading.{StopsAt}
+use Rattle.babel_capture.specs.Reading.{HeaderFails, StopsAt}
 use Rattle.babel_capture.specs.Tallies.{Senders, senders_of}
 use Rattle.babel_capture.specs.declared.wanted.Wanted.{Wanted}
 use Rattle.babel_capture.specs.Window.{Extent}
@@ -133,10 +133,10 @@ first_other at header None is =
     let section = totals at header (section_order at header) (order_other at header) in
     grind (arith, section)
 
-layout_other : (layout : Layout) (at : ℕ) (header : List ℕ) → layout_len layout at header ≢ Err faults.Memory
-layout_other layouts.Start at header is = first_other at header (pcap_order header) is
-layout_other (layouts.Pcap order) at header is = grind arith
-layout_other (layouts.Section order) at header is =
+layout_other : (to_cut : Bool) (layout : Layout) (at : ℕ) (header : List ℕ) → layout_len to_cut layout at header ≢ Err faults.Memory
+layout_other to_cut layouts.Start at header is = first_other at header (pcap_order header) is
+layout_other to_cut (layouts.Pcap order) at header is = grind arith
+layout_other to_cut (layouts.Section order) at header is =
     let section = totals at header (section_order at header) (order_other at header) in
     grind (arith, section)
 
@@ -144,9 +144,10 @@ within : (limit at : ℕ) (len : Result ℕ Fault) → len ≢ Err faults.Memory
 within limit at (Err fault) not is = not is
 within limit at (Ok len) not is = grind arith
 
-pub header-other : (before : Before) (at : ℕ) (octets : List ℕ) (fault : Fault) → HasHeader before octets × (block_len before at (header_of before octets) ≡ Err fault) → fault ≢ faults.Memory
-header-other before at octets fault (whole, is) memory =
-    within before.limit at (layout_len before.layout at (header_of before octets)) (layout_other before.layout at (header_of before octets))
+pub header-other : (before : Before) (at : ℕ) (octets : List ℕ) (fault : Fault) → HeaderFails before at octets fault → fault ≢ faults.Memory
+header-other before at octets fault (inr (end, past, told)) memory = (let both : faults.TooLong at ≡ faults.Memory = sym told ∙ memory in cc)
+header-other before at octets fault (inl (whole, is)) memory =
+    within before.limit at (layout_len before.to_cut before.layout at (header_of before octets)) (layout_other before.to_cut before.layout at (header_of before octets))
     (subst (λ (f : Fault). block_len before at (header_of before octets) ≡ Err f) memory is)
 
 -- ---- the fault of a capture

@@ -134,6 +134,11 @@ abbrev pub content_or_none : Result Content Fault → Content
 content_or_none (Ok content) = content
 content_or_none (Err fault) = nothing
 
+pub some_header : (layout : Layout) → 0 < header_len layout
+some_header layouts.Start = omega arith
+some_header (layouts.Pcap order) = omega arith
+some_header (layouts.Section order) = omega arith
+
 module _ (before : Before) (at : ℕ) where
   -- the octets of a block are known from its front, and so is what stands behind it
   pub block_one : (block another rest behind : List ℕ) → IsBlock before at block → IsBlock before at another → block ++ rest ≡ another ++ behind → (block ≡ another) × (rest ≡ behind)
@@ -150,11 +155,15 @@ module _ (before : Before) (at : ℕ) where
   -- less than a block begins with none
   pub partial_none : (block rest : List ℕ) → IsBlock before at block → IsPartial before at (block ++ rest) → ⊥
   partial_none block rest is (inl short) = omega (arith, short, is.header, length-append block rest)
-  partial_none block rest is (inr (header, less)) =
+  partial_none block rest is (inr (inl (header, less))) =
       let front : header_of before (block ++ rest) ≡ header_of before block = take-append-le (header_len before.layout) block rest is.header in
       let below : length (block ++ rest) < length block =
       subst (λ (r : Result ℕ Fault). IsOkAnd r (λ len. length (block ++ rest) < len)) (ap (block_len before at) front ∙ is.len) less in
       omega (arith, below, length-append block rest)
+  partial_none block rest is (inr (inr ((header, ends), few))) =
+      let front : header_of before (block ++ rest) ≡ header_of before block = take-append-le (header_len before.layout) block rest is.header in
+      let none : length block ≡ 0 = ap len_or_none (sym is.len ∙ ap (block_len before at) (sym front) ∙ ends) in
+      omega (arith, none, is.header, some_header before.layout)
 
 pub one_block : (one another : BlockAt) → one.at ≡ another.at → one.octets ≡ another.octets → one.content ≡ another.content → one ≡ another
 one_block one another at octets content =
@@ -190,11 +199,6 @@ blocks_one before at (one ∷ blocks) (another ∷ others) rest behind (here, is
     (ap (λ (b : BlockAt). b ∷ blocks) block ∙ ap (λ (bs : List BlockAt). another ∷ bs) on.0, on.1)
 
 -- ---- captures
-
-pub some_header : (layout : Layout) → 0 < header_len layout
-some_header layouts.Start = omega arith
-some_header (layouts.Pcap order) = omega arith
-some_header (layouts.Section order) = omega arith
 
 one_gathering : (one another : Gathering) → one.wanted ≡ another.wanted → one.names ≡ another.names → one.dump ≡ another.dump → one.dumps ≡ another.dumps → one.report ≡ another.report
     → one.senders ≡ another.senders → one ≡ another

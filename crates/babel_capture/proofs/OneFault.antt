@@ -18,11 +18,11 @@ use Rattle.babel_capture.specs.Lack.{lack_fault}
 use Rattle.babel_capture.specs.Gathering.{AreMade, AreTaken, IsRefused, IsTaken}
 use Rattle.babel_capture.specs.Lengths.{block_len, header_len}
 use Rattle.babel_capture.specs.OneFault.{CutIsTheFault, FaultIsOne, ReadHasNoFault}
-use Rattle.babel_capture.specs.Reading.{BlockFails, Stops, StopsAt}
+use Rattle.babel_capture.specs.Reading.{BlockFails, HeaderFails, Stops, StopsAt}
 use Rattle.babel_capture.specs.Tallies.{Senders, origin_cmp, senders_with, tallied}
 use Rattle.babel_capture.specs.Times.{time_of}
 use Rattle.babel_capture.proofs.Entries.{insert-longer, insert-new}
-use Rattle.babel_capture.proofs.OneCapture.{block_one, blocks_one, content_or_none, finds_one, made_one, one_block, partial_none, uncut}
+use Rattle.babel_capture.proofs.OneCapture.{block_one, blocks_one, content_or_none, finds_one, len_or_none, made_one, one_block, partial_none, some_header, uncut}
 use Rattle.babel_capture.specs.Window.{Extent}
 
 -- ---- senders
@@ -34,7 +34,7 @@ more senders made = fold (λ (s : Senders) (one : Made). senders_with s (time_of
 with-longer : (senders : Senders) (time : Option ℕ) (what : Found) → length senders ≤ length (senders_with senders time what)
 with-longer senders time passed = omega arith
 with-longer senders time untold = omega arith
-with-longer senders time (left reason) = omega arith
+with-longer senders time (left reason missed) = omega arith
 with-longer senders time (refused lack) = omega arith
 with-longer senders time (lacked place sender lack) = omega arith
 with-longer senders time (found place sender packet has_trailer) = insert-longer origin_cmp (record { place = place; sender = sender }) _ senders
@@ -137,7 +137,10 @@ module _ (wanted : Wanted) (senders : Senders) (before : Before) (at : ℕ) wher
           (ap (λ (t : List ℕ). t ++ drop (length other) octets) begins.front ∙ take-append-drop (length other) octets ∙ whole)).0
 
       by : StopsAt wanted senders before at octets fault → ⊥
-      by (inl (header, refuses)) = (let both : Err fault ≡ Ok (length block.octets) = sym refuses ∙ ap (block_len before at) front ∙ is_block.len in absurd cc)
+      by (inl (inr (end, past, told))) =
+          (let both : Ok (length block.octets) ≡ Ok 0 = sym is_block.len ∙ ap (block_len before at) (sym front) ∙ end.1 in
+          let none : length block.octets ≡ 0 = ap len_or_none both in omega (arith, none, is_block.header, some_header before.layout))
+      by (inl (inl (header, refuses))) = (let both : Err fault ≡ Ok (length block.octets) = sym refuses ∙ ap (block_len before at) front ∙ is_block.len in absurd cc)
       by (inr (other, begins, inl failed)) =
           (let both : Err fault ≡ Ok block.content = sym failed ∙ ap (block_said before at) (same_block other begins) ∙ are.are_blocks.2 in absurd cc)
       by (inr (other, begins, inr (content, said, refuses))) =
@@ -172,8 +175,15 @@ module _ (wanted : Wanted) (senders : Senders) (before : Before) (at : ℕ) wher
       let same : again ≡ content = ap content_or_none (sym said_too ∙ said) in
       refused_one content one other refuses (subst (λ (c : Content). IsRefused wanted senders at c other) same refused_too)
 
-  header_begins : (octets block : List ℕ) (fault : Fault) → BeginsBlock before at octets block → block_len before at (header_of before octets) ≡ Err fault → ⊥
-  header_begins octets block fault begins refuses =
+  header_begins : (octets block : List ℕ) (fault : Fault) → BeginsBlock before at octets block → HeaderFails before at octets fault → ⊥
+  header_begins octets block fault begins (inr (end, past, told)) =
+      let rest = drop (length block) octets in
+      let whole : block ++ rest ≡ octets = ap (λ (t : List ℕ). t ++ rest) begins.front ∙ take-append-drop (length block) octets in
+      let front : header_of before octets ≡ header_of before block =
+      ap (header_of before) (sym whole) ∙ take-append-le (header_len before.layout) block rest begins.is_block.header in
+      let none : length block ≡ 0 = ap len_or_none (sym begins.is_block.len ∙ ap (block_len before at) (sym front) ∙ end.1) in
+      omega (arith, none, begins.is_block.header, some_header before.layout)
+  header_begins octets block fault begins (inl (header, refuses)) =
       let rest = drop (length block) octets in
       let whole : block ++ rest ≡ octets = ap (λ (t : List ℕ). t ++ rest) begins.front ∙ take-append-drop (length block) octets in
       let front : header_of before octets ≡ header_of before block =
@@ -187,18 +197,29 @@ module _ (wanted : Wanted) (senders : Senders) (before : Before) (at : ℕ) wher
       (ap (λ (t : List ℕ). t ++ drop (length other) octets) begins_too.front ∙ take-append-drop (length other) octets
       ∙ sym (ap (λ (t : List ℕ). t ++ drop (length block) octets) begins.front ∙ take-append-drop (length block) octets))).0
 
+  header_one : (octets : List ℕ) (one other : Fault) → HeaderFails before at octets one → HeaderFails before at octets other → one ≡ other
+  header_one octets one other (inl (header, refuses)) (inl (header_too, refused_too)) = (let both : Err one ≡ Err other = sym refuses ∙ refused_too in cc)
+  header_one octets one other (inl (header, refuses)) (inr (end, past, told)) = (let both : Err one ≡ Ok 0 = sym refuses ∙ end.1 in absurd cc)
+  header_one octets one other (inr (end, past, told)) (inl (header, refuses)) = (let both : Err other ≡ Ok 0 = sym refuses ∙ end.1 in absurd cc)
+  header_one octets one other (inr (end, past, told)) (inr (end_too, past_too, told_too)) = told ∙ sym told_too
+
   stop_one : (octets : List ℕ) (one other : Fault) → StopsAt wanted senders before at octets one → StopsAt wanted senders before at octets other → one ≡ other
-  stop_one octets one other (inl (header, refuses)) (inl (header_too, refused_too)) = (let both : Err one ≡ Err other = sym refuses ∙ refused_too in cc)
-  stop_one octets one other (inl (header, refuses)) (inr (block, begins, fails)) = absurd (header_begins octets block one begins refuses)
-  stop_one octets one other (inr (block, begins, fails)) (inl (header, refuses)) = absurd (header_begins octets block other begins refuses)
+  stop_one octets one other (inl fails) (inl fails_too) = header_one octets one other fails fails_too
+  stop_one octets one other (inl header) (inr (block, begins, fails)) = absurd (header_begins octets block one begins header)
+  stop_one octets one other (inr (block, begins, fails)) (inl header) = absurd (header_begins octets block other begins header)
   stop_one octets one other (inr (block, begins, fails)) (inr (again, begins_too, fails_too)) =
       fails_one block one other fails (subst (λ (t : List ℕ). BlockFails wanted senders before at t other) (begin_one octets block again begins begins_too) fails_too)
 
   -- octets that stop are not less than a block
   stop_partial : (octets : List ℕ) (fault : Fault) → StopsAt wanted senders before at octets fault → IsPartial before at octets → ⊥
-  stop_partial octets fault (inl (header, refuses)) (inl short) = omega (arith, header, short)
-  stop_partial octets fault (inl (header, refuses)) (inr (header_too, less)) =
+  stop_partial octets fault (inl (inr (end, past, told))) (inl short) = omega (arith, end.0, short)
+  stop_partial octets fault (inl (inr (end, past, told))) (inr (inl (header, less))) =
+      (let below : length octets < 0 = subst (λ (r : Result ℕ Fault). IsOkAnd r (λ len. length octets < len)) end.1 less in omega (arith, below))
+  stop_partial octets fault (inl (inr (end, past, told))) (inr (inr (end_too, few))) = omega (arith, past, few)
+  stop_partial octets fault (inl (inl (header, refuses))) (inl short) = omega (arith, header, short)
+  stop_partial octets fault (inl (inl (header, refuses))) (inr (inl (header_too, less))) =
       subst (λ (r : Result ℕ Fault). IsOkAnd r (λ len. length octets < len)) refuses less
+  stop_partial octets fault (inl (inl (header, refuses))) (inr (inr ((header_too, ends), few))) = (let both : Err fault ≡ Ok 0 = sym refuses ∙ ends in cc)
   stop_partial octets fault (inr (block, begins, fails)) partial =
       let rest = drop (length block) octets in
       let whole : octets ≡ block ++ rest = sym (ap (λ (t : List ℕ). t ++ rest) begins.front ∙ take-append-drop (length block) octets) in

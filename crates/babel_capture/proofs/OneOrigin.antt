@@ -25,7 +25,7 @@ use Rattle.babel_capture.proofs.TallyLaws.{origin_total}
 abbrev place_of : Place → Found → Place
 place_of p passed = p
 place_of p untold = p
-place_of p (left reason) = p
+place_of p (left reason missed) = p
 place_of p (refused lack) = p
 place_of p (lacked place sender lack) = p
 place_of p (found place sender packet has_trailer) = place
@@ -33,7 +33,7 @@ place_of p (found place sender packet has_trailer) = place
 abbrev sender_of : Address → Found → Address
 sender_of a passed = a
 sender_of a untold = a
-sender_of a (left reason) = a
+sender_of a (left reason missed) = a
 sender_of a (refused lack) = a
 sender_of a (lacked place sender lack) = a
 sender_of a (found place sender packet has_trailer) = sender
@@ -86,7 +86,7 @@ module _ (wanted : Address) (at : Place) (ends : Bool) where
       → IsOneAtMost senders → IsOneAtMost (senders_with senders time what)
   with_at_most sight senders time passed finds most = most
   with_at_most sight senders time untold finds most = most
-  with_at_most sight senders time (left reason) finds most = most
+  with_at_most sight senders time (left reason missed) finds most = most
   with_at_most sight senders time (refused lack) finds most = most
   with_at_most sight senders time (lacked place sender lack) finds most = most
   with_at_most sight senders time (found place sender packet has_trailer) finds most =

@@ -110,7 +110,7 @@ abbrev interface_in : PcapFile → Interface
 interface_in pcap = record { link = pcap.link_number; snap_len = pcap.snap_len; clock = pcap_clock pcap.magic }
 
 abbrev behind : PcapFile → ℕ → Before
-behind pcap limit = record { limit = limit; layout = layouts.Pcap pcap.order; first = 0; interfaces = interface_in pcap ∷ []; window = windows.Whole; start = None }
+behind pcap limit = record { limit = limit; layout = layouts.Pcap pcap.order; first = 0; interfaces = interface_in pcap ∷ []; window = windows.Whole; start = None; to_cut = false }
 
 abbrev captured_in : PcapFile → Link → PcapRecord → Captured
 captured_in pcap link packet = record { interface = 0; section = 0; link = link; moment = Some (record_moment pcap.magic packet); frame = packet.frame; whole_len = packet.whole_len }

@@ -64,7 +64,7 @@ front_12 orders.Little kind body = refl
 
 -- within a section, where these interfaces were described, its own from this one on
 abbrev inside : Order → ℕ → ℕ → List Interface → Before
-inside order limit first interfaces = record { limit = limit; layout = layouts.Section order; first = first; interfaces = interfaces; window = windows.Whole; start = None }
+inside order limit first interfaces = record { limit = limit; layout = layouts.Section order; first = first; interfaces = interfaces; window = windows.Whole; start = None; to_cut = false }
 
 module _ (order : Order) (limit at first : ℕ) (interfaces : List Interface) (kind : ℕ) (body : List ℕ) (kind_fits : kind < 2 ^ 32) (none : kind ≢ 0x0a0d0d0a) (is : Fits body) where
   block_is : at + (12 + length body) ≤ limit → IsBlock (inside order limit first interfaces) at (block_octets order kind body)

@@ -6,7 +6,7 @@ use Rattle.std.proofs.Math.Seq.{take-add}
 use Rattle.std.proofs.lemmas.List.Concat.{flat_map-append}
 use Rattle.babel_capture.specs.declared.fault.Fault.{Fault}
 use Rattle.babel_capture.specs.declared.packet_end.PacketEnd.{PacketEnd}
-use Rattle.babel_capture.specs.declared.tallies.Origin.{Origin}
+use Rattle.babel_capture.specs.declared.noted.Noted.{Noted}
 use Rattle.babel_capture.specs.declared.wanted.Wanted.{Wanted}
 use Rattle.babel_capture.specs.Blocks.{names_of, BlockAt, BeginsBlock, HasHeader, header_of, IsBlock, AreBlocks, Sighting, start, context_behind, octets_of, sightings_in, sightings_behind}
 use Rattle.babel_capture.specs.Blocks.{sightings_of}
@@ -14,9 +14,9 @@ use Rattle.babel_capture.specs.Contents.{Content, block_said, context_after, nam
 use Rattle.babel_capture.specs.Context.{Before}
 use Rattle.babel_capture.specs.Counts.{Made, Counts}
 use Rattle.babel_capture.specs.Findings.{is_in_turn}
-use Rattle.babel_capture.specs.Gathering.{AreMade, AreTaken, BlockNeedsMemory, Gathering, IsGathered, OriginIs, with_taken}
+use Rattle.babel_capture.specs.Gathering.{AreMade, AreTaken, BlockNeedsMemory, Gathering, IsGathered, NotedIs, with_taken}
 use Rattle.babel_capture.specs.Lengths.{block_len}
-use Rattle.babel_capture.specs.Reading.{Account, EachHasEnd, Progress, LeadTo, BlockFails, NeedsMemory, NeedsMemoryAt, StopsAt, Stops}
+use Rattle.babel_capture.specs.Reading.{Account, EachHasEnd, Progress, LeadTo, BlockFails, HeaderFails, NeedsMemory, NeedsMemoryAt, StopsAt, Stops}
 use Rattle.babel_capture.specs.Tallies.{Senders, senders_of}
 use Rattle.babel_capture.specs.PacketEnds.{AreEnds, is_packet, time_told}
 use Rattle.babel_capture.proofs.EndLaws.{ends-after, ends-gone, noted, noted-each}
@@ -84,17 +84,17 @@ lead-none limit progress context place gathered names dump ends = record {
   names = names;
 }
 
-pub lead-push : (account : Account) (read block : List ℕ) (old new : Progress) (content : Content) (origin : Option Origin) → IsBlock old.context old.at block
+pub lead-push : (account : Account) (read block : List ℕ) (old new : Progress) (content : Content) (note : Noted) → IsBlock old.context old.at block
     → block_said old.context old.at block ≡ Ok content
     → new.context ≡ context_after old.context content → new.at ≡ old.at + length block
     → ((taken : List ℕ) (before : List Sighting) → IsGathered before (with_taken taken old.gathering)
     → IsGathered (before ++ sightings_in (old.gathering.report.packets + 1) old.at content) (with_taken taken new.gathering))
     → new.gathering.names ≡ old.gathering.names ++ names_in content → new.gathering.wanted ≡ old.gathering.wanted
-    → OriginIs new.gathering.wanted content origin
+    → NotedIs new.gathering.wanted content note
     → new.ends ≡ noted (is_packet content && is_in_turn new.gathering.wanted)
-    (record { end = length new.gathering.dump; number = new.gathering.report.packets; time = time_told content; origin = origin }) old.ends
+    (record { end = length new.gathering.dump; number = new.gathering.report.packets; time = time_told content; origin = note.origin; missed = note.missed }) old.ends
     → LeadTo account read old → LeadTo account (read ++ block) new
-lead-push account read block old new content origin is_block said context place gathers names wanted added ends lead =
+lead-push account read block old new content note is_block said context place gathers names wanted added ends lead =
     let b : BlockAt = record { at = old.at; octets = block; content = content } in
     let count : old.gathering.report.packets ≡ length (sightings_of lead.blocks) = packets-are (sightings_of lead.blocks) (with_taken account.taken old.gathering) lead.gathered in
     let number : old.gathering.report.packets + 1 ≡ 0 + length (sightings_of lead.blocks) + 1 = omega (arith, count) in
@@ -119,7 +119,7 @@ lead-push account read block old new content origin is_block said context place 
         senders = gathered.senders;
       };
       ends = subst (AreEnds new.gathering.wanted account.taken gathered.made) (sym ends)
-          (ends-after new.gathering.wanted account.taken new.gathering.dump (old.gathering.report.packets + 1) new.gathering.report.packets old.at content origin
+          (ends-after new.gathering.wanted account.taken new.gathering.dump (old.gathering.report.packets + 1) new.gathering.report.packets old.at content note
           (sightings_of lead.blocks) lead.gathered.made gathered.made old.ends (omega (arith, count)) (packets-are sightings (with_taken account.taken new.gathering) gathered)
           (subst (λ (w : Wanted). AreMade w (sightings_of lead.blocks) lead.gathered.made) (sym wanted) lead.gathered.taken.are_made) gathered.taken.are_made
           added gathered.dump
@@ -133,7 +133,7 @@ turns-on a b c wanted one two in_turn =
     omega (arith, one in_turn, two (subst (λ (w : Wanted). IsTrue (is_in_turn w)) (sym wanted) in_turn))
 
 pub turns-push : (old new : Progress) (content : Content) (end : PacketEnd) → new.ends ≡ noted (is_packet content && is_in_turn old.gathering.wanted) end old.ends
-    → OriginIs old.gathering.wanted content end.origin → new.gathering.report.packets ≡ old.gathering.report.packets + (if is_packet content then 1 else 0) → EachHasEnd old new
+    → NotedIs old.gathering.wanted content (record { origin = end.origin; missed = end.missed }) → new.gathering.report.packets ≡ old.gathering.report.packets + (if is_packet content then 1 else 0) → EachHasEnd old new
 turns-push old new content end ends is counted in_turn =
     omega (arith, counted, ap length ends, noted-each old.gathering.wanted content end old.ends is in_turn)
 
@@ -198,7 +198,7 @@ lead-more account read before at used octets block new begins lead =
     subst (λ (t : List ℕ). LeadTo account t new) (append_assoc read (take used octets) block ∙ ap (λ (t : List ℕ). read ++ t) (taken-more before at used octets block begins)) lead
 
 pub header-stops : (account : Account) (wanted : Wanted) (read octets : List ℕ) (used : ℕ) (now : Progress) (fault : Fault) → now.gathering.wanted ≡ wanted
-    → HasHeader now.context (rest_of used octets) × (block_len now.context now.at (header_of now.context (rest_of used octets)) ≡ Err fault)
+    → HeaderFails now.context now.at (rest_of used octets) fault
     → LeadTo account (read ++ take used octets) now → Stops account.limit wanted (read ++ octets) fault
 header-stops account wanted read octets used now fault same header lead =
     stops-behind account wanted read octets used now same lead fault

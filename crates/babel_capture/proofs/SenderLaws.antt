@@ -146,7 +146,7 @@ with_one : (before : List Made) (senders : Senders) (one : Made) (what : Found) 
     → AreSenders (before ++ one ∷ []) (senders_with senders (time_of one.came) what)
 with_one before senders one passed is are = unchanged before senders one (λ origin. ap (here origin (time_of one.came)) is) are
 with_one before senders one untold is are = unchanged before senders one (λ origin. ap (here origin (time_of one.came)) is) are
-with_one before senders one (left reason) is are = unchanged before senders one (λ origin. ap (here origin (time_of one.came)) is) are
+with_one before senders one (left reason missed) is are = unchanged before senders one (λ origin. ap (here origin (time_of one.came)) is) are
 with_one before senders one (refused lack) is are = unchanged before senders one (λ origin. ap (here origin (time_of one.came)) is) are
 with_one before senders one (lacked place sender lack) is are = unchanged before senders one (λ origin. ap (here origin (time_of one.came)) is) are
 with_one before senders one (found place sender packet has_trailer) is are =

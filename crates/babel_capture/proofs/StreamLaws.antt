@@ -1,29 +1,111 @@
 -- Octets in pieces.
-use Rattle.std.proofs.Common.{◌≡◌, ◌≢◌, ℕ, List, [], ◌++◌, length, take, drop, refl, sym, ap, subst, ◌∙◌, append_assoc, inl, inr, arith}
+use Rattle.std.proofs.Common.{◌≡◌, ◌≢◌, ◌≤◌, ◌<◌, ◌+◌, ◌-◌, ℕ, List, [], ◌++◌, length, take, drop, refl, sym, ap, subst, ◌∙◌, append_assoc, inl, inr, arith}
 use Rattle.std.specs.Prelude.{Ok, Err, Result, IfErr, OnOk, Option, Some, None, ◌⊎◌}
 use Rattle.std.proofs.lemmas.List.{append-nil, take-append-drop, take-append-le, length-append}
 use Rattle.babel_capture.specs.declared.fault.Fault.{Fault}
 use Rattle.babel_capture.specs.declared.fault.Fault.TheVariants as faults
 use Rattle.babel_capture.specs.declared.wanted.Wanted.{Wanted}
-use Rattle.babel_capture.specs.Blocks.{IsPartial, header_of, octets_of, start, context_behind}
+use Rattle.babel_capture.specs.Blocks.{IsEnd, IsPartial, header_of, octets_of, start, context_behind}
 use Rattle.babel_capture.specs.Capture.{CaptureFault, account_of, HasFailed, HasGiven, HasGivenTo, HasRead, IsRead, IsReadToCut, IsShortBy, State}
 use Rattle.babel_capture.specs.Context.{Before}
 use Rattle.babel_capture.specs.Gathering.{with_taken}
 use Rattle.babel_capture.specs.Lengths.{header_len, block_len}
-use Rattle.babel_capture.specs.Reading.{Account, Progress, LeadTo, HasStarted, HasTaken, NeedsMemory, Stops, StopsAt, without_dump}
+use Rattle.babel_capture.specs.Reading.{Account, Progress, LeadTo, HasStarted, HasTaken, IsPending, NeedsMemory, Stops, StopsAt, without_dump}
 use Rattle.babel_capture.specs.Tallies.{Senders, senders_of}
 use Rattle.babel_capture.proofs.EndLaws.{ends-gone}
+use Rattle.babel_capture.proofs.OneCapture.{some_header}
 use Rattle.babel_capture.specs.Window.{Extent}
 
-pub taken-next : (account : Account) (fed piece pending all left : List ℕ) (used : ℕ) (old new : Progress) → all ≡ pending ++ piece → left ≡ drop used all
+-- ---- what is pending
+
+not-end : (before : Before) (at : ℕ) → ¬ IsEnd before at []
+not-end before at (header, ends) = omega (arith, header, some_header before.layout)
+
+end-longer : (before : Before) (at : ℕ) (rest more : List ℕ) → IsEnd before at rest → IsEnd before at (rest ++ more)
+end-longer before at rest more (header, ends) =
+    (omega (arith, header, length-append rest more), ap (block_len before at) (take-append-le (header_len before.layout) rest more header) ∙ ends)
+
+-- but at the end it is all that is left
+kept-all : (progress : Progress) (rest pending : List ℕ) → IsPending progress rest pending → ¬ IsEnd progress.context progress.at pending → pending ≡ rest
+kept-all progress rest pending (inl same, size) not = same
+kept-all progress rest pending (inr (end, told), size) not = absurd (not told)
+
+kept-end : (progress : Progress) (rest pending : List ℕ) → IsPending progress rest pending → IsEnd progress.context progress.at pending → IsEnd progress.context progress.at rest
+kept-end progress rest pending (inl same, size) told = subst (IsEnd progress.context progress.at) same told
+kept-end progress rest pending (inr (end, told), size) too = end
+
+-- none of it is nothing
+none-left : (progress : Progress) (rest pending : List ℕ) → IsPending progress rest pending → pending ≡ [] → rest ≡ []
+none-left progress rest pending (inl same, size) none = sym same ∙ none
+none-left progress rest pending (inr (end, told), size) none = absurd (not-end progress.context progress.at (subst (IsEnd progress.context progress.at) none told))
+
+none-kept : (progress : Progress) (rest pending : List ℕ) → IsPending progress rest pending → rest ≡ [] → pending ≡ []
+none-kept progress rest pending (inl same, size) none = same ∙ none
+none-kept progress rest pending (inr (end, told), size) none = absurd (not-end progress.context progress.at (subst (IsEnd progress.context progress.at) none end))
+
+fed-is : (account : Account) (progress : Progress) (pending fed : List ℕ) → ¬ IsEnd progress.context progress.at pending → (taken : HasTaken account progress pending fed) → fed ≡ taken.read ++ pending
+fed-is account progress pending fed not taken = taken.whole ∙ ap (λ (t : List ℕ). taken.read ++ t) (sym (kept-all progress taken.rest pending taken.kept not))
+
+pub none-ends : (progress : Progress) (pending : List ℕ) → pending ≡ [] → ¬ IsEnd progress.context progress.at pending
+none-ends progress pending none end = not-end progress.context progress.at (subst (IsEnd progress.context progress.at) none end)
+
+-- what comes after the end is passed over, and counted
+module _ (account : Account) (old : Progress) (pending fed piece : List ℕ) (told : IsEnd old.context old.at pending) (taken : HasTaken account old pending fed) where
+  end-now : IsEnd old.context old.at (taken.rest ++ piece)
+  end-now = end-longer old.context old.at taken.rest piece (kept-end old taken.rest pending taken.kept told)
+
+  whole-now : fed ++ piece ≡ taken.read ++ (taken.rest ++ piece)
+  whole-now = ap (λ (t : List ℕ). t ++ piece) taken.whole ∙ append_assoc taken.read taken.rest piece
+
+  size-now : length (taken.rest ++ piece) ≡ length pending + (old.passed + length piece)
+  size-now = omega (arith, taken.kept.1, length-append taken.rest piece)
+
+  end-more : (new : Progress) → new ≡ record old { passed = old.passed + length piece } → length pending + (old.passed + length piece) ≤ old.context.limit - old.at
+      → HasTaken account new pending (fed ++ piece)
+  end-more new is few = subst (λ (p : Progress). HasTaken account p pending (fed ++ piece)) (sym is) (record {
+    read = taken.read;
+    rest = taken.rest ++ piece;
+    whole = whole-now;
+    leads = record {
+      blocks = taken.leads.blocks;
+      whole = taken.leads.whole;
+      are_blocks = taken.leads.are_blocks;
+      place = taken.leads.place;
+      context = taken.leads.context;
+      gathered = taken.leads.gathered;
+      ends = taken.leads.ends;
+      names = taken.leads.names;
+    };
+    partial = inr (inr (end-now, omega (arith, few, size-now)));
+    kept = (inr (end-now, told), size-now);
+  })
+
+  end-stops : (fault : Fault) → fault ≡ faults.TooLong old.at → old.context.limit - old.at < length pending + (old.passed + length piece)
+      → Stops account.limit old.gathering.wanted (fed ++ piece) fault
+  end-stops fault told_so past = record {
+    blocks = taken.leads.blocks;
+    rest = taken.rest ++ piece;
+    made = taken.leads.gathered.made;
+    whole = whole-now ∙ ap (λ (t : List ℕ). t ++ (taken.rest ++ piece)) taken.leads.whole;
+    are_blocks = taken.leads.are_blocks;
+    taken = taken.leads.gathered.taken;
+    stops = inl (inr (subst (λ (c : Before). IsEnd c (length (octets_of taken.leads.blocks)) (taken.rest ++ piece)
+        × (c.limit - length (octets_of taken.leads.blocks) < length (taken.rest ++ piece)) × (fault ≡ faults.TooLong (length (octets_of taken.leads.blocks)))) taken.leads.context
+        (subst (λ (n : ℕ). IsEnd old.context n (taken.rest ++ piece) × (old.context.limit - n < length (taken.rest ++ piece)) × (fault ≡ faults.TooLong n))
+        (taken.leads.place ∙ ap length taken.leads.whole) (end-now, omega (arith, past, size-now), told_so))));
+  }
+
+pub taken-next : (account : Account) (fed piece pending all left : List ℕ) (used : ℕ) (old new : Progress) → ¬ IsEnd old.context old.at pending → new.passed ≡ old.passed → all ≡ pending ++ piece → left ≡ drop used all
     → ((account : Account) (read : List ℕ) → LeadTo account read old → LeadTo account (read ++ take used all) new) → IsPartial new.context new.at (drop used all)
     → HasTaken account old pending fed → HasTaken account new left (fed ++ piece)
-taken-next account fed piece pending all left used old new is_all is_left took partial taken = record {
+taken-next account fed piece pending all left used old new not passed is_all is_left took partial taken = record {
   read = taken.read ++ take used all;
-  whole = ap (λ (t : List ℕ). t ++ piece) taken.whole ∙ append_assoc taken.read pending piece ∙ ap (λ (t : List ℕ). taken.read ++ t) (sym is_all ∙ sym (take-append-drop used all))
+  rest = left;
+  whole = ap (λ (t : List ℕ). t ++ piece) (fed-is account old pending fed not taken) ∙ append_assoc taken.read pending piece ∙ ap (λ (t : List ℕ). taken.read ++ t) (sym is_all ∙ sym (take-append-drop used all))
       ∙ sym (append_assoc taken.read (take used all) (drop used all)) ∙ ap (λ (t : List ℕ). (taken.read ++ take used all) ++ t) (sym is_left);
   leads = took account taken.read taken.leads;
   partial = subst (λ (t : List ℕ). IsPartial new.context new.at t) (sym is_left) partial;
+  kept = (inl refl, (let same : pending ≡ taken.rest = kept-all old taken.rest pending taken.kept not in omega (arith, passed, taken.kept.1, ap length same)));
 }
 
 -- ---- memory
@@ -32,7 +114,7 @@ taken-next account fed piece pending all left used old new is_all is_left took p
 pub needs-here : (old : Progress) (pending piece : List ℕ) → pending ≡ [] → ((account : Account) (read : List ℕ) → LeadTo account read old → NeedsMemory account.limit old.gathering.wanted read piece)
     → (account : Account) (fed : List ℕ) → HasTaken account old pending fed → NeedsMemory account.limit old.gathering.wanted fed piece
 needs-here old pending piece none needs account fed taken =
-    subst (λ (t : List ℕ). NeedsMemory account.limit old.gathering.wanted t piece) (sym (taken.whole ∙ ap (λ (t : List ℕ). taken.read ++ t) none ∙ append-nil taken.read))
+    subst (λ (t : List ℕ). NeedsMemory account.limit old.gathering.wanted t piece) (sym (fed-is account old pending fed (none-ends old pending none) taken ∙ ap (λ (t : List ℕ). taken.read ++ t) none ∙ append-nil taken.read))
     (needs account taken.read taken.leads)
 
 pub needs-fed : (state : State) (fault : Fault) (piece : List ℕ) → state.fault ≡ None
@@ -50,12 +132,13 @@ needs-fed state fault piece is needs memory = by (needs memory)
 
 module _ (wanted : Wanted) (senders : Senders) (before : Before) (at : ℕ) (rest more : List ℕ) (fault : Fault) where
   stops-more-at : StopsAt wanted senders before at rest fault → StopsAt wanted senders before at (rest ++ more) fault
-  stops-more-at (inl (header, refused)) =
+  stops-more-at (inl (inr (end, past, told))) = inl (inr (end-longer before at rest more end, omega (arith, past, length-append rest more), told))
+  stops-more-at (inl (inl (header, refused))) =
       let same : header_of before (rest ++ more) ≡ header_of before rest = take-append-le (header_len before.layout) rest more header in
-      inl (
+      inl (inl (
         omega (arith, header, length-append rest more),
         subst (λ (t : List ℕ). block_len before at t ≡ Err fault) (sym same) refused,
-      )
+      ))
   stops-more-at (inr (block, begins, fails)) =
       inr (
         block,
@@ -86,6 +169,30 @@ Takes old before new after piece = (account : Account) (fed : List ℕ) → HasT
 
 abbrev pub Fails : Progress → List ℕ → List ℕ → Fault → Type 0
 Fails old before piece fault = (fault ≡ faults.Memory) ⊎ ((account : Account) (fed : List ℕ) → HasTaken account old before fed → Stops account.limit old.gathering.wanted (fed ++ piece) fault)
+
+pub fails-here : (old : Progress) (pending piece all : List ℕ) (fault : Fault) → ¬ IsEnd old.context old.at pending → all ≡ pending ++ piece
+    → (fault ≡ faults.Memory) ⊎ ((account : Account) (read : List ℕ) → LeadTo account read old → Stops account.limit old.gathering.wanted (read ++ all) fault)
+    → Fails old pending piece fault
+fails-here old pending piece all fault not is (inl memory) = inl memory
+fails-here old pending piece all fault not is (inr stops) = inr (λ account fed taken.
+    subst (λ (t : List ℕ). Stops account.limit old.gathering.wanted t fault) (sym (ap (λ (t : List ℕ). t ++ piece) (fed-is account old pending fed not taken)
+    ∙ append_assoc taken.read pending piece ∙ ap (λ (t : List ℕ). taken.read ++ t) (sym is)))
+    (stops account taken.read taken.leads))
+
+-- octets after the end are passed over, or go past the limit
+pub passed-over : {A : Type 0} (r : Result A Fault) (old new : Progress) (pending kept piece : List ℕ) → IsEnd old.context old.at pending → kept ≡ pending
+    → OnOk r ((new ≡ record old { passed = old.passed + length piece }) × (length kept + (old.passed + length piece) ≤ old.context.limit - old.at))
+    → OnOk r (Takes old pending new pending piece)
+passed-over (Ok value) old new pending kept piece told same (is, few) =
+    λ account fed taken. end-more account old pending fed piece told taken new is (subst (λ (t : List ℕ). length t + (old.passed + length piece) ≤ old.context.limit - old.at) same few)
+passed-over (Err fault) old new pending kept piece told same is = tt
+
+pub not-passed : {A : Type 0} (r : Result A Fault) (old : Progress) (pending kept piece : List ℕ) → IsEnd old.context old.at pending → kept ≡ pending
+    → IfErr r (λ fault. (fault ≡ faults.TooLong old.at) × (old.context.limit - old.at < length kept + (old.passed + length piece)))
+    → IfErr r (λ fault. Fails old pending piece fault)
+not-passed (Ok value) old pending kept piece told same is = tt
+not-passed (Err fault) old pending kept piece told same (is, past) = inr (λ account fed taken.
+    end-stops account old pending fed piece told taken fault is (subst (λ (t : List ℕ). old.context.limit - old.at < length t + (old.passed + length piece)) same past))
 
 module _ (front back piece : List ℕ) (whole : front ++ back ≡ piece) where
   behind : (fed : List ℕ) → (fed ++ front) ++ back ≡ fed ++ piece
@@ -126,18 +233,18 @@ module _ (account : Account) (progress : Progress) (pending fed : List ℕ) (tak
   context_started : HasStarted progress.context → HasStarted (context_behind (start account.limit) taken.leads.blocks)
   context_started started = subst HasStarted taken.leads.context started
 
-  ends-short : (fault : Fault) → IsShortBy progress.context progress.at pending fault → CaptureFault account.limit progress.gathering.wanted fed fault
+  ends-short : (fault : Fault) → IsShortBy progress.context progress.at taken.rest fault → CaptureFault account.limit progress.gathering.wanted fed fault
   ends-short fault short = inr (record {
     blocks = taken.leads.blocks;
-    rest = pending;
+    rest = taken.rest;
     made = taken.leads.gathered.made;
-    whole = taken.whole ∙ ap (λ (t : List ℕ). t ++ pending) taken.leads.whole;
+    whole = taken.whole ∙ ap (λ (t : List ℕ). t ++ taken.rest) taken.leads.whole;
     are_blocks = taken.leads.are_blocks;
     taken = taken.leads.gathered.taken;
-    partial = subst (λ (n : ℕ). IsPartial (context_behind (start account.limit) taken.leads.blocks) n pending) place_is
-        (subst (λ (c : Before). IsPartial c progress.at pending) taken.leads.context taken.partial);
-    short = subst (λ (n : ℕ). IsShortBy (context_behind (start account.limit) taken.leads.blocks) n pending fault) place_is
-        (subst (λ (c : Before). IsShortBy c progress.at pending fault) taken.leads.context short);
+    partial = subst (λ (n : ℕ). IsPartial (context_behind (start account.limit) taken.leads.blocks) n taken.rest) place_is
+        (subst (λ (c : Before). IsPartial c progress.at taken.rest) taken.leads.context taken.partial);
+    short = subst (λ (n : ℕ). IsShortBy (context_behind (start account.limit) taken.leads.blocks) n taken.rest fault) place_is
+        (subst (λ (c : Before). IsShortBy c progress.at taken.rest fault) taken.leads.context short);
   })
 
   read-before : HasStarted progress.context → IsRead account.limit taken.read (with_taken account.taken progress.gathering)
@@ -156,12 +263,13 @@ not-started account progress pending fed not taken = ends-short account progress
 
 pub cut-short : (account : Account) (progress : Progress) (pending fed : List ℕ) → HasStarted progress.context → pending ≢ [] → HasTaken account progress pending fed
     → CaptureFault account.limit progress.gathering.wanted fed (faults.CutShort progress.at)
-cut-short account progress pending fed started some taken = ends-short account progress pending fed taken (faults.CutShort progress.at) (inr (started, some, refl))
+cut-short account progress pending fed started some taken = ends-short account progress pending fed taken (faults.CutShort progress.at)
+    (inr (started, (λ none. some (none-kept progress taken.rest pending taken.kept none)), refl))
 
 pub all-read : (account : Account) (progress : Progress) (pending fed : List ℕ) → HasStarted progress.context → pending ≡ [] → HasTaken account progress pending fed
     → IsRead account.limit fed (with_taken account.taken progress.gathering)
 all-read account progress pending fed started none taken =
-    subst (λ (t : List ℕ). IsRead account.limit t (with_taken account.taken progress.gathering)) (sym (append-nil taken.read) ∙ ap (λ (t : List ℕ). taken.read ++ t) (sym none) ∙ sym taken.whole)
+    subst (λ (t : List ℕ). IsRead account.limit t (with_taken account.taken progress.gathering)) (sym (append-nil taken.read) ∙ ap (λ (t : List ℕ). taken.read ++ t) (sym (none-left progress taken.rest pending taken.kept none)) ∙ sym taken.whole)
     (read-before account progress pending fed taken started)
 
 pub read-to-cut : (account : Account) (progress : Progress) (pending fed : List ℕ) (cut : Option ℕ) → HasStarted progress.context
@@ -169,7 +277,7 @@ pub read-to-cut : (account : Account) (progress : Progress) (pending fed : List 
     → IsReadToCut account.limit fed (with_taken account.taken progress.gathering) cut
 read-to-cut account progress pending fed cut started which taken = record {
   read = taken.read;
-  rest = pending;
+  rest = taken.rest;
   whole = taken.whole;
   is_read = record {
     blocks = taken.leads.blocks;
@@ -179,9 +287,12 @@ read-to-cut account progress pending fed cut started which taken = record {
     gathered = taken.leads.gathered;
     names = taken.leads.names;
   };
-  partial = subst (λ (n : ℕ). IsPartial (context_behind (start account.limit) taken.leads.blocks) n pending) taken.leads.place
-      (subst (λ (c : Before). IsPartial c progress.at pending) taken.leads.context taken.partial);
-  where_cut = subst (λ (n : ℕ). ((pending ≡ []) × (cut ≡ None)) ⊎ ((pending ≢ []) × (cut ≡ Some n))) taken.leads.place which;
+  partial = subst (λ (n : ℕ). IsPartial (context_behind (start account.limit) taken.leads.blocks) n taken.rest) taken.leads.place
+      (subst (λ (c : Before). IsPartial c progress.at taken.rest) taken.leads.context taken.partial);
+  where_cut = subst (λ (n : ℕ). ((taken.rest ≡ []) × (cut ≡ None)) ⊎ ((taken.rest ≢ []) × (cut ≡ Some n))) taken.leads.place (elim which [
+    | inl none ↦ inl (none-left progress taken.rest pending taken.kept none.0, none.1)
+    | inr some ↦ inr ((λ none. some.0 (none-kept progress taken.rest pending taken.kept none)), some.1)
+  ]);
 }
 
 -- ---- the dump is taken out
@@ -190,6 +301,7 @@ out_of : (taken : List ℕ) (state : State) (fault : Option Fault) (fed : List �
     → HasGivenTo (record state { progress = without_dump state.progress }) (taken ++ state.progress.gathering.dump) fault fed
 out_of taken state None fed given = record {
   read = given.read;
+  rest = given.rest;
   whole = given.whole;
   leads = record {
     blocks = given.leads.blocks;
@@ -209,6 +321,7 @@ out_of taken state None fed given = record {
     names = given.leads.names;
   };
   partial = given.partial;
+  kept = given.kept;
 }
 out_of taken state (Some fault) fed given = given
 

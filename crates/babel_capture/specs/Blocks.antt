@@ -1,6 +1,6 @@
 -- A capture as its blocks, one after another: draft-ietf-opsawg-pcap, 3; draft-ietf-opsawg-pcapng,
 -- 3.1, 3.2.
-use Rattle.std.specs.Prelude.{◌≡◌, ℕ, ◌+◌, ◌<◌, ◌≤◌, max, List, [], ◌∷◌, ◌++◌, length, take, Ok}
+use Rattle.std.specs.Prelude.{◌≡◌, ℕ, ◌+◌, ◌-◌, ◌<◌, ◌≤◌, max, List, [], ◌∷◌, ◌++◌, length, take, Ok}
 use Rattle.std.specs.Prelude.{◌⊎◌, Option, None, Some}
 use Rattle.std.specs.List.{flat_map}
 use Rattle.std.specs.Result.{IsOkAnd}
@@ -36,12 +36,18 @@ pub record BeginsBlock (before : Before) (at : ℕ) (octets block : List ℕ) : 
   pub front : block ≡ take (length block) octets
   pub is_block : IsBlock before at block
 
--- less than a block
+-- the octets begin with the end of what is read, whatever comes after it
+abbrev pub IsEnd : Before → ℕ → List ℕ → Type 0
+IsEnd before at octets =
+    HasHeader before octets × (block_len before at (header_of before octets) ≡ Ok 0)
+
+-- less than a block, or what comes after the end, as far as so much is read
 abbrev pub IsPartial : Before → ℕ → List ℕ → Type 0
 IsPartial before at octets =
     (length octets < header_len before.layout)
     ⊎ (HasHeader before octets × IsOkAnd (block_len before at (header_of before octets))
     (λ len. length octets < len))
+    ⊎ (IsEnd before at octets × (length octets ≤ before.limit - at))
 
 -- ---- blocks
 
@@ -60,6 +66,7 @@ start limit = record {
   interfaces = [];
   window = limit.window;
   start = None;
+  to_cut = limit.to_cut;
 }
 
 -- blocks one after another, the first at this offset, each after what those before it say

@@ -24,8 +24,8 @@ pub record IsRead (limit : Extent) (octets : List ℕ) (gathering : Gathering) :
   pub gathered : IsGathered (sightings_of blocks) gathering
   pub names : gathering.names ≡ names_of blocks
 
--- the octets are a capture, and then less than a block: its last one is cut short, at this offset
--- if there are any
+-- the octets are a capture, and then less than a block, or its end before the last octet: it is cut
+-- short at this offset, if there are any
 pub record IsReadToCut (limit : Extent) (octets : List ℕ) (gathering : Gathering)
     (cut : Option ℕ) : Type 0 where
   pub read : List ℕ

@@ -51,7 +51,7 @@ packet_counted counts link interval has_trailer =
 abbrev pub counted : Counts → Link → Found → Counts
 counted counts link passed = counted_with counts None
 counted counts link untold = short_counted counts
-counted counts link (left reason) = counted_with counts (Some reason)
+counted counts link (left reason missed) = counted_with counts (Some reason)
 counted counts link (refused lack) = counted_with counts None
 counted counts link (lacked place sender lack) = counted_with counts None
 counted counts link (found place sender packet has_trailer) =

@@ -58,7 +58,7 @@ count_at counts place = option_flatten (slice_get counts place)
 
 -- the datagram was left out for this reason
 abbrev pub is_left_for : Reason → Found → Bool
-is_left_for reason (left other) = reason_place other == reason_place reason
+is_left_for reason (left other missed) = reason_place other == reason_place reason
 is_left_for reason what = false
 
 -- how many datagrams were left out for the reason, and the number of the first
@@ -96,7 +96,7 @@ timing_of made = fold (λ timing one. timed timing one.number one.came) no_times
 abbrev pub interval_found : Found → Option ℕ
 interval_found passed = None
 interval_found untold = None
-interval_found (left reason) = None
+interval_found (left reason missed) = None
 interval_found (refused lack) = None
 interval_found (lacked place sender lack) = None
 interval_found (found place sender packet has_trailer) = interval_in packet

@@ -61,7 +61,7 @@ dump_added dumps origin packets lack =
 abbrev pub timed_found : Option ℕ → Found → List (ℕ × List ℕ)
 timed_found time passed = []
 timed_found time untold = []
-timed_found time (left reason) = []
+timed_found time (left reason missed) = []
 timed_found time (refused lack) = []
 timed_found time (lacked place sender lack) = []
 timed_found time (found place sender packet has_trailer) = (unwrap_or time 0, packet) ∷ []
@@ -71,7 +71,7 @@ timed_found time (found place sender packet has_trailer) = (unwrap_or time 0, pa
 abbrev pub dumps_by : Dumps → ℕ → Option ℕ → Found → Dumps
 dumps_by dumps number time passed = dumps
 dumps_by dumps number time untold = dumps
-dumps_by dumps number time (left reason) = dumps
+dumps_by dumps number time (left reason missed) = dumps
 dumps_by dumps number time (refused lack) = dumps
 dumps_by dumps number time (lacked place sender lack) =
     dump_added dumps (record { place = place; sender = sender }) []

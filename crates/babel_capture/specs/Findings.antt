@@ -11,19 +11,20 @@ use Rattle.babel_capture.specs.declared.lack.Lack.{Lack}
 use Rattle.babel_capture.specs.declared.place.Place.{Place}
 use Rattle.babel_capture.specs.declared.reason.Reason.{Reason}
 use Rattle.babel_capture.specs.declared.reason.Reason.TheVariants as reasons
+use Rattle.babel_capture.specs.declared.tallies.Origin.{Origin}
 use Rattle.babel_capture.specs.declared.wanted.Wanted.{Wanted}
 use Rattle.babel_capture.specs.declared.wanted.Wanted.TheVariants as wanteds
 use Rattle.babel_capture.specs.Lack.{lack_reason}
 use Rattle.babel_capture.specs.Sight.{Sight, Carried, other, too_short, datagram}
 use Rattle.babel_capture.specs.Sight.{other_port, not_link_local, lacking, carries}
 
--- nothing; a frame that is too short to tell; a datagram left out, for a reason; one that is
--- refused, for what it lacks; one that the dump of its sender at its place lacks; or a Babel
--- packet, of a sender at a place, and whether octets come after its body
+-- nothing; a frame that is too short to tell; a datagram left out, for a reason, and whose it is
+-- where it is missed; one that is refused, for what it lacks; one that the dump of its sender at its
+-- place lacks; or a Babel packet, of a sender at a place, and whether octets come after its body
 pub data Found : Type 0 where
   passed : Found
   untold : Found
-  left : (reason : Reason) → Found
+  left : (reason : Reason) (missed : Option Origin) → Found
   refused : (lack : Lack) → Found
   lacked : (place : Place) (sender : Address) (lack : Lack) → Found
   found : (place : Place) (sender : Address) (packet : List ℕ) (has_trailer : Bool) → Found
@@ -32,7 +33,7 @@ pub data Found : Type 0 where
 abbrev pub finding_of : Finding → Found
 finding_of findings.Passed = passed
 finding_of findings.Short = untold
-finding_of (findings.Left reason) = left reason
+finding_of (findings.Left reason missed) = left reason missed
 finding_of (findings.Refused lack) = refused lack
 finding_of (findings.Lacking place sender lack) = lacked place sender lack
 finding_of (findings.Packet place sender packet has_trailer) =
@@ -69,24 +70,26 @@ abbrev pub PayloadIs : Place → Address → List ℕ → Found → Type 0
 PayloadIs place sender payload what =
     ((body : List ℕ) × BeginsPacket payload body × (what
     ≡ found place sender (framed body) (nat_lt (length (framed body)) (length payload))))
-    ⊎ (((length payload < 4) ⊎ LacksBody payload) × (what ≡ left reasons.Truncated))
-    ⊎ (HasHeader payload × (slice_index payload 0 ≢ 42) × (what ≡ left reasons.BadMagic))
+    ⊎ (((length payload < 4) ⊎ LacksBody payload) × (what ≡ left reasons.Truncated None))
+    ⊎ (HasHeader payload × (slice_index payload 0 ≢ 42) × (what ≡ left reasons.BadMagic None))
     ⊎ (HasHeader payload × (slice_index payload 0 ≡ 42) × (slice_index payload 1 ≢ 2)
-    × (what ≡ left reasons.BadVersion))
+    × (what ≡ left reasons.BadVersion None))
 
--- A datagram that lacks something is left out where no sender's dump is wanted, and refuses the
--- capture where one is; where those of all senders are, the dump of its own lacks it.
+-- A datagram that lacks something is left out where no sender's dump is wanted, and missed where
+-- packets are told as they come. It refuses the capture where one sender's dump is wanted; where
+-- those of all senders are, the dump of its own lacks it.
 abbrev pub LackIs : Wanted → Place → Address → Lack → Found → Type 0
-LackIs wanteds.Everyone place sender lack what = what ≡ left (lack_reason lack)
+LackIs wanteds.Everyone place sender lack what = what ≡ left (lack_reason lack) None
 LackIs wanteds.Each place sender lack what = what ≡ lacked place sender lack
 LackIs (wanteds.Sender wanted there ends) place sender lack what = what ≡ refused lack
-LackIs (wanteds.InTurn None there) place sender lack what = what ≡ left (lack_reason lack)
+LackIs (wanteds.InTurn None there) place sender lack what =
+    what ≡ left (lack_reason lack) (Some (record { place = place; sender = sender }))
 LackIs (wanteds.InTurn (Some wanted) there) place sender lack what = what ≡ refused lack
 
 -- what is made of a wanted datagram
 abbrev pub CarriedIs : Wanted → Place → Address → Carried → Found → Type 0
-CarriedIs wanted place sender other_port what = what ≡ left reasons.OtherPort
-CarriedIs wanted place sender not_link_local what = what ≡ left reasons.NotLinkLocal
+CarriedIs wanted place sender other_port what = what ≡ left reasons.OtherPort None
+CarriedIs wanted place sender not_link_local what = what ≡ left reasons.NotLinkLocal None
 CarriedIs wanted place sender (lacking lack) what = LackIs wanted place sender lack what
 CarriedIs wanted place sender (carries payload) what = PayloadIs place sender payload what
 

@@ -6,6 +6,8 @@ use Rattle.std.specs.Option.{unwrap_or}
 use Rattle.babel_capture.specs.declared.fault.Fault.{Fault}
 use Rattle.babel_capture.specs.declared.fault.Fault.TheVariants as faults
 use Rattle.babel_capture.specs.declared.lack.Lack.{Lack}
+use Rattle.babel_capture.specs.declared.noted.Missed.{Missed}
+use Rattle.babel_capture.specs.declared.noted.Noted.{Noted}
 use Rattle.babel_capture.specs.declared.tallies.Origin.{Origin}
 use Rattle.babel_capture.specs.declared.wanted.Wanted.{Wanted}
 use Rattle.babel_capture.specs.declared.wanted.Wanted.TheVariants as wanteds
@@ -24,7 +26,7 @@ use Rattle.babel_capture.specs.Tallies.{tally_of}
 abbrev pub IsTaken : Found → Type 0
 IsTaken passed = Unit {0}
 IsTaken untold = Unit {0}
-IsTaken (left reason) = Unit {0}
+IsTaken (left reason missed) = Unit {0}
 IsTaken (refused lack) = ⊥
 IsTaken (lacked place sender lack) = Unit {0}
 IsTaken (found place sender packet has_trailer) = Unit {0}
@@ -47,7 +49,7 @@ pub record AreTaken (wanted : Wanted) (sightings : List Sighting) (made : List M
 abbrev pub octets_found : Found → List ℕ
 octets_found passed = []
 octets_found untold = []
-octets_found (left reason) = []
+octets_found (left reason missed) = []
 octets_found (refused lack) = []
 octets_found (lacked place sender lack) = []
 octets_found (found place sender packet has_trailer) = packet
@@ -56,7 +58,7 @@ octets_found (found place sender packet has_trailer) = packet
 abbrev pub origin_found : Found → Option Origin
 origin_found passed = None
 origin_found untold = None
-origin_found (left reason) = None
+origin_found (left reason missed) = None
 origin_found (refused lack) = None
 origin_found (lacked place sender lack) = None
 origin_found (found place sender packet has_trailer) = Some (record { place = place; sender = sender })
@@ -83,11 +85,23 @@ origin_noted (wanteds.Sender sender place true) what = origin_found what
 origin_noted (wanteds.Sender sender place false) what = None
 origin_noted (wanteds.InTurn sender place) what = origin_found what
 
--- the block adds a packet of this origin to it, whose end is noted, or none
-abbrev pub OriginIs : Wanted → Content → Option Origin → Type 0
-OriginIs wanted (holds packet) origin =
-    (what : Found) × Finds wanted (sight_in packet) what × (origin ≡ origin_noted wanted what)
-OriginIs wanted content origin = origin ≡ None
+-- the datagram that is missed
+abbrev pub missed_in : Found → Option Missed
+missed_in (left reason (Some origin)) = Some (record { origin = origin; reason = reason })
+missed_in what = None
+
+-- what is noted of a packet
+abbrev pub nothing_noted : Noted
+nothing_noted = record { origin = None; missed = None }
+
+abbrev pub noted_of : Wanted → Found → Noted
+noted_of wanted what = record { origin = origin_noted wanted what; missed = missed_in what }
+
+-- this is noted of what the block says
+abbrev pub NotedIs : Wanted → Content → Noted → Type 0
+NotedIs wanted (holds packet) noted =
+    (what : Found) × Finds wanted (sight_in packet) what × (noted ≡ noted_of wanted what)
+NotedIs wanted content noted = noted ≡ nothing_noted
 
 -- what was gathered so far, and the names of the interfaces, which are empty where they have none
 pub record Gathering : Type 0 where

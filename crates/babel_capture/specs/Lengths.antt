@@ -53,12 +53,14 @@ section_len at header = total_in at header (section_order at header)
 
 -- draft-ietf-opsawg-pcap, 5: 16 octets and the captured length, which is at 8; over 262,144 are not
 -- read. That one of no octets is no packet where that had none, by the length at 12, is this
--- project's own: it is what a full disk leaves.
-abbrev pub record_len : Order → ℕ → List ℕ → Result ℕ Fault
-record_len order at header =
+-- project's own: it is what a full disk leaves. With `to_cut` the capture ends there, at a record
+-- without a length.
+abbrev pub record_len : (to_cut : Bool) → Order → ℕ → List ℕ → Result ℕ Fault
+record_len to_cut order at header =
     let captured : ℕ = number_at order 4 header 8 in
-    if nat_lt 262144 captured || (captured == 0 && number_at order 4 header 12 == 0)
-    then Err (faults.BadLength at) else Ok (16 + captured)
+    if nat_lt 262144 captured then Err (faults.BadLength at)
+    else if captured == 0 && number_at order 4 header 12 == 0
+    then (if to_cut then Ok 0 else Err (faults.BadLength at)) else Ok (16 + captured)
 
 -- draft-ietf-opsawg-pcap, 4; draft-ietf-opsawg-pcapng, 4.1: the first block, by its magic number
 abbrev pub first_len : ℕ → List ℕ → Option Order → Result ℕ Fault
@@ -66,10 +68,10 @@ first_len at header (Some order) = Ok 24
 first_len at header None = if is_section header then section_len at header
     else Err faults.NotCapture
 
-abbrev pub layout_len : Layout → ℕ → List ℕ → Result ℕ Fault
-layout_len layouts.Start at header = first_len at header (pcap_order header)
-layout_len (layouts.Pcap order) at header = record_len order at header
-layout_len (layouts.Section order) at header = if is_section header
+abbrev pub layout_len : (to_cut : Bool) → Layout → ℕ → List ℕ → Result ℕ Fault
+layout_len to_cut layouts.Start at header = first_len at header (pcap_order header)
+layout_len to_cut (layouts.Pcap order) at header = record_len to_cut order at header
+layout_len to_cut (layouts.Section order) at header = if is_section header
     then section_len at header else total_len 12 order at header
 
 -- how many octets tell a block's length
@@ -82,6 +84,7 @@ abbrev pub len_within : ℕ → ℕ → Result ℕ Fault → Result ℕ Fault
 len_within limit at (Err fault) = Err fault
 len_within limit at (Ok len) = if nat_lt (limit - at) len then Err (faults.TooLong at) else Ok len
 
--- the length of the block that begins with this header, at this offset
+-- the length of the block that begins with this header, at this offset; 0 where what is read ends
 abbrev pub block_len : Before → ℕ → List ℕ → Result ℕ Fault
-block_len before at header = len_within before.limit at (layout_len before.layout at header)
+block_len before at header =
+    len_within before.limit at (layout_len before.to_cut before.layout at header)

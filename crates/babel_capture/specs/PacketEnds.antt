@@ -1,5 +1,5 @@
--- Where each packet of a dump ends, which packet of the capture it came from, and when that came
--- and from whom. It is this project's own.
+-- Where each packet of a dump ends, which packet of the capture it came from, when that came and
+-- from whom, and of whom a datagram is missed there. It is this project's own.
 use Rattle.std.specs.Prelude.{◌≡◌, ℕ, ◌+◌, Bool, true, false, if◌then◌else◌, List, [], ◌∷◌, ◌++◌}
 use Rattle.std.specs.Prelude.{length, Option, Some, None}
 use Rattle.babel_capture.specs.declared.packet_end.PacketEnd.{PacketEnd}
@@ -9,7 +9,7 @@ use Rattle.babel_capture.specs.declared.wanted.Wanted.TheVariants as wanteds
 use Rattle.babel_capture.specs.Contents.{Content, file, section, describes, holds, skips, nothing}
 use Rattle.babel_capture.specs.Counts.{Made}
 use Rattle.babel_capture.specs.Findings.{Found}
-use Rattle.babel_capture.specs.Gathering.{dump_of, octets_found, origin_found}
+use Rattle.babel_capture.specs.Gathering.{dump_of, missed_in, octets_found, origin_found}
 use Rattle.babel_capture.specs.Times.{time_in, time_of}
 
 -- an end is noted where a packet was found, and in turn everywhere
@@ -24,6 +24,7 @@ end_found in_turn at number time what = if is_noted in_turn (origin_found what) 
   number = number;
   time = time;
   origin = origin_found what;
+  missed = missed_in what;
 } ∷ [] else []
 
 -- the block says a captured packet, skipped or not

@@ -1,13 +1,15 @@
 -- How far a capture was read, block by block.
-use Rattle.std.specs.Prelude.{◌≡◌, ◌≢◌, ◌≤◌, ℕ, ◌&&◌, if◌then◌else◌, List, [], ◌∷◌, ◌++◌, length}
+use Rattle.std.specs.Prelude.{◌≡◌, ◌≢◌, ◌≤◌, ◌<◌, ◌-◌, ℕ, ◌&&◌, if◌then◌else◌, List, [], ◌∷◌, ◌++◌, length}
 use Rattle.std.specs.Prelude.{IsTrue, Option, Ok, Err, ◌+◌, ◌⊎◌}
 use Rattle.babel_capture.specs.declared.fault.Fault.{Fault}
+use Rattle.babel_capture.specs.declared.fault.Fault.TheVariants as faults
 use Rattle.babel_capture.specs.declared.layout.Layout.{Layout}
 use Rattle.babel_capture.specs.declared.layout.Layout.TheVariants as layouts
+use Rattle.babel_capture.specs.declared.noted.Missed.{Missed}
 use Rattle.babel_capture.specs.declared.packet_end.PacketEnd.{PacketEnd}
 use Rattle.babel_capture.specs.declared.tallies.Origin.{Origin}
 use Rattle.babel_capture.specs.declared.wanted.Wanted.{Wanted}
-use Rattle.babel_capture.specs.Blocks.{BlockAt, HasHeader, IsPartial, header_of, BeginsBlock}
+use Rattle.babel_capture.specs.Blocks.{BlockAt, HasHeader, IsEnd, IsPartial, header_of, BeginsBlock}
 use Rattle.babel_capture.specs.Blocks.{AreBlocks, start, context_behind, names_of, octets_of}
 use Rattle.babel_capture.specs.Blocks.{sightings_of}
 use Rattle.babel_capture.specs.Contents.{Content, block_said}
@@ -22,27 +24,31 @@ use Rattle.babel_capture.specs.Tallies.{Senders, senders_of}
 use Rattle.babel_capture.specs.Window.{Extent}
 
 -- what the blocks so far say of the capture, what was gathered of their packets, where each packet
--- of the dump ends, and where the next block begins
+-- of the dump ends, where the next block begins, and how many octets after the end of what is read
+-- were passed over
 pub record Progress : Type 0 where
   pub context : Before
   pub gathering : Gathering
   pub ends : List PacketEnd
   pub at : ℕ
+  pub passed : ℕ
 
 -- with nothing of the dump
 abbrev pub without_dump : Progress → Progress
 without_dump progress =
     record progress { gathering = record progress.gathering { dump = [] }; ends = [] }
 
--- its ends, with that of a block that adds a packet of this origin to the dump, or none
-abbrev pub with_end : Progress → Content → Option Origin → List PacketEnd
-with_end progress content origin =
+-- its ends, with that of a block that adds a packet of this origin to the dump, or none, and of
+-- which this datagram is missed
+abbrev pub with_end : Progress → Content → Option Origin → Option Missed → List PacketEnd
+with_end progress content origin missed =
     if is_noted (is_packet content && is_in_turn progress.gathering.wanted) origin
     then progress.ends ++ record {
       end = length progress.gathering.dump;
       number = progress.gathering.report.packets;
       time = time_told content;
       origin = origin;
+      missed = missed;
     } ∷ [] else progress.ends
 
 -- in turn, each packet of the capture that was read in between has an end
@@ -74,10 +80,17 @@ BlockFails wanted senders before at block fault =
     ⊎ ((content : Content) × (block_said before at block ≡ Ok content)
     × IsRefused wanted senders at content fault)
 
+-- octets of which the header tells that they begin with no block; or that go on after the end of
+-- what is read, past the limit
+abbrev pub HeaderFails : Before → ℕ → List ℕ → Fault → Type 0
+HeaderFails before at octets fault =
+    (HasHeader before octets × (block_len before at (header_of before octets) ≡ Err fault))
+    ⊎ (IsEnd before at octets × (before.limit - at < length octets) × (fault ≡ faults.TooLong at))
+
 -- octets that begin with no block that is taken: their header tells, or the whole block
 abbrev pub StopsAt : Wanted → Senders → Before → ℕ → List ℕ → Fault → Type 0
 StopsAt wanted senders before at octets fault =
-    (HasHeader before octets × (block_len before at (header_of before octets) ≡ Err fault))
+    HeaderFails before at octets fault
     ⊎ ((block : List ℕ) × BeginsBlock before at octets block
     × BlockFails wanted senders before at block fault)
 
@@ -124,9 +137,19 @@ HasStarted before = IsKnown before.layout
 
 -- ---- in pieces
 
--- the octets are blocks that lead so far, and less than another, which are pending
+-- Octets that are less than a block are pending; after the end of what is read as many as tell it,
+-- and the others were passed over.
+abbrev pub IsPending : Progress → (rest pending : List ℕ) → Type 0
+IsPending progress rest pending =
+    ((pending ≡ rest) ⊎ (IsEnd progress.context progress.at rest
+    × IsEnd progress.context progress.at pending))
+    × (length rest ≡ length pending + progress.passed)
+
+-- the octets are blocks that lead so far, and less than another
 pub record HasTaken (account : Account) (progress : Progress) (pending fed : List ℕ) : Type 0 where
   pub read : List ℕ
-  pub whole : fed ≡ read ++ pending
+  pub rest : List ℕ
+  pub whole : fed ≡ read ++ rest
   pub leads : LeadTo account read progress
-  pub partial : IsPartial progress.context progress.at pending
+  pub partial : IsPartial progress.context progress.at rest
+  pub kept : IsPending progress rest pending

@@ -19,7 +19,7 @@ use Rattle.babel_capture.specs.Tallies.{Senders, origin_cmp, tally_of}
 abbrev pub is_from : Origin → Found → Bool
 is_from origin passed = false
 is_from origin untold = false
-is_from origin (left reason) = false
+is_from origin (left reason missed) = false
 is_from origin (refused lack) = false
 is_from origin (lacked place sender lack) = false
 is_from origin (found place sender packet has_trailer) =

@@ -89,7 +89,7 @@ tallied senders origin time packet has_trailer =
 abbrev pub senders_with : Senders → Option ℕ → Found → Senders
 senders_with senders time passed = senders
 senders_with senders time untold = senders
-senders_with senders time (left reason) = senders
+senders_with senders time (left reason missed) = senders
 senders_with senders time (refused lack) = senders
 senders_with senders time (lacked place sender lack) = senders
 senders_with senders time (found place sender packet has_trailer) =

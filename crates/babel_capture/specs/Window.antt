@@ -1,5 +1,5 @@
 -- Which packets of a capture are read, by when they came. It is this project's own.
-use Rattle.std.specs.Prelude.{ℕ, ◌+◌, ◌*◌, Bool, true, ◌&&◌, nat_le, Option, None}
+use Rattle.std.specs.Prelude.{ℕ, ◌+◌, ◌*◌, Bool, true, false, ◌&&◌, nat_le, Option, None}
 use Rattle.std.specs.Prelude.{Some}
 use Rattle.std.specs.Option.{option_map}
 use Rattle.babel_capture.specs.declared.window.Moment.{Moment}
@@ -7,14 +7,16 @@ use Rattle.babel_capture.specs.declared.window.Moment.TheVariants as moments
 use Rattle.babel_capture.specs.declared.window.Window.{Window}
 use Rattle.babel_capture.specs.declared.window.Window.TheVariants as windows
 
--- how much of a capture is read: so many octets at most, and the packets of these times
+-- How much of a capture is read: so many octets at most, and the packets of these times. Where
+-- `to_cut` is set, what a full disk leaves is its end: `Lengths.record_len`.
 pub record Extent : Type 0 where
   pub octets : ℕ
   pub window : Window
+  pub to_cut : Bool
 
--- so many octets, and all packets, whether they have a time or not
+-- so many octets, up to the last, and all packets, whether they have a time or not
 abbrev pub all_times : ℕ → Extent
-all_times octets = record { octets = octets; window = windows.Whole }
+all_times octets = record { octets = octets; window = windows.Whole; to_cut = false }
 
 -- a moment in nanoseconds since the start of 1970, of a capture whose first packet came then
 abbrev pub moment_from : ℕ → Moment → ℕ

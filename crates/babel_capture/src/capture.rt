@@ -23,6 +23,7 @@ use std::marker::Model;
 pub struct Capture {
     limit: u64,
     window: Window,
+    to_cut: bool,
     stream: Stream,
     fault: Option<Fault>,
 }
@@ -33,7 +34,7 @@ impl Model for Capture {
     ghost Value = { State };
 
     ghost view = { λ c. record {
-      limit = record { octets = c.limit; window = c.window };
+      limit = record { octets = c.limit; window = c.window; to_cut = c.to_cut };
       progress = c.stream.reader;
       pending = c.stream.pending.items;
       fault = c.fault;
@@ -48,21 +49,31 @@ impl Capture {
         ensures made { (result.limit ≡ all_times limit)
             × (result.progress.gathering.wanted ≡ wanted) × (result.fault ≡ None) }
     {
-        Capture::within(alloc, limit, Window::Whole, wanted)
+        Capture::within(alloc, limit, Window::Whole, false, wanted)
     }
 
     /// The same of the packets of this window alone: the others are skipped. Where the window is
     /// not whole, a packet that has no time, or one before 1970 or after the year 9999, is a fault.
-    pub fn within(alloc: Global, limit: u64, window: Window, wanted: Wanted) -> Capture
+    /// With `to_cut` a record of a pcap file that had no octets, as a full disk leaves it, is no
+    /// fault: the capture is cut short there, and what comes after it is passed over.
+    pub fn within(
+        alloc: Global,
+        limit: u64,
+        window: Window,
+        to_cut: bool,
+        wanted: Wanted,
+    ) -> Capture
         ensures read { HasRead result [] }
         ensures dump { result.progress.gathering.dump ≡ [] }
-        ensures made { (result.limit ≡ record { octets = limit; window = window })
+        ensures made { (result.limit
+            ≡ record { octets = limit; window = window; to_cut = to_cut })
             × (result.progress.gathering.wanted ≡ wanted) × (result.fault ≡ None) }
     {
-        let stream = Stream::new(alloc, limit, &window, wanted);
+        let stream = Stream::new(alloc, limit, &window, to_cut, wanted);
         Capture {
             limit,
             window,
+            to_cut,
             stream,
             fault: None,
         }

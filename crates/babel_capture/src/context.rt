@@ -1,10 +1,10 @@
-ghost use Rattle.std.specs.Prelude.{◌≡◌, ◌≤◌, ◌+◌, ◌-◌, ◌^◌, ◌<◌, length, slice_get, nat_le};
-ghost use Rattle.std.specs.Prelude.{OnErr, OnOk, IfOk, IfErr, IfSome, IfNone, Err};
-ghost use Rattle.babel_capture.specs.Blocks.{BeginsBlock, HasHeader, IsPartial, header_of};
-ghost use Rattle.babel_capture.specs.Lengths.{block_len};
+ghost use Rattle.std.specs.Prelude.{◌≡◌, ◌↔◌, ◌≤◌, ◌+◌, ◌-◌, ◌^◌, ◌<◌, length, slice_get, nat_le};
+ghost use Rattle.std.specs.Prelude.{OnErr, OnOk, IfOk, IfErr, IfSome, IfNone, IsTrue, Err};
+ghost use Rattle.babel_capture.specs.Blocks.{BeginsBlock, IsEnd, IsPartial};
 ghost use Rattle.babel_capture.specs.Contents.{captured_of, content_of, context_after};
 ghost use Rattle.babel_capture.specs.Contents.{started_with};
 ghost use Rattle.babel_capture.specs.Gathering.{BlockNeedsMemory};
+ghost use Rattle.babel_capture.specs.Reading.{HeaderFails};
 ghost use Rattle.babel_capture.specs.Tallies.{Senders};
 ghost use Rattle.babel_capture.specs.Blocks.{start};
 ghost use Rattle.babel_capture.specs.declared.wanted.Wanted.{Wanted as WantedSaid};
@@ -29,6 +29,7 @@ pub struct Context {
     interfaces: Vec<Interface>,
     window: Window,
     start: Option<Time>,
+    to_cut: bool,
 }
 
 impl Model for Context {
@@ -44,16 +45,18 @@ impl Model for Context {
       interfaces = c.interfaces.items;
       window = c.window;
       start = c.start;
+      to_cut = c.to_cut;
     } };
 
     ghost invariant = { λ c. c.first ≤ length c.interfaces.items };
 }
 
 impl Context {
-    /// The context of the first block, where so many octets are read at most, and packets of this
-    /// window.
-    pub fn new(alloc: Global, limit: u64, window: &Window) -> Context
-        ensures { result ≡ start (record { octets = limit; window = window.now }) }
+    /// The context of the first block, where so many octets are read at most, packets of this
+    /// window, and, with `to_cut`, up to a record that a full disk leaves.
+    pub fn new(alloc: Global, limit: u64, window: &Window, to_cut: bool) -> Context
+        ensures { result ≡ start
+            (record { octets = limit; window = window.now; to_cut = to_cut }) }
     {
         Context {
             limit,
@@ -62,6 +65,7 @@ impl Context {
             interfaces: Vec::new(alloc),
             window: *window,
             start: None,
+            to_cut,
         }
     }
 
@@ -126,21 +130,39 @@ impl Context {
         ensures fits { IfOk result (λ found. IfSome found
             (λ block. at + length block.now < 2 ^ 64)) }
         ensures less { IfOk result (λ found. IfNone found (IsPartial self.now at octets.now)) }
-        ensures err { IfErr result (λ fault. HasHeader self.now octets.now
-            × (block_len self.now at (header_of self.now octets.now) ≡ Err fault)) }
+        ensures err { IfErr result (λ fault. HeaderFails self.now at octets.now fault) }
     {
         let header_len = self.layout.header_len();
         if octets.len() < header_len {
             return Ok(None);
         }
-        let len = self.layout.block_len(&octets[..header_len], at)?;
-        if self.limit.saturating_sub(at) < len as u64 {
+        let header = &octets[..header_len];
+        let len = self.layout.block_len(self.to_cut, header, at)?;
+        let needed = if len == 0 {
+            octets.len() as u64
+        } else {
+            len as u64
+        };
+        if self.limit.saturating_sub(at) < needed {
             return Err(Fault::TooLong { at });
         }
-        if octets.len() < len as usize {
+        if len == 0 || octets.len() < len as usize {
             return Ok(None);
         }
         Ok(Some(&octets[..len as usize]))
+    }
+
+    /// Whether these octets, at this offset, begin with the end of what is read.
+    pub fn is_end(&self, at: u64, octets: &[u8]) -> bool
+        ensures { IsTrue result ↔ IsEnd self.now at octets.now }
+    {
+        let header_len = self.layout.header_len();
+        octets.len() >= header_len
+            && matches!(
+                self.layout
+                    .block_len(self.to_cut, &octets[..header_len], at),
+                Ok(0)
+            )
     }
 
     /// How many octets make the header whole that these octets, at this offset, begin; or, if it
@@ -150,7 +172,10 @@ impl Context {
         if octets.len() < header_len {
             return header_len - octets.len();
         }
-        match self.layout.block_len(&octets[..header_len], at) {
+        match self
+            .layout
+            .block_len(self.to_cut, &octets[..header_len], at)
+        {
             Ok(len) => (len as usize).saturating_sub(octets.len()),
             Err(_) => 0,
         }

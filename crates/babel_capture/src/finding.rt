@@ -1,5 +1,6 @@
-ghost use Rattle.std.specs.Prelude.{◌≡◌};
+ghost use Rattle.std.specs.Prelude.{◌≡◌, None};
 ghost use Rattle.babel_capture.specs.Findings.{CarriedIs, Finds, LackIs, PayloadIs, finding_of};
+ghost use Rattle.babel_capture.specs.Findings.{left};
 ghost use Rattle.babel_capture.specs.Sight.{flaw_of, sight_of};
 
 use crate::flaw::Flaw;
@@ -7,6 +8,7 @@ use crate::lack::Lack;
 use crate::place::Place;
 use crate::reason::Reason;
 use crate::seen::Seen;
+use crate::tallies::Origin;
 use crate::wanted::Wanted;
 use babel_prefix::Addr;
 use babel_tlv::{Fault, Frame, frame};
@@ -18,8 +20,12 @@ pub enum Finding<'a> {
     Passed,
     /// It is too short to tell.
     Short,
-    /// It is left out.
-    Left(Reason),
+    /// It is left out, and missed of this sender, if of one: it lacks something, and packets of
+    /// each sender are told as they come.
+    Left {
+        reason: Reason,
+        missed: Option<Origin>,
+    },
     /// It lacks something, and the dump of its sender alone is wanted.
     Refused(Lack),
     /// It lacks something, and the dump of each sender is wanted.
@@ -37,6 +43,18 @@ pub enum Finding<'a> {
     },
 }
 
+impl Finding<'static> {
+    /// It is left out for this reason, and not missed.
+    fn left(reason: Reason) -> Finding<'static>
+        ensures { finding_of result ≡ left reason None }
+    {
+        Finding::Left {
+            reason,
+            missed: None,
+        }
+    }
+}
+
 /// What is made of a datagram's payload: the packet without what comes after its body.
 fn payload_finding<'a>(place: Place, sender: Addr, payload: &'a [u8]) -> Finding<'a>
     ensures { PayloadIs place sender payload.now (finding_of result) }
@@ -48,9 +66,9 @@ fn payload_finding<'a>(place: Place, sender: Addr, payload: &'a [u8]) -> Finding
             packet: &payload[..used],
             has_trailer: used < payload.len(),
         },
-        Frame::More => Finding::Left(Reason::Truncated),
-        Frame::Bad(Fault::BadMagic { .. }) => Finding::Left(Reason::BadMagic),
-        Frame::Bad(_) => Finding::Left(Reason::BadVersion),
+        Frame::More => Finding::left(Reason::Truncated),
+        Frame::Bad(Fault::BadMagic { .. }) => Finding::left(Reason::BadMagic),
+        Frame::Bad(_) => Finding::left(Reason::BadVersion),
     }
 }
 
@@ -92,8 +110,8 @@ impl Wanted {
         ensures { CarriedIs self.now place sender (flaw_of flaw) (finding_of result) }
     {
         match flaw {
-            Flaw::OtherPort => Finding::Left(Reason::OtherPort),
-            Flaw::NotLinkLocal => Finding::Left(Reason::NotLinkLocal),
+            Flaw::OtherPort => Finding::left(Reason::OtherPort),
+            Flaw::NotLinkLocal => Finding::left(Reason::NotLinkLocal),
             Flaw::Lacking(lack) => self.lack_finding(place, sender, lack),
         }
     }
@@ -103,7 +121,11 @@ impl Wanted {
         ensures { LackIs self.now place sender lack (finding_of result) }
     {
         match self {
-            Wanted::Everyone | Wanted::InTurn { sender: None, .. } => Finding::Left(lack.reason()),
+            Wanted::Everyone => Finding::left(lack.reason()),
+            Wanted::InTurn { sender: None, .. } => Finding::Left {
+                reason: lack.reason(),
+                missed: Some(Origin { place, sender }),
+            },
             Wanted::Each => Finding::Lacking {
                 place,
                 sender,

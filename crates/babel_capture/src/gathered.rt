@@ -3,11 +3,11 @@ ghost use Rattle.std.specs.Prelude.{OnOk, IfOk, IfErr, None, Some, if◌then◌e
 ghost use Rattle.std.specs.Map.{keys_of};
 ghost use Rattle.babel_capture.specs.Blocks.{Sighting, sighting_of, sightings_in};
 ghost use Rattle.babel_capture.specs.Contents.{captured_of, content_of, holds, names_in};
-ghost use Rattle.babel_capture.specs.Gathering.{BlockNeedsMemory, IsGathered, IsRefused, OriginIs};
+ghost use Rattle.babel_capture.specs.Gathering.{BlockNeedsMemory, IsGathered, IsRefused, NotedIs};
 ghost use Rattle.babel_capture.specs.Findings.{found};
 ghost use Rattle.babel_capture.specs.Dumps.{dump_added, dump_at, dumps_with, timed_of};
 ghost use Rattle.babel_capture.specs.Gathering.{PacketNeedsMemory, dump_with, name_of};
-ghost use Rattle.babel_capture.specs.Gathering.{origin_noted, with_taken};
+ghost use Rattle.babel_capture.specs.Gathering.{noted_of, nothing_noted, with_taken};
 ghost use Rattle.babel_capture.specs.PacketEnds.{is_packet};
 ghost use Rattle.babel_capture.specs.Sight.{other};
 ghost use Rattle.babel_capture.specs.Tallies.{IsOneTooMany, tallied};
@@ -19,6 +19,7 @@ use crate::dumps::{Dumps, LackAt, TimedPacket};
 use crate::fault::Fault;
 use crate::finding::Finding;
 use crate::lack::Lack;
+use crate::noted::Noted;
 use crate::outside::Outside;
 use crate::report::Report;
 use crate::tallies::{Origin, Tallies, Tally};
@@ -157,8 +158,8 @@ impl Gathered {
         self.outside.first()
     }
 
-    /// Takes the packet in the block at this offset: whose it is, if its end is noted.
-    fn take_packet(&mut self, at: u64, packet: &Packet<'_>) -> Result<Option<Origin>, Fault>
+    /// Takes the packet in the block at this offset: what is noted of it.
+    fn take_packet(&mut self, at: u64, packet: &Packet<'_>) -> Result<Noted, Fault>
         requires { self.old.report.packets + 1 < 2 ^ 64 }
         ensures wanted { self.new.wanted ≡ self.old.wanted }
         ensures names { self.new.names ≡ self.old.names }
@@ -172,8 +173,8 @@ impl Gathered {
             (holds (captured_of packet.now)) fault) }
         ensures memory { IfErr result (λ fault. fault ≡ Fault.Memory → BlockNeedsMemory
             self.old.wanted self.old.senders (holds (captured_of packet.now))) }
-        ensures origin { IfOk result (λ origin. OriginIs self.old.wanted
-            (holds (captured_of packet.now)) origin) }
+        ensures noted { IfOk result (λ noted. NotedIs self.old.wanted
+            (holds (captured_of packet.now)) noted) }
         ensures counted { OnOk result
             (self.new.report.packets ≡ self.old.report.packets + 1) }
     {
@@ -186,15 +187,15 @@ impl Gathered {
             Finding::Passed => {
                 self.outside.pass(&self.wanted, packet, &seen);
                 self.report.count(section, None);
-                Ok(None)
+                Ok(Noted::nothing())
             }
             Finding::Short => {
                 self.report.count_short(section);
-                Ok(None)
+                Ok(Noted::nothing())
             }
-            Finding::Left(reason) => {
+            Finding::Left { reason, missed } => {
                 self.report.count(section, Some(reason));
-                Ok(None)
+                Ok(Noted::left(reason, missed))
             }
             Finding::Refused(lack) => Err(lack.fault(at)),
             Finding::Lacking {
@@ -220,9 +221,8 @@ impl Gathered {
         }
     }
 
-    /// Takes the packet that the block at this offset says, if it says one: whose it is, if its end
-    /// is noted.
-    pub fn take_said(&mut self, at: u64, said: &Block<'_>) -> Result<Option<Origin>, Fault>
+    /// Takes the packet that the block at this offset says, if it says one: what is noted of it.
+    pub fn take_said(&mut self, at: u64, said: &Block<'_>) -> Result<Noted, Fault>
         requires { self.old.report.packets + 1 < 2 ^ 64 }
         ensures wanted { self.new.wanted ≡ self.old.wanted }
         ensures names { OnOk result (self.new.names
@@ -236,8 +236,8 @@ impl Gathered {
             ⊎ IsRefused self.old.wanted self.old.senders at (content_of said.now) fault) }
         ensures memory { IfErr result (λ fault. fault ≡ Fault.Memory → BlockNeedsMemory
             self.old.wanted self.old.senders (content_of said.now)) }
-        ensures origin { IfOk result
-            (λ origin. OriginIs self.old.wanted (content_of said.now) origin) }
+        ensures noted { IfOk result
+            (λ noted. NotedIs self.old.wanted (content_of said.now) noted) }
         ensures counted { OnOk result (self.new.report.packets
             ≡ self.old.report.packets + (if is_packet (content_of said.now) then 1 else 0)) }
     {
@@ -245,11 +245,11 @@ impl Gathered {
             Block::Packet(packet) => self.take_packet(at, packet),
             Block::Skipped(packet) => {
                 self.skip(packet);
-                Ok(None)
+                Ok(Noted::nothing())
             }
             Block::File { .. } => self.add_name(&[]),
             Block::Interface { name, .. } => self.add_name(name),
-            Block::Section(_) | Block::Other => Ok(None),
+            Block::Section(_) | Block::Other => Ok(Noted::nothing()),
         }
     }
 
@@ -269,10 +269,10 @@ impl Gathered {
     }
 
     /// Keeps the name of an interface, which adds nothing to the dump.
-    fn add_name(&mut self, name: &[u8]) -> Result<Option<Origin>, Fault>
+    fn add_name(&mut self, name: &[u8]) -> Result<Noted, Fault>
         ensures wanted { self.new.wanted ≡ self.old.wanted }
         ensures names { OnOk result (self.new.names ≡ self.old.names ++ name.now ∷ []) }
-        ensures origin { IfOk result (λ origin. origin ≡ None) }
+        ensures noted { IfOk result (λ noted. noted ≡ nothing_noted) }
         ensures dump { self.new.dump ≡ self.old.dump }
         ensures dumps { self.new.dumps ≡ self.old.dumps }
         ensures report { self.new.report ≡ self.old.report }
@@ -282,14 +282,14 @@ impl Gathered {
         let mut kept = Vec::new(self.alloc);
         kept.extend_from_slice(name)?;
         match self.names.push(kept) {
-            Ok(()) => Ok(None),
+            Ok(()) => Ok(Noted::nothing()),
             Err(_) => Err(Fault::Memory),
         }
     }
 
     /// Notes what the datagram in the packet that was counted last lacks, for its sender's dump:
     /// nothing is added to the one dump.
-    fn add_lack(&mut self, origin: Origin, lack: Lack) -> Result<Option<Origin>, Fault>
+    fn add_lack(&mut self, origin: Origin, lack: Lack) -> Result<Noted, Fault>
         ensures wanted { self.new.wanted ≡ self.old.wanted }
         ensures names { self.new.names ≡ self.old.names }
         ensures dump { self.new.dump ≡ self.old.dump }
@@ -297,17 +297,17 @@ impl Gathered {
         ensures senders { self.new.senders ≡ self.old.senders }
         ensures dumps { OnOk result (self.new.dumps ≡ dump_added self.old.dumps origin []
             (Some (record { packet = self.old.report.packets; lack = lack }))) }
-        ensures origin { IfOk result (λ told. told ≡ None) }
+        ensures noted { IfOk result (λ noted. noted ≡ nothing_noted) }
         ensures err { IfErr result (λ fault. fault ≡ Fault.Memory) }
     {
         let packet = self.report.packets();
         self.dumps
             .add(&origin, None, Some(LackAt { packet, lack }))?;
-        Ok(None)
+        Ok(Noted::nothing())
     }
 
     /// Counts a packet for its sender, and whether octets come after its body, and adds it to a
-    /// dump, if one is wanted: whose it is, if its end in the one dump is noted.
+    /// dump, if one is wanted: what is noted of it.
     fn add(
         &mut self,
         at: u64,
@@ -316,7 +316,7 @@ impl Gathered {
         packet: &[u8],
         updates: &Updates,
         has_trailer: bool,
-    ) -> Result<Option<Origin>, Fault>
+    ) -> Result<Noted, Fault>
         requires count { updates.now.count ≡ updates_in packet.now }
         requires interval { updates.now.interval ≡ interval_in packet.now }
         ensures wanted { self.new.wanted ≡ self.old.wanted }
@@ -329,7 +329,7 @@ impl Gathered {
             (found origin.place origin.sender packet.now has_trailer)) }
         ensures senders { OnOk result (self.new.senders
             ≡ tallied self.old.senders origin time packet.now has_trailer) }
-        ensures origin { IfOk result (λ told. told ≡ origin_noted self.old.wanted
+        ensures noted { IfOk result (λ noted. noted ≡ noted_of self.old.wanted
             (found origin.place origin.sender packet.now has_trailer)) }
         ensures few { OnOk result (length self.new.senders ≤ 65536) }
         ensures err { IfErr result (λ fault. (fault ≡ Fault.Memory)
@@ -341,19 +341,22 @@ impl Gathered {
         self.senders
             .add(at, origin, time, packet, updates, has_trailer)?;
         let is_noted = match self.wanted {
-            Wanted::Everyone => return Ok(None),
+            Wanted::Everyone => return Ok(Noted::nothing()),
             Wanted::Each => {
                 let mut octets = Vec::new(self.alloc);
                 octets.extend_from_slice(packet)?;
                 let time = came.unwrap_or(Time::first());
                 self.dumps
                     .add(&origin, Some(TimedPacket { time, octets }), None)?;
-                return Ok(None);
+                return Ok(Noted::nothing());
             }
             Wanted::Sender { ends, .. } => ends,
             Wanted::InTurn { .. } => true,
         };
         self.dump.extend_from_slice(packet)?;
-        Ok(if is_noted { Some(origin) } else { None })
+        Ok(Noted {
+            origin: if is_noted { Some(origin) } else { None },
+            missed: None,
+        })
     }
 }

@@ -1,4 +1,4 @@
-ghost use Rattle.std.specs.Prelude.{◌≡◌, ◌≤◌, ◌<◌, ◌+◌, length, IfOk};
+ghost use Rattle.std.specs.Prelude.{◌≡◌, ◌≤◌, ◌<◌, ◌+◌, ◌⊎◌, length, IfOk};
 ghost use Rattle.babel_capture.specs.Lengths.{header_len, is_pcap_magic, is_section, pcap_order};
 ghost use Rattle.babel_capture.specs.Lengths.{section_order, section_len, total_len, record_len};
 ghost use Rattle.babel_capture.specs.Lengths.{first_len, layout_len};
@@ -101,18 +101,25 @@ fn section_len(header: &[u8], at: u64) -> Result<u32, Fault>
     }
 }
 
-/// The length of a record of a pcap file, of which one without octets is none.
-fn record_len(order: Order, header: &[u8], at: u64) -> Result<u32, Fault>
+/// The length of a record of a pcap file, of which one without octets is none; 0 for that where it
+/// is the end of what is read.
+fn record_len(to_cut: bool, order: Order, header: &[u8], at: u64) -> Result<u32, Fault>
     requires { 16 ≤ length header.now }
-    ensures value { result ≡ record_len order at header.now }
-    ensures long { IfOk result (λ len. (16 ≤ len) × (len ≤ 16777216)) }
+    ensures value { result ≡ record_len to_cut order at header.now }
+    ensures long { IfOk result (λ len. ((len ≡ 0) ⊎ (16 ≤ len)) × (len ≤ 16777216)) }
 {
     let captured = order.u32_at(header, 8);
-    let is_blank = captured == 0 && order.u32_at(header, 12) == 0;
-    if captured > LONGEST_PACKET || is_blank {
+    if captured > LONGEST_PACKET {
         return Err(Fault::BadLength { at });
     }
-    Ok(RECORD_HEADER + captured)
+    if captured > 0 || order.u32_at(header, 12) > 0 {
+        return Ok(RECORD_HEADER + captured);
+    }
+    if to_cut {
+        Ok(0)
+    } else {
+        Err(Fault::BadLength { at })
+    }
 }
 
 /// The length of a capture's first block.
@@ -142,15 +149,17 @@ impl Layout {
         }
     }
 
-    /// The length of the block that begins with this header, at this offset.
-    pub fn block_len(self, header: &[u8], at: u64) -> Result<u32, Fault>
+    /// The length of the block that begins with this header, at this offset; 0 where what is read
+    /// ends, which is so only with `to_cut`.
+    pub fn block_len(self, to_cut: bool, header: &[u8], at: u64) -> Result<u32, Fault>
         requires { header_len self ≤ length header.now }
-        ensures value { result ≡ layout_len self at header.now }
-        ensures long { IfOk result (λ len. (header_len self ≤ len) × (len ≤ 16777216)) }
+        ensures value { result ≡ layout_len to_cut self at header.now }
+        ensures long { IfOk result
+            (λ len. ((len ≡ 0) ⊎ (header_len self ≤ len)) × (len ≤ 16777216)) }
     {
         match self {
             Layout::Start => first_len(header, at),
-            Layout::Pcap(order) => record_len(order, header, at),
+            Layout::Pcap(order) => record_len(to_cut, order, header, at),
             Layout::Section(order) => {
                 if is_section(header) {
                     section_len(header, at)

@@ -1,3 +1,4 @@
+use crate::noted::Missed;
 use crate::tallies::Origin;
 use crate::time::Time;
 
@@ -15,4 +16,7 @@ pub struct PacketEnd {
     /// Who sent the packet, and where it was captured; `None` where the packet of the capture gives
     /// the dump none, which has an end only under `Wanted::InTurn`: that of the packet before.
     pub origin: Option<Origin>,
+    /// The datagram that the packet of the capture holds, where it lacks something and is left out;
+    /// `None` but under `Wanted::InTurn` without a named sender.
+    pub missed: Option<Missed>,
 }

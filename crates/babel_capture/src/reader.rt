@@ -1,14 +1,14 @@
 ghost use Rattle.std.specs.Prelude.{◌≡◌, ◌↔◌, IsTrue, ◌≤◌, ◌<◌, ◌+◌, ◌-◌, ◌^◌, ◌++◌, ◌⊎◌, ℕ, List};
 ghost use Rattle.std.specs.Prelude.{[], length, take, drop, OnOk, IfOk, IfErr, IfSome, IfNone, Err};
 ghost use Rattle.std.specs.Prelude.{Ok, ◌&&◌};
-ghost use Rattle.babel_capture.specs.Blocks.{BeginsBlock, HasHeader, IsBlock, IsPartial, header_of};
+ghost use Rattle.babel_capture.specs.Blocks.{BeginsBlock, IsBlock, IsEnd, IsPartial};
 ghost use Rattle.babel_capture.specs.Blocks.{start};
 ghost use Rattle.babel_capture.specs.Contents.{Content, block_said, content_of};
 ghost use Rattle.babel_capture.specs.Findings.{is_in_turn};
 ghost use Rattle.babel_capture.specs.Gathering.{BlockNeedsMemory};
-ghost use Rattle.babel_capture.specs.Lengths.{block_len};
 ghost use Rattle.babel_capture.specs.PacketEnds.{is_noted, is_packet};
-ghost use Rattle.babel_capture.specs.Reading.{Account, BlockFails, EachHasEnd, HasStarted, LeadTo};
+ghost use Rattle.babel_capture.specs.Reading.{Account, BlockFails, EachHasEnd, HasStarted};
+ghost use Rattle.babel_capture.specs.Reading.{HeaderFails, LeadTo};
 ghost use Rattle.babel_capture.specs.Reading.{NeedsMemory, Stops, with_end, without_dump};
 
 use crate::block::{Block, read_block};
@@ -16,6 +16,7 @@ use crate::context::Context;
 use crate::fault::Fault;
 use crate::gathered::Gathered;
 use crate::layout::Layout;
+use crate::noted::Missed;
 use crate::packet_end::PacketEnd;
 use crate::tallies::Origin;
 use crate::time::Time;
@@ -31,6 +32,7 @@ pub struct Reader {
     gathered: Gathered,
     ends: Vec<PacketEnd>,
     at: u64,
+    passed: u64,
 }
 
 impl Model for Reader {
@@ -45,27 +47,32 @@ impl Model for Reader {
       gathering = r.gathered;
       ends = r.ends.items;
       at = r.at;
+      passed = r.passed;
     } };
 
     ghost invariant = { λ r. (r.gathered.report.packets ≤ r.at) × (r.at ≤ r.context.limit) };
 }
 
 impl Reader {
-    /// Nothing was read yet, of so many octets at most and of packets of this window.
-    pub fn new(alloc: Global, limit: u64, window: &Window, wanted: Wanted) -> Reader
+    /// Nothing was read yet, of so many octets at most and of packets of this window; with
+    /// `to_cut`, up to a record that a full disk leaves.
+    pub fn new(alloc: Global, limit: u64, window: &Window, to_cut: bool, wanted: Wanted) -> Reader
         ensures none { LeadTo (record {
-          limit = record { octets = limit; window = window.now };
+          limit = record { octets = limit; window = window.now; to_cut = to_cut };
           taken = [];
         }) [] result }
-        ensures context { result.context ≡ start (record { octets = limit; window = window.now }) }
+        ensures context { result.context ≡ start
+            (record { octets = limit; window = window.now; to_cut = to_cut }) }
         ensures wanted { result.gathering.wanted ≡ wanted }
         ensures dump { result.gathering.dump ≡ [] }
+        ensures passed { result.passed ≡ 0 }
     {
         Reader {
-            context: Context::new(alloc, limit, window),
+            context: Context::new(alloc, limit, window, to_cut),
             gathered: Gathered::new(alloc, wanted),
             ends: Vec::new(alloc),
             at: 0,
+            passed: 0,
         }
     }
 
@@ -84,6 +91,7 @@ impl Reader {
         requires room { length block.now ≤ self.old.context.limit - self.old.at }
         requires fits { self.old.at + length block.now < 2 ^ 64 }
         ensures wanted { self.new.gathering.wanted ≡ self.old.gathering.wanted }
+        ensures passed { self.new.passed ≡ self.old.passed }
         ensures ok { OnOk result ((account : Account) (read : List ℕ)
             → LeadTo account read self.old → LeadTo account (read ++ block.now) self.new) }
         ensures err { IfErr result (λ fault. (fault ≡ Fault.Memory)
@@ -97,19 +105,25 @@ impl Reader {
         let said = read_block(&self.context, self.at, block)?;
         let at = self.at;
         self.at += block.len() as u64;
-        let origin = self.gathered.take_said(at, &said)?;
-        self.note_end(&said, origin)?;
+        let noted = self.gathered.take_said(at, &said)?;
+        self.note_end(&said, noted.origin, noted.missed)?;
         self.context.take(&said)?;
         Ok(())
     }
 
     /// Notes where the dump ends, if the block that was taken last added a packet of this origin to
     /// it, or says one that is told in turn.
-    fn note_end(&mut self, said: &Block<'_>, origin: Option<Origin>) -> Result<(), Fault>
+    fn note_end(
+        &mut self,
+        said: &Block<'_>,
+        origin: Option<Origin>,
+        missed: Option<Missed>,
+    ) -> Result<(), Fault>
         ensures others { (self.new.context ≡ self.old.context)
-            × (self.new.gathering ≡ self.old.gathering) × (self.new.at ≡ self.old.at) }
+            × (self.new.gathering ≡ self.old.gathering) × (self.new.at ≡ self.old.at)
+            × (self.new.passed ≡ self.old.passed) }
         ensures ends { OnOk result
-            (self.new.ends ≡ with_end self.old (content_of said.now) origin) }
+            (self.new.ends ≡ with_end self.old (content_of said.now) origin missed) }
         ensures err { IfErr result (λ fault. (fault ≡ Fault.Memory)
             × IsTrue (is_noted (is_packet (content_of said.now)
             && is_in_turn self.old.gathering.wanted) origin)) }
@@ -126,6 +140,7 @@ impl Reader {
             number,
             time,
             origin,
+            missed,
         };
         match self.ends.push(packet) {
             Ok(()) => Ok(()),
@@ -150,11 +165,38 @@ impl Reader {
             × (self.now.at + length block.now < 2 ^ 64))) }
         ensures less { IfOk result (λ found. IfNone found
             (IsPartial self.now.context self.now.at octets.now)) }
-        ensures err { IfErr result (λ fault. HasHeader self.now.context octets.now
-            × (block_len self.now.context self.now.at (header_of self.now.context octets.now)
-            ≡ Err fault)) }
+        ensures err { IfErr result
+            (λ fault. HeaderFails self.now.context self.now.at octets.now fault) }
     {
         self.context.first_block(self.at, octets)
+    }
+
+    /// Whether these octets begin with the end of what is read.
+    pub fn is_end(&self, octets: &[u8]) -> bool
+        ensures { IsTrue result ↔ IsEnd self.now.context self.now.at octets.now }
+    {
+        self.context.is_end(self.at, octets)
+    }
+
+    /// Passes over more octets after the end of what is read, where these are kept of those from
+    /// the end on; `TooLong` where all of them go past the limit.
+    pub fn pass_over(&mut self, kept: &[u8], more: &[u8]) -> Result<(), Fault>
+        ensures gathering { self.new.gathering ≡ self.old.gathering }
+        ensures ok { OnOk result
+            ((self.new ≡ record self.old { passed = self.old.passed + length more.now })
+            × (length kept.now + (self.old.passed + length more.now)
+            ≤ self.old.context.limit - self.old.at)) }
+        ensures err { IfErr result (λ fault. (fault ≡ Fault.TooLong self.old.at)
+            × (self.old.context.limit - self.old.at
+            < length kept.now + (self.old.passed + length more.now))) }
+    {
+        let room = self.context.limit().saturating_sub(self.at);
+        let all = kept.len() as u128 + u128::from(self.passed) + more.len() as u128;
+        if all > u128::from(room) {
+            return Err(Fault::TooLong { at: self.at });
+        }
+        self.passed += more.len() as u64;
+        Ok(())
     }
 
     /// How many octets these lack to be a block, or to be its header; 0 if there are none.
@@ -169,6 +211,7 @@ impl Reader {
     /// Takes the whole blocks that the octets begin with: how many octets they are.
     pub fn take_blocks(&mut self, octets: &[u8]) -> Result<usize, Fault>
         ensures wanted { self.new.gathering.wanted ≡ self.old.gathering.wanted }
+        ensures passed { self.new.passed ≡ self.old.passed }
         ensures used { IfOk result (λ used. used ≤ length octets.now) }
         ensures took { IfOk result (λ used. (account : Account) (read : List ℕ)
             → LeadTo account read self.old

@@ -83,7 +83,8 @@ impl Stream {
         self.reader.lacking(&self.pending).min(piece.len())
     }
 
-    /// Takes octets that come after those of the block that is pending.
+    /// Takes octets that come after those of the block that is pending. Those after the end of what
+    /// is read are passed over.
     fn take_behind(&mut self, piece: &[u8]) -> Result<(), Fault>
         ensures wanted { self.new.reader.gathering.wanted ≡ self.old.reader.gathering.wanted }
         ensures ok { OnOk result ((account : Account) (fed : List ℕ)
@@ -95,6 +96,9 @@ impl Stream {
             → Stops account.limit self.old.reader.gathering.wanted (fed ++ piece.now) fault)) }
         ensures turns { OnOk result (EachHasEnd self.old.reader self.new.reader) }
     {
+        if self.reader.is_end(&self.pending) {
+            return self.reader.pass_over(&self.pending, piece);
+        }
         self.pending.extend_from_slice(piece)?;
         let used = self.reader.take_blocks(&self.pending)?;
         remove_front(&mut self.pending, used);
@@ -129,17 +133,18 @@ impl Stream {
         Ok(())
     }
 
-    /// No octets yet, of so many at most and of packets of this window.
-    pub fn new(alloc: Global, limit: u64, window: &Window, wanted: Wanted) -> Stream
+    /// No octets yet, of so many at most and of packets of this window; with `to_cut`, up to a
+    /// record that a full disk leaves.
+    pub fn new(alloc: Global, limit: u64, window: &Window, to_cut: bool, wanted: Wanted) -> Stream
         ensures none { HasTaken (record {
-          limit = record { octets = limit; window = window.now };
+          limit = record { octets = limit; window = window.now; to_cut = to_cut };
           taken = [];
         }) result.reader result.pending.items [] }
         ensures wanted { result.reader.gathering.wanted ≡ wanted }
         ensures dump { result.reader.gathering.dump ≡ [] }
     {
         Stream {
-            reader: Reader::new(alloc, limit, window, wanted),
+            reader: Reader::new(alloc, limit, window, to_cut, wanted),
             pending: Vec::new(alloc),
         }
     }

@@ -6,12 +6,12 @@ use Rattle.babel_capture.specs.Counting.{counted_at, counted_in, counted_with, p
 use Rattle.babel_capture.specs.Counts.{Counts}
 use Rattle.babel_capture.specs.Findings.{Finds, finding_of, found, lacked, left, passed, untold}
 use Rattle.babel_capture.specs.Dumps.{dumps_by, dumps_with}
-use Rattle.babel_capture.specs.Gathering.{Gathering, dump_with, origin_noted, with_taken}
+use Rattle.babel_capture.specs.Gathering.{Gathering, dump_with, noted_of, with_taken}
 use Rattle.babel_capture.specs.Tallies.{tallied}
 use Rattle.babel_capture.specs.Times.{kept, time_in}
 use Rattle.babel_capture.specs.Updates.{interval_in}
 use Rattle.babel_capture.proofs.GatherLaws.{dump-after, each_wanted, finds-at, found-needs, found-push, if-err-all, on-ok, on-ok4}
-use Rattle.babel_capture.proofs.GatherLaws.{lack-refused, lacked-push, left-push, no-origin, none-added, passed-push, short-push, some-origin, too-many-refused}
+use Rattle.babel_capture.proofs.GatherLaws.{lack-refused, lacked-push, left-push, no-origin, noted-ok, noted-one, passed-push, short-push, too-many-refused}
 use Rattle.babel_capture.proofs.MemoryLaws.{lack-other}
 use Rattle.babel_capture.proofs.gathered.Gathered.take_packet.Goals as goal
 
@@ -57,7 +57,7 @@ returns-in-Left-clause-ok c taken before gathered =
     ∙ ap (λ (t : Option ℕ). counted_at c.args.self.now.report (kept t c.babel_section-section.result)) c.time-came.ensures
     ∙ ap (λ (s : Option ℕ). counted_at c.args.self.now.report (kept (time_in (captured_of c.args.packet.now).moment) s))
     (c.babel_section-section.ensures ∙ ap (section_with (captured_of c.args.packet.now).section) c.look-seen.ensures) in
-    left-push before (sighting_of (c.args.self.now.report.packets + 1) c.args.at (captured_of c.args.packet.now)) (with_taken taken c.args.self.now) _ _ c.in-Left.reason (ap finding_of c.in-Left.is)
+    left-push before (sighting_of (c.args.self.now.report.packets + 1) c.args.at (captured_of c.args.packet.now)) (with_taken taken c.args.self.now) _ _ c.in-Left.reason c.in-Left.missed (ap finding_of c.in-Left.is)
     wanted
     (ap (λ (g : Gathering). taken ++ g.dump) c.self.view_is) (ap (λ (g : Gathering). g.dumps) c.self.view_is)
     (c.count-in-Left.ensures ∙ ap (λ (r : Counts). counted_with r (Some c.in-Left.reason)) timed)
@@ -104,23 +104,23 @@ returns-in-Packet-clause-err c =
     (record { place = c.in-Packet.place; sender = c.in-Packet.sender }) c.in-Packet.octets.now c.in-Packet.has_trailer _
     (ap (λ (g : Gathering). g.senders) c.self.view_is) (ap finding_of c.in-Packet.is) (finds-at _ _ _ _ _ wanted c.look-seen.ensures c.finding.ensures) c.add.ensures.err
 
-pub returns-in-Passed-clause-origin : goal.returns-in-Passed-clause-origin
-returns-in-Passed-clause-origin c =
-    no-origin c.args.self.now.wanted _ _ passed (ap finding_of c.in-Passed.is) refl (finds-at _ _ _ _ _ (ap (λ (g : Gathering). g.wanted) c.self.view_is) c.look-seen.ensures c.finding.ensures)
+pub returns-in-Passed-clause-noted : goal.returns-in-Passed-clause-noted
+returns-in-Passed-clause-noted c =
+    noted-one c.args.self.now.wanted _ _ passed _ (ap finding_of c.in-Passed.is) (finds-at _ _ _ _ _ (ap (λ (g : Gathering). g.wanted) c.self.view_is) c.look-seen.ensures c.finding.ensures) (c.nothing.ensures ∙ no-origin _ passed refl)
 
-pub returns-in-Short-clause-origin : goal.returns-in-Short-clause-origin
-returns-in-Short-clause-origin c =
-    no-origin c.args.self.now.wanted _ _ untold (ap finding_of c.in-Short.is) refl (finds-at _ _ _ _ _ (ap (λ (g : Gathering). g.wanted) c.self.view_is) c.look-seen.ensures c.finding.ensures)
+pub returns-in-Short-clause-noted : goal.returns-in-Short-clause-noted
+returns-in-Short-clause-noted c =
+    noted-one c.args.self.now.wanted _ _ untold _ (ap finding_of c.in-Short.is) (finds-at _ _ _ _ _ (ap (λ (g : Gathering). g.wanted) c.self.view_is) c.look-seen.ensures c.finding.ensures) (c.nothing-in-Short.ensures ∙ no-origin _ untold refl)
 
-pub returns-in-Left-clause-origin : goal.returns-in-Left-clause-origin
-returns-in-Left-clause-origin c =
-    no-origin c.args.self.now.wanted _ _ (left c.in-Left.reason) (ap finding_of c.in-Left.is) refl (finds-at _ _ _ _ _ (ap (λ (g : Gathering). g.wanted) c.self.view_is) c.look-seen.ensures c.finding.ensures)
+pub returns-in-Left-clause-noted : goal.returns-in-Left-clause-noted
+returns-in-Left-clause-noted c =
+    noted-one c.args.self.now.wanted _ _ (left c.in-Left.reason c.in-Left.missed) _ (ap finding_of c.in-Left.is) (finds-at _ _ _ _ _ (ap (λ (g : Gathering). g.wanted) c.self.view_is) c.look-seen.ensures c.finding.ensures) (c.left.ensures ∙ no-origin _ (left c.in-Left.reason c.in-Left.missed) refl)
 
-pub returns-in-Packet-clause-origin : goal.returns-in-Packet-clause-origin
-returns-in-Packet-clause-origin c =
+pub returns-in-Packet-clause-noted : goal.returns-in-Packet-clause-noted
+returns-in-Packet-clause-noted c =
     let what = found c.in-Packet.place c.in-Packet.sender c.in-Packet.octets.now c.in-Packet.has_trailer in
-    some-origin c.add.result c.args.self.now.wanted _ _ what _ (ap finding_of c.in-Packet.is) (finds-at _ _ _ _ _ (ap (λ (g : Gathering). g.wanted) c.self.view_is) c.look-seen.ensures c.finding.ensures)
-    (ap (λ (g : Gathering). origin_noted g.wanted what) c.self.view_is) c.add.ensures.origin
+    noted-ok c.add.result c.args.self.now.wanted _ _ what _ (ap finding_of c.in-Packet.is) (finds-at _ _ _ _ _ (ap (λ (g : Gathering). g.wanted) c.self.view_is) c.look-seen.ensures c.finding.ensures)
+    (ap (λ (g : Gathering). noted_of g.wanted what) c.self.view_is) c.add.ensures.noted
 
 pub returns-in-Refused-clause-memory : goal.returns-in-Refused-clause-memory
 returns-in-Refused-clause-memory c memory = absurd (lack-other c.args.at c.in-Refused.lack (sym c.fault.ensures.value ∙ memory))
@@ -156,11 +156,11 @@ returns-in-Lacking-clause-ok c =
     (c.add_lack.ensures.senders ∙ ap (λ (g : Gathering). g.senders) c.self.view_is)
     gathered refl (finds-at _ _ _ _ _ wanted c.look-seen.ensures c.finding.ensures)) c.add_lack.ensures.dumps
 
-pub returns-in-Lacking-clause-origin : goal.returns-in-Lacking-clause-origin
-returns-in-Lacking-clause-origin c =
+pub returns-in-Lacking-clause-noted : goal.returns-in-Lacking-clause-noted
+returns-in-Lacking-clause-noted c =
     let what = lacked c.in-Lacking.place c.in-Lacking.sender c.in-Lacking.lack in
-    some-origin c.add_lack.result c.args.self.now.wanted _ _ what None (ap finding_of c.in-Lacking.is) (finds-at _ _ _ _ _ (ap (λ (g : Gathering). g.wanted) c.self.view_is) c.look-seen.ensures c.finding.ensures)
-    (none-added c.args.self.now.wanted what refl) c.add_lack.ensures.origin
+    noted-ok c.add_lack.result c.args.self.now.wanted _ _ what _ (ap finding_of c.in-Lacking.is) (finds-at _ _ _ _ _ (ap (λ (g : Gathering). g.wanted) c.self.view_is) c.look-seen.ensures c.finding.ensures)
+    (no-origin c.args.self.now.wanted what refl) c.add_lack.ensures.noted
 
 pub returns-in-Lacking-clause-memory : goal.returns-in-Lacking-clause-memory
 returns-in-Lacking-clause-memory c =

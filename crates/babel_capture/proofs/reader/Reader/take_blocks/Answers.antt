@@ -39,6 +39,7 @@ pub loop-block-preserved : goal.loop-block-preserved
 loop-block-preserved c = record {
   turns = turns-on c.args.self.now c.loop-block.self c.take_block.new.self c.loop-block.invariant.wanted c.loop-block.invariant.turns c.in_ok-take_block.ensures.turns;
   wanted = c.take_block.ensures.wanted ∙ c.loop-block.invariant.wanted;
+  passed = c.take_block.ensures.passed ∙ c.loop-block.invariant.passed;
   within = used-within c.loop-block.self.context c.loop-block.self.at c.loop-block.used c.args.octets.now c.in-Some.block.now c.loop-block.invariant.within
       (some_of c.in_ok-block.field-0 _ (λ block. BeginsBlock c.loop-block.self.context c.loop-block.self.at (rest_of c.loop-block.used c.args.octets.now) block.now) c.in-Some.is
       c.in_ok-block.ensures.whole);
