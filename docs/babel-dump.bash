@@ -26,50 +26,7 @@ _babel_dump_senders() {
         cut -d ' ' -f 1
 }
 
-# The options that a word follows.
-_babel_dump_valued="--from --other-from --interface --other-interface --to --src --each --ignore"
-_babel_dump_valued="$_babel_dump_valued --color --body --max-routes --max-octets --within --match"
-_babel_dump_valued="$_babel_dump_valued --source --id --since --until --other-since"
-_babel_dump_valued="$_babel_dump_valued --other-until --expiry"
-
-# The options of a command.
-_babel_dump_options() {
-    local options="--from --interface --accept-cut --hold --v4-via-v6 --strict --quiet --json"
-    options="$options --short --max-routes --max-octets --since --until --expiry --help"
-    local other="--other-from --other-interface --other-since --other-until"
-    local filters="--within --match --source --id"
-    case $1 in
-        show) options="${options/ --strict/} $filters --summary" ;;
-        lookup) options="$options --to --src --each" ;;
-        pairs) options="$options $filters --count --ignore --routes" ;;
-        normalise) options="${options/ --json --short/} --hex --body --ignore --routes" ;;
-        key) options="${options/ --json --short/} --ignore --routes" ;;
-        compare)
-            options="$options $other --ignore --routes --all --count"
-            ;;
-        diff)
-            options="${options/ --json/} $other --ignore --stat --color"
-            ;;
-        senders)
-            options="--accept-cut --strict --quiet --json --short --max-octets --since"
-            options="$options --until --help"
-            ;;
-        extract)
-            options="--from --interface --hex --accept-cut --strict --quiet --max-octets --since"
-            options="$options --until --help"
-            ;;
-        events)
-            options="--from --interface --since --until --expiry --ignore --to --src --v4-via-v6"
-            options="$options --accept-cut --max-routes --json --quiet --help"
-            ;;
-        *) options= ;;
-    esac
-    printf '%s\n' "$options"
-}
-
 _babel_dump() {
-    local names="show lookup pairs normalise key compare diff senders extract events help --help"
-    names="$names --version"
     local line=${COMP_LINE:0:COMP_POINT} words word option front= found=
     # COMP_WORDS is cut at colons, which addresses have.
     read -ra words <<<"$line"
@@ -79,7 +36,7 @@ _babel_dump() {
         option=${word%%=*} word=${word#*=}
     fi
     case ${#words[@]}:$option in
-        2:*) found=$names ;;
+        2:*) found=$_babel_dump_names ;;
         *:--from) found=$(_babel_dump_senders 1) ;;
         *:--other-from) found=$(_babel_dump_senders 2) ;;
         *:--ignore)
@@ -101,6 +58,47 @@ _babel_dump() {
     fi
     # What stands before the last colon or = is no part of the word that bash completes.
     COMPREPLY=("${COMPREPLY[@]#"${word%"${word##*:}"}"}")
+}
+
+# Printed by tools/options.py.
+_babel_dump_names="show lookup normalise key pairs compare diff senders extract events help --help \
+--version"
+
+# The options that a word follows.
+_babel_dump_valued="--from --other-from --interface --other-interface --since --until --expiry \
+--ignore --to --src --max-routes --max-octets --other-since --other-until --within --match \
+--source --id --body --color --each"
+
+# The options of a command.
+_babel_dump_options() {
+    case $1 in
+        show) echo --from --interface --since --until --expiry --hold --v4-via-v6 --quiet \
+            --accept-cut --max-routes --max-octets --within --match --source --id --summary --json \
+            --short --help ;;
+        lookup) echo --from --interface --since --until --expiry --hold --v4-via-v6 --quiet \
+            --accept-cut --max-routes --max-octets --strict --json --short --to --src --each \
+            --help ;;
+        normalise) echo --from --interface --since --until --expiry --hold --v4-via-v6 --quiet \
+            --accept-cut --max-routes --max-octets --strict --ignore --routes --body --hex --help \
+            ;;
+        key) echo --from --interface --since --until --expiry --hold --v4-via-v6 --quiet \
+            --accept-cut --max-routes --max-octets --strict --ignore --routes --help ;;
+        pairs) echo --from --interface --since --until --expiry --hold --v4-via-v6 --quiet \
+            --accept-cut --max-routes --max-octets --within --match --source --id --strict \
+            --ignore --routes --json --short --count --help ;;
+        compare) echo --from --other-from --interface --other-interface --since --until --expiry \
+            --hold --v4-via-v6 --quiet --accept-cut --max-routes --max-octets --other-since \
+            --other-until --strict --ignore --json --short --routes --all --count --help ;;
+        diff) echo --from --other-from --interface --other-interface --since --until --expiry \
+            --hold --v4-via-v6 --quiet --accept-cut --max-routes --max-octets --other-since \
+            --other-until --strict --ignore --stat --color --short --help ;;
+        senders) echo --since --until --strict --accept-cut --quiet --max-octets --json --short \
+            --help ;;
+        extract) echo --from --interface --hex --since --until --strict --accept-cut --quiet \
+            --max-octets --help ;;
+        events) echo --from --interface --since --until --expiry --ignore --to --src --v4-via-v6 \
+            --accept-cut --max-routes --json --quiet --help ;;
+    esac
 }
 
 complete -F _babel_dump babel-dump

@@ -2,9 +2,6 @@
 
 # The senders of a capture: the first file that the line names, or a later one.
 function __babel_dump_senders
-    set -l valued from other-from interface other-interface to src each ignore color body
-    set -a valued max-routes max-octets within match source id since until
-    set -a valued other-since other-until expiry
     set -l words (commandline -po)
     set -l before (commandline -poc)
     # The word at the cursor may be empty: something has to stand there.
@@ -16,7 +13,7 @@ function __babel_dump_senders
     for word in $words[3..]
         if set -q skip[1]
             set -e skip
-        else if contains -- $word -- --$valued
+        else if __babel_dump_is_valued $word
             set skip yes
         else if not string match -q -- '-*' $word
             set -a files $word
@@ -33,61 +30,144 @@ function __babel_dump_option -a commands
     complete -c babel-dump -n "__fish_seen_subcommand_from $commands" $argv[2..]
 end
 
-set -l limited show lookup pairs normalise key compare diff senders extract
-set -l commands $limited events
-set -l of_senders show lookup pairs normalise key compare diff extract events
-set -l two compare diff
-set -l of_dumps show lookup pairs normalise key compare diff
-set -l views pairs normalise key compare diff
+# Printed by tools/options.py.
+# Whether a word follows an option.
+function __babel_dump_is_valued
+    contains -- $argv[1] --from --other-from --interface --other-interface --since --until \
+        --expiry --ignore --to --src --max-routes --max-octets --other-since --other-until \
+        --within --match --source --id --body --color --each
+end
 
-complete -c babel-dump -n "not __fish_seen_subcommand_from $commands help" -f
+complete -c babel-dump -n 'not __fish_seen_subcommand_from show lookup normalise key pairs compare diff senders extract events help' -f
 complete -c babel-dump -n __fish_use_subcommand -l help -d 'Print help'
 complete -c babel-dump -n __fish_use_subcommand -l version -d 'Print the version'
-complete -c babel-dump -n __fish_use_subcommand -a show -d 'Print the routes'
-complete -c babel-dump -n __fish_use_subcommand -a lookup -d 'Look up a route'
-complete -c babel-dump -n __fish_use_subcommand -a pairs -d 'Print blocks that share one answer'
-complete -c babel-dump -n __fish_use_subcommand -a normalise -d 'Write the canonical octets'
-complete -c babel-dump -n __fish_use_subcommand -a key -d 'Print a key of the answers'
-complete -c babel-dump -n __fish_use_subcommand -a compare -d 'Whether two inputs answer alike'
-complete -c babel-dump -n __fish_use_subcommand -a diff -d 'Print the routes that differ'
-complete -c babel-dump -n __fish_use_subcommand -a senders -d 'List who sent in a capture'
-complete -c babel-dump -n __fish_use_subcommand -a extract -d 'Write the dump of one sender'
-complete -c babel-dump -n __fish_use_subcommand -a events -d 'Print what changed in a capture'
-complete -c babel-dump -n __fish_use_subcommand -a help -d 'Print help'
+complete -c babel-dump -n __fish_use_subcommand -a show \
+    -d 'Print the routes, the number of TLVs, and why TLVs were ignored'
+complete -c babel-dump -n __fish_use_subcommand -a lookup \
+    -d 'Look up the route for a destination and a source'
+complete -c babel-dump -n __fish_use_subcommand -a normalise \
+    -d 'Write the canonical octets, equal for inputs that answer alike'
+complete -c babel-dump -n __fish_use_subcommand -a key \
+    -d 'Print the SHA-256 of the canonical octets of each file'
+complete -c babel-dump -n __fish_use_subcommand -a pairs \
+    -d 'Print the canonical pairs: the largest blocks that share one answer'
+complete -c babel-dump -n __fish_use_subcommand -a compare \
+    -d 'Print "same", or the lowest addresses for which two inputs differ'
+complete -c babel-dump -n __fish_use_subcommand -a diff \
+    -d 'Print the routes that differ in two inputs: - is gone, + is new'
+complete -c babel-dump -n __fish_use_subcommand -a senders \
+    -d 'List who sent Babel packets in a capture, where, and how much'
+complete -c babel-dump -n __fish_use_subcommand -a extract \
+    -d 'Write the dump of one sender of a capture (pcap, pcapng)'
+complete -c babel-dump -n __fish_use_subcommand -a events \
+    -d 'Print what changed in a capture, and when'
+complete -c babel-dump -n __fish_use_subcommand -a help \
+    -d 'Print help'
 
-__babel_dump_option "$commands" -l accept-cut -d 'Read a truncated capture'
-__babel_dump_option "$commands" -l quiet -d 'Suppress notes'
-__babel_dump_option "$limited" -l max-octets -x -d 'How many octets there may be'
-__babel_dump_option "$commands" -l since -x -d 'Skip what came before a time'
-__babel_dump_option "$commands" -l until -x -d 'Skip what came after a time'
-__babel_dump_option "$commands" -l help -d 'Print help'
-__babel_dump_option "$of_senders" -l from -x -a '(__babel_dump_senders 1)' -d 'The sender'
-__babel_dump_option "$of_senders" -l interface -x -d 'The place in a capture'
-__babel_dump_option "$of_dumps events" -l expiry -x -d 'Leave out what was not announced again'
-__babel_dump_option "$of_dumps" -l hold -d 'Keep retracted routes as unreachable'
-__babel_dump_option "$of_dumps events" -l v4-via-v6 -d 'Read IPv4 routes with an IPv6 next hop'
-__babel_dump_option "$of_dumps events" -l max-routes -x -d 'How many routes there may be'
-__babel_dump_option "$two" -l other-from -x -a '(__babel_dump_senders 2)' -d 'The other sender'
-__babel_dump_option "$two" -l other-interface -x -d 'The place in the other capture'
-__babel_dump_option "$two" -l other-since -x -d 'The same of the other capture'
-__babel_dump_option "$two" -l other-until -x -d 'The same of the other capture'
-__babel_dump_option "lookup $views senders extract" -l strict -d 'Reject what was not read'
-__babel_dump_option "show lookup pairs compare senders events" -l json -d 'Print JSON'
-__babel_dump_option "show lookup pairs compare diff senders" -l short -d 'Write IPv6 as fe80::1'
-__babel_dump_option "show pairs" -l within -x -d 'Only destinations in a prefix'
-__babel_dump_option "show pairs" -l match -x -d 'Only destinations that contain a prefix'
-__babel_dump_option "show pairs" -l source -x -d 'Only this source prefix'
-__babel_dump_option "show pairs" -l id -x -d 'Only this router-id'
-__babel_dump_option show -l summary -d 'Print only how many routes there are'
-__babel_dump_option "$views events" -l ignore -x -d 'Fields that do not count' \
-    -a '(__fish_append , next-hop router-id seqno metric)'
-__babel_dump_option "pairs normalise key compare" -l routes -d 'The routes, not the answers'
-__babel_dump_option "pairs compare" -l count -d 'Print only how many'
-__babel_dump_option "normalise extract" -l hex -d 'Write hexadecimal digits'
-__babel_dump_option normalise -l body -x -d 'How long the body of a packet may be'
-__babel_dump_option "lookup events" -l to -x -d 'The destination'
-__babel_dump_option "lookup events" -l src -x -d 'The source'
-__babel_dump_option lookup -l each -r -d 'A file of destinations and sources'
-__babel_dump_option compare -l all -d 'List every difference'
-__babel_dump_option diff -l stat -d 'Print a last line with counts'
-__babel_dump_option diff -l color -x -a 'auto always never' -d 'When routes are in colour'
+__babel_dump_option 'show lookup normalise key pairs compare diff senders extract events' -l help -d 'Print help'
+__babel_dump_option 'show lookup normalise pairs extract' -l from -x -a '(__babel_dump_senders 1)' \
+    -d 'The source address of the packets'
+__babel_dump_option 'key' -l from -x -a '(__babel_dump_senders 1)' \
+    -d 'The source address of the packets'
+__babel_dump_option 'compare diff' -l from -x -a '(__babel_dump_senders 1)' \
+    -d 'The address that the packets of FILE were sent from'
+__babel_dump_option 'events' -l from -x -a '(__babel_dump_senders 1)' \
+    -d 'The source address of the packets'
+__babel_dump_option 'compare diff' -l other-from -x -a '(__babel_dump_senders 2)' \
+    -d 'The address that the packets of OTHER were sent from'
+__babel_dump_option 'show lookup normalise key pairs extract' -l interface -x \
+    -d 'The place in a capture: the interface, as 1, with its link and VLANs if there are any, as 1/3, 1:10 or 1/3:10.20'
+__babel_dump_option 'compare diff' -l interface -x \
+    -d 'The place in FILE, if it is a capture: the interface, with its link and VLANs, as senders lists it'
+__babel_dump_option 'events' -l interface -x \
+    -d 'The place in the capture: the interface, with its link and VLANs, as senders lists it'
+__babel_dump_option 'compare diff' -l other-interface -x \
+    -d 'The same for OTHER, if it is a capture'
+__babel_dump_option 'extract' -l hex \
+    -d 'Write the octets as lower-case hexadecimal digits on one line'
+__babel_dump_option 'show lookup normalise key pairs compare diff senders extract events' -l since -x \
+    -d 'Skip what a capture has before TIME: a time with an offset, as 2026-11-25T13:30:22Z, seconds since 1970, as @1764077422.5, or seconds since the first record, as +90'
+__babel_dump_option 'show lookup normalise key pairs compare diff senders extract events' -l until -x \
+    -d 'Skip what a capture has after TIME'
+__babel_dump_option 'show lookup normalise key pairs compare diff' -l expiry -x \
+    -d 'Leave out what was not announced again within FACTOR times its Interval, at --until or else at the end of a capture'
+__babel_dump_option 'events' -l expiry -x \
+    -d 'Tell as well when a route was not announced again within FACTOR times its Interval'
+__babel_dump_option 'show lookup normalise key pairs compare diff' -l hold \
+    -d 'Keep a retracted route as unreachable, so that no less specific route takes its place'
+__babel_dump_option 'events' -l ignore -x -a '(__fish_append , next-hop router-id seqno metric)' \
+    -d 'Fields of a route that do not count: next-hop, router-id, seqno, metric, separated by commas'
+__babel_dump_option 'events' -l to -x \
+    -d 'Tell when the answer for this destination changes, and not what routes do'
+__babel_dump_option 'events' -l src -x \
+    -d 'The source of that answer, of the destination'\''s family'
+__babel_dump_option 'senders extract' -l strict \
+    -d 'Reject a capture if any datagram is left out'
+__babel_dump_option 'show lookup normalise key pairs compare diff events' -l v4-via-v6 \
+    -d 'Read IPv4 routes with an IPv6 next hop (address encoding 4, RFC 9229)'
+__babel_dump_option 'show lookup normalise key pairs compare diff' -l quiet \
+    -d 'Suppress the notes on standard error, and, of show, what comes after the routes'
+__babel_dump_option 'show lookup normalise key pairs compare diff senders extract events' -l accept-cut \
+    -d 'Read a truncated capture up to its last complete record'
+__babel_dump_option 'show lookup normalise key pairs compare diff' -l max-routes -x \
+    -d 'How many routes, and how many canonical pairs or differences, there may be'
+__babel_dump_option 'events' -l max-routes -x \
+    -d 'How many routes there may be, of all senders together'
+__babel_dump_option 'events' -l json \
+    -d 'Print one JSON object per line'
+__babel_dump_option 'senders extract events' -l quiet \
+    -d 'Suppress the notes on standard error'
+__babel_dump_option 'show lookup normalise key pairs compare diff' -l max-octets -x \
+    -d 'How many octets a dump may have, also one in a capture'
+__babel_dump_option 'senders extract' -l max-octets -x \
+    -d 'How many octets the capture may have'
+__babel_dump_option 'compare diff' -l other-since -x \
+    -d 'The same for OTHER'
+__babel_dump_option 'compare diff' -l other-until -x \
+    -d 'The same for OTHER'
+__babel_dump_option 'show pairs' -l within -x \
+    -d 'Only what has PREFIX or a longer prefix in it as its destination'
+__babel_dump_option 'show pairs' -l match -x \
+    -d 'Only what has a destination that contains PREFIX, which may be an address'
+__babel_dump_option 'show pairs' -l source -x \
+    -d 'Only what has exactly PREFIX as its source'
+__babel_dump_option 'show pairs' -l id -x \
+    -d 'Only routes with this router-id: 16 hexadecimal digits, or with colons as babeld writes it'
+__babel_dump_option 'lookup normalise key pairs compare diff' -l strict \
+    -d 'Reject a dump in which any TLV was ignored or a datagram left out, or that has no Update'
+__babel_dump_option 'normalise key pairs compare diff' -l ignore -x -a '(__fish_append , next-hop router-id seqno metric)' \
+    -d 'Fields of a route that do not count: next-hop, router-id, seqno, metric, separated by commas'
+__babel_dump_option 'normalise' -l routes \
+    -d 'Write the octets of the routes, not of the answers'
+__babel_dump_option 'key' -l routes \
+    -d 'Make the keys of the routes, not of the answers'
+__babel_dump_option 'pairs' -l routes \
+    -d 'Print the routes, a line for each, in place of the pairs'
+__babel_dump_option 'normalise' -l body -x \
+    -d 'How long the body of a packet may be, from 128 to 65535 octets'
+__babel_dump_option 'normalise' -l hex \
+    -d 'Write the octets as lower-case hexadecimal digits on one line'
+__babel_dump_option 'show' -l summary \
+    -d 'Print only how many routes, router-ids and next hops there are'
+__babel_dump_option 'diff' -l stat \
+    -d 'Print a last line: how many routes are gone, new, changed, and alike'
+__babel_dump_option 'diff' -l color -x -a 'auto always never' \
+    -d 'When routes are in colour'
+__babel_dump_option 'show lookup pairs compare senders' -l json \
+    -d 'Print one JSON object per line'
+__babel_dump_option 'show lookup pairs compare diff senders' -l short \
+    -d 'Write addresses as RFC 5952 does, fe80::1, and leave out a source prefix of length 0'
+__babel_dump_option 'compare' -l routes \
+    -d 'Compare the routes, not the answers'
+__babel_dump_option 'compare' -l all \
+    -d 'List every largest block of destinations and sources on which the inputs differ, or, with --routes, every route'
+__babel_dump_option 'compare' -l count \
+    -d 'With --all or --routes: print only how many such blocks, or routes, there are'
+__babel_dump_option 'pairs' -l count \
+    -d 'Print only how many rows and how many canonical pairs there are'
+__babel_dump_option 'lookup' -l to -x \
+    -d 'The destination to look up'
+__babel_dump_option 'lookup' -l src -x \
+    -d 'The source to look up, of the destination'\''s family'
+__babel_dump_option 'lookup' -l each -r \
+    -d 'Look up each destination and source in the file PAIRS (- for standard input) instead of --to and --src'

@@ -18,18 +18,14 @@ import subprocess
 import sys
 import tempfile
 
+from options import FLAGS
+
 TOP = pathlib.Path(__file__).resolve().parent.parent
 CRATE = TOP / "crates/babel_dump_program"
 PROGRAM = TOP / "build/babel-dump"
 
 # The program's statuses where a device failed, and where the pipe was closed; no answer.
 FAILED, CLOSED_PIPE, NO_ANSWER = 4, 141, 126
-
-# The options that no word follows.
-FLAGS = set(
-    "--hold --v4-via-v6 --strict --quiet --json --short --count --hex --all --routes --stat"
-    " --accept-cut --summary".split()
-)
 
 # `rt try` takes no more octets of standard input.
 MOST_INPUT = 64 << 20

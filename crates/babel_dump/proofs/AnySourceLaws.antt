@@ -1,6 +1,5 @@
 -- A row for a destination that is source-specific, among rows that are looked through.
-use Rattle.std.proofs.Common.{◌≡◌, refl, ℕ, zero, suc, ◌<◌, List, [], ◌∷◌, length, Any, ◌⊎◌, inl, inr, Option, Some, None, arith, ap, sym, subst, ◌∙◌}
-use Rattle.std.specs.Prelude.{slice_index_or}
+use Rattle.std.proofs.Common.{◌≡◌, refl, ℕ, zero, suc, List, [], ◌∷◌, ◌⊎◌, inl, inr, Option, Some, None, arith, ap, sym, subst, ◌∙◌}
 use Rattle.std.specs.Option.{SomeIff}
 use Rattle.babel_prefix.specs.Address.{Address}
 use Rattle.babel_tlv.specs.declared.held.Held.{Held}

@@ -49,7 +49,7 @@ blocks_within : (before : Before) (at : ℕ) (blocks : List BlockAt) → at ≤ 
     → at + length (octets_of blocks) ≤ before.limit
 blocks_within before at [] within are = omega arith
 blocks_within before at (block ∷ blocks) within (here, is_block, said, are) =
-    let one : length block.octets ≤ before.limit - at = within_ok before.limit at (layout_len before.layout at (header_of before block.octets)) (length block.octets) is_block.len in
+    let one : length block.octets ≤ before.limit - at = within_ok before.limit at (layout_len before.to_cut before.layout at (header_of before block.octets)) (length block.octets) is_block.len in
     let same : (context_after before block.content).limit ≡ before.limit = limit_after before block.content in
     let rest : at + length block.octets + length (octets_of blocks) ≤ (context_after before block.content).limit =
     blocks_within (context_after before block.content) (at + length block.octets) blocks (omega (arith, one, same, within)) are in
@@ -70,9 +70,10 @@ short_of limit at said pending less (Ok len) is =
 
 partial_short : (before : Before) (at : ℕ) (pending : List ℕ) → at ≤ before.limit → IsPartial before at pending → at + length pending < before.limit + 24
 partial_short before at pending within (inl less) = omega (arith, less, within, header_short before.layout)
-partial_short before at pending within (inr (header, less)) =
+partial_short before at pending within (inr (inr (end, few))) = omega (arith, few, within)
+partial_short before at pending within (inr (inl (header, less))) =
     let below : length pending < before.limit - at =
-    short_of before.limit at (layout_len before.layout at (header_of before pending)) pending less (block_len before at (header_of before pending)) refl in
+    short_of before.limit at (layout_len before.to_cut before.layout at (header_of before pending)) pending less (block_len before at (header_of before pending)) refl in
     omega (arith, below, within)
 
 -- octets without a fault are fewer than the limit and 24
@@ -84,7 +85,7 @@ taken_within account progress pending fed taken =
     blocks_within (start account.limit) 0 taken.leads.blocks (omega arith) taken.leads.are_blocks in
     let place : progress.at ≡ length (octets_of taken.leads.blocks) = taken.leads.place ∙ ap length taken.leads.whole in
     let read : length taken.read ≡ progress.at = sym taken.leads.place in
-    let short : progress.at + length pending < progress.context.limit + 24 =
-    partial_short progress.context progress.at pending (omega (arith, behind, blocks, place)) taken.partial in
-    let all : length fed ≡ length taken.read + length pending = ap length taken.whole ∙ length-append taken.read pending in
+    let short : progress.at + length taken.rest < progress.context.limit + 24 =
+    partial_short progress.context progress.at taken.rest (omega (arith, behind, blocks, place)) taken.partial in
+    let all : length fed ≡ length taken.read + length taken.rest = ap length taken.whole ∙ length-append taken.read taken.rest in
     omega (arith, all, read, short, behind)

@@ -1,5 +1,5 @@
 -- A capture that was read to its end, whose last block may be cut short, or which is refused.
-use Rattle.std.proofs.Common.{rules, arith, ◌≡◌, ◌≤◌, ℕ, length, Result, Ok, Err, IfSome, Bool, true, false, List, [], ◌++◌, Option, None, Some, append-nil, ap, subst, sym, ◌∙◌, inl, inr, refl}
+use Rattle.std.proofs.Common.{arith, ◌≡◌, ℕ, length, Ok, Err, IfSome, Bool, true, false, List, [], ◌++◌, Option, None, Some, append-nil, ap, subst, sym, ◌∙◌, inl, inr, refl}
 use Rattle.std.proofs.lemmas.Bool.{true≢false}
 use Rattle.std.proofs.lemmas.Option.{none-some, same_Some}
 use Rattle.babel_capture.specs.Capture.{EndsShort, IsRead, IsReadToCut}
@@ -67,7 +67,7 @@ cut_short limit octets gathering cut at some read = elim read.where_cut [
 pub end_refused : (reader : CaptureInput) (gathering : Gathering) (cut : Option ℕ) (fault : InputFault) → GaveToCut reader gathering cut
     → EndsRefused reader.reading.accept_cut reader.reading.strict gathering cut fault → NoDumpCause reader fault
 end_refused reader gathering cut (input_faults.Dump fault) given cause = cause
-end_refused reader gathering cut (input_faults.Ignored tlv) given cause = absurd cause
+end_refused reader gathering cut (input_faults.Ignored tlv ignores_4) given cause = absurd cause
 end_refused reader gathering cut (input_faults.Capture fault) given cause = λ not_memory.
     let at = cause.1.0 in
     let short : EndsShort (extent_of reader.reading) reader.wanted given.octets fault =
@@ -91,7 +91,7 @@ end_refused reader gathering cut (input_faults.SeveralInterfaces interfaces) giv
   several = cause.2;
   are = cause.3;
 }
-end_refused reader gathering cut (input_faults.NoPackets sender) given cause =
+end_refused reader gathering cut (input_faults.NoPackets absence) given cause =
     (gathering, cut, gave_so reader gathering cut cause.0 given, cause.1)
 end_refused reader gathering cut input_faults.NoUpdates given cause = absurd cause
 end_refused reader gathering cut input_faults.Read given cause = absurd cause
@@ -101,11 +101,11 @@ ends_with_taken : (source : CaptureSource) (dump : List ℕ) (cut : Option ℕ) 
     → EndsRefused source.reading.accept_cut source.reading.strict source.capture.progress.gathering cut fault
     → EndsRefused source.reading.accept_cut source.reading.strict (with_taken dump source.capture.progress.gathering) cut fault
 ends_with_taken source dump cut (input_faults.Dump fault) ends = ends
-ends_with_taken source dump cut (input_faults.Ignored tlv) ends = ends
+ends_with_taken source dump cut (input_faults.Ignored tlv ignores_4) ends = ends
 ends_with_taken source dump cut (input_faults.Capture fault) ends = ends
 ends_with_taken source dump cut (input_faults.LeftOut datagram) ends = ends
 ends_with_taken source dump cut (input_faults.SeveralInterfaces interfaces) ends = ends
-ends_with_taken source dump cut (input_faults.NoPackets sender) ends = ends
+ends_with_taken source dump cut (input_faults.NoPackets absence) ends = ends
 ends_with_taken source dump cut input_faults.NoUpdates ends = ends
 ends_with_taken source dump cut input_faults.Read ends = ends
 

@@ -6,7 +6,7 @@ use Rattle.std.specs.Io.KnownBytes.{Consumes, IsAtEnd, Keeps}
 use Rattle.std.proofs.KnownBytes.{Consumes-trans}
 use Rattle.std.proofs.Math.Seq.{take-add, take-append_seam}
 use Rattle.std.proofs.lemmas.List.{length-drop, take-append-drop}
-use Rattle.babel_capture.specs.Capture.{CaptureFault, HasFailed, HasGiven, HasGivenTo, HasRead, IsReadToCut, State}
+use Rattle.babel_capture.specs.Capture.{CaptureFault, HasGiven, HasGivenTo, HasRead, IsReadToCut, State}
 use Rattle.babel_capture.specs.Gathering.{with_taken}
 use Rattle.babel_capture.specs.declared.fault.Fault.{Fault}
 use Rattle.babel_capture.specs.declared.fault.Fault.TheVariants as faults
@@ -14,7 +14,6 @@ use Rattle.babel_dump.specs.Drained.{dump_extent, CaptureSource, EndsRefused, En
 use Rattle.babel_dump.specs.declared.captured.CaptureNotes.{CaptureNotes}
 use Rattle.babel_dump.specs.declared.input_fault.InputFault.{InputFault}
 use Rattle.babel_dump.specs.declared.input_fault.InputFault.TheVariants as input_faults
-use Rattle.babel_dump.specs.declared.reading.Reading.{Reading}
 
 pub none_given : (a : Option (List ℕ)) → Consumes a a []
 none_given None = tt

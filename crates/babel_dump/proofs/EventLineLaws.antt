@@ -1,22 +1,20 @@
 -- The lines of what is told, each with the name of its interface.
-use Rattle.std.proofs.Common.{◌≡◌, ℕ, List, [], ◌∷◌, ◌++◌, ◌+◌, ◌<◌, suc, length, drop, get_or, map, refl, sym, ap, subst, ◌∙◌, append-nil, drop-cons, arith}
+use Rattle.std.proofs.Common.{◌≡◌, ℕ, List, [], ◌∷◌, ◌++◌, map, refl, sym, ap, subst, ◌∙◌}
 use Rattle.std.specs.List.{flat_map}
 use Rattle.std.proofs.lemmas.List.{map-append}
 use Rattle.std.proofs.lemmas.List.Concat.{flat_map-append}
 use Rattle.std.specs.Io.KnownBytes.{Appends}
 use Rattle.std.proofs.KnownBytes.{Appends-trans}
-use Rattle.std.specs.Prelude.{Result, Ok}
 use Rattle.babel_capture.specs.Gathering.{Gathering, name_of}
 use Rattle.babel_timeline.specs.declared.telling.Telling.{Telling}
 use Rattle.babel_dump.specs.Device.{OutputState}
 use Rattle.babel_dump.specs.EventText.{event_in, speaker_of}
-use Rattle.babel_dump.specs.EventsRun.{AreLines}
-use Rattle.babel_dump.specs.Followed.{WroteLines, named_event}
+use Rattle.babel_dump.specs.EventsRun.{AreLines, WroteLines}
+use Rattle.babel_dump.specs.Followed.{named_event}
 use Rattle.babel_dump.specs.Run.{output}
-use Rattle.babel_dump.specs.Slices.{Took, WroteText}
+use Rattle.babel_dump.specs.Slices.{Took}
 use Rattle.babel_dump.specs.declared.events_job.Events.{Events}
 use Rattle.babel_dump.specs.declared.speaker.Speaker.{Speaker}
-use Rattle.babel_dump.proofs.SliceLaws.{wrote_last}
 
 module _ (events : Events) where
   pub are_lines : (gathering : Gathering) (told : List (Telling Speaker)) → AreLines events told (flat_map (named_event events gathering) told)

@@ -1,5 +1,5 @@
 -- What a teller tells in a run of events, and how far a capture was followed.
-use Rattle.std.proofs.Common.{◌≡◌, ℕ, Bool, ◌+◌, ◌<◌, ◌≤◌, List, [], ◌∷◌, ◌++◌, length, Option, None, Some, refl, sym, ap, subst, ◌∙◌, append_assoc, append-nil, arith, length-append}
+use Rattle.std.proofs.Common.{◌≡◌, ℕ, Bool, List, [], ◌∷◌, ◌++◌, length, Option, None, refl, sym, ap, subst, ◌∙◌, arith, length-append}
 use Rattle.std.specs.Prelude.{Result, Ok, Err, OnOk}
 use Rattle.std.specs.declared.cmp.Ordering.{Ordering}
 use Rattle.babel_capture.specs.declared.fault.Fault.{Fault}
@@ -22,35 +22,48 @@ use Rattle.babel_timeline.specs.declared.teller.Teller.{Teller}
 use Rattle.babel_timeline.specs.declared.telling.Telling.{Telling}
 use Rattle.babel_timeline.specs.Rows.{Rows}
 use Rattle.babel_timeline.specs.Telling.{AskedFor, Hears, TellsEnds, said_of}
-use Rattle.babel_dump.specs.EventsRun.{HaveTold, asked_by, followed_by, followed_extent}
-use Rattle.babel_dump.specs.Followed.{HearsPacket, IsFollowed, Suits}
+use Rattle.babel_timeline.specs.Hearing.{CountsPacket}
+use Rattle.babel_dump.specs.EventsRun.{asked_by, followed_by, followed_extent, speaker_at}
+use Rattle.babel_dump.specs.Followed.{HasHeard, HearsPacket, IsFollowed, Suits}
 use Rattle.babel_dump.specs.Speakers.{speaker_cmp}
 use Rattle.babel_dump.specs.declared.events.Followed.{Followed}
 use Rattle.babel_dump.specs.declared.events_job.Events.{Events}
 use Rattle.babel_dump.specs.declared.speaker.Speaker.{Speaker}
-use Rattle.babel_dump.proofs.EventsRuns.{told_of_none}
 
 pub under : {T E : Type 0} (A B : Type 0) (r : Result T E) → (A → OnOk r B) → OnOk r (A → B)
 under A B (Ok t) f = f
 under A B (Err e) f = tt
 
+pub suits_still : (old new : Teller Speaker) (events : Events) → (new.timeline.factor ≡ old.timeline.factor) × (new.interest ≡ old.interest) → Suits events old → Suits events new
+suits_still old new events same suits = record {
+  factor = same.0 ∙ suits.factor;
+  view = ap (λ i. i.view) same.1 ∙ suits.view;
+  asked = ap (λ i. i.asked) same.1 ∙ suits.asked;
+}
+
 module _ (cmp : Speaker → Speaker → Ordering) (order : cmp ≡ speaker_cmp) (events : Events) (teller : Teller Speaker) (suits : Suits events teller) where
-  pub hears_packet : (origin : Origin) (via : Bool) → via ≡ events.limits.via_v6 → (time at : ℕ) (packet : List ℕ) (rows after : Rows Speaker) (old new : List (Telling Speaker))
-      → Hears cmp teller.timeline.factor teller.interest.asked teller.interest.view (record { sender = origin.sender; place = origin.place })
-      (record { sender = origin.sender; via_v6 = via }) time at packet rows after old new
-      → HearsPacket events origin time packet rows after old new
-  hears_packet origin via via_is time at packet rows after old new hears =
-      let who : Speaker = record { sender = origin.sender; place = origin.place } in
-      let begin : Start = record { sender = origin.sender; via_v6 = events.limits.via_v6 } in
-      let with_via = subst (λ (v : Bool). Hears cmp teller.timeline.factor teller.interest.asked teller.interest.view who (record { sender = origin.sender; via_v6 = v }) time at packet rows after old new) via_is hears in
-      let one = subst (λ (k : Speaker → Speaker → Ordering). Hears k teller.timeline.factor teller.interest.asked teller.interest.view who begin time at packet rows after old new) order with_via in
-      let two = subst (λ (f : Option ℕ). Hears speaker_cmp f teller.interest.asked teller.interest.view who begin time at packet rows after old new) suits.factor one in
-      let three = subst (λ (a : AskedFor). Hears speaker_cmp events.expiry a teller.interest.view who begin time at packet rows after old new) suits.asked two in
-      let is = subst (λ (v : View). Hears speaker_cmp events.expiry (asked_by events) v who begin time at packet rows after old new) suits.view three in
+  pub hears_packet : (origin : Origin) (via : Bool) → via ≡ events.limits.via_v6 → (time at : ℕ) (packet : List ℕ) (new : Teller Speaker) (before told : List (Telling Speaker))
+      → (new.timeline.factor ≡ teller.timeline.factor) × (new.interest ≡ teller.interest)
+      → Hears cmp teller.timeline.factor teller.interest.asked teller.interest.view (speaker_at origin)
+      (record { sender = origin.sender; via_v6 = via }) time at packet teller.timeline.rows new.timeline.rows before told
+      → CountsPacket cmp (speaker_at origin) (record { sender = origin.sender; via_v6 = via }) packet teller.heard.entries new.heard.entries
+      → HearsPacket events origin time packet teller new before told
+  hears_packet origin via via_is time at packet new before told same hears counts =
+      let begin : Bool → Start = λ v. record { sender = origin.sender; via_v6 = v } in
+      let rows = teller.timeline.rows in
+      let after = new.timeline.rows in
+      let with_via = subst (λ (v : Bool). Hears cmp teller.timeline.factor teller.interest.asked teller.interest.view (speaker_at origin) (begin v) time at packet rows after before told) via_is hears in
+      let one = subst (λ (k : Speaker → Speaker → Ordering). Hears k teller.timeline.factor teller.interest.asked teller.interest.view (speaker_at origin) (begin events.limits.via_v6) time at packet rows after before told) order with_via in
+      let two = subst (λ (f : Option ℕ). Hears speaker_cmp f teller.interest.asked teller.interest.view (speaker_at origin) (begin events.limits.via_v6) time at packet rows after before told) suits.factor one in
+      let three = subst (λ (a : AskedFor). Hears speaker_cmp events.expiry a teller.interest.view (speaker_at origin) (begin events.limits.via_v6) time at packet rows after before told) suits.asked two in
+      let is = subst (λ (v : View). Hears speaker_cmp events.expiry (asked_by events) v (speaker_at origin) (begin events.limits.via_v6) time at packet rows after before told) suits.view three in
       record {
-        said = said_of (asked_by events) events.view who (told_from time (first_context begin) is.tlvs);
+        suits = suits_still teller new events same suits;
+        said = said_of (asked_by events) events.view (speaker_at origin) (told_from time (first_context (begin events.limits.via_v6)) is.tlvs);
         is_said = record { at = at; tlvs = is.tlvs; rest = is.rest; whole = is.whole; placed = is.placed; is = refl };
         tells = is.tells;
+        counts = subst (λ (k : Speaker → Speaker → Ordering). CountsPacket k (speaker_at origin) (begin events.limits.via_v6) packet teller.heard.entries new.heard.entries) order
+            (subst (λ (v : Bool). CountsPacket cmp (speaker_at origin) (begin v) packet teller.heard.entries new.heard.entries) via_is counts);
       }
 
   pub ends_tell_so : (until : ℕ) (rows after : Rows Speaker) (old new : List (Telling Speaker)) → TellsEnds cmp teller.timeline.factor teller.interest.asked until rows after old new
@@ -59,13 +72,6 @@ module _ (cmp : Speaker → Speaker → Ordering) (order : cmp ≡ speaker_cmp) 
       let one = subst (λ (k : Speaker → Speaker → Ordering). TellsEnds k teller.timeline.factor teller.interest.asked until rows after old new) order ends in
       let two = subst (λ (f : Option ℕ). TellsEnds speaker_cmp f teller.interest.asked until rows after old new) suits.factor one in
       subst (λ (a : AskedFor). TellsEnds speaker_cmp events.expiry a until rows after old new) suits.asked two
-
-pub suits_still : (old new : Teller Speaker) (events : Events) → (new.timeline.factor ≡ old.timeline.factor) × (new.interest ≡ old.interest) → Suits events old → Suits events new
-suits_still old new events same suits = record {
-  factor = same.0 ∙ suits.factor;
-  view = ap (λ i. i.view) same.1 ∙ suits.view;
-  asked = ap (λ i. i.asked) same.1 ∙ suits.asked;
-}
 
 -- ---- a capture of which nothing was read
 
@@ -87,7 +93,7 @@ unread : (events : Events) (state : State) → state.progress.gathering.wanted �
     → HasTaken (record { limit = followed_extent events; taken = [] }) state.progress state.pending [] → IsUnread events state
 unread events state wanted is =
     let blocks : is.leads.blocks ≡ [] =
-    no_blocks (start (followed_extent events)) 0 is.leads.blocks is.leads.are_blocks (sym is.leads.whole ∙ (no_parts is.read state.pending (sym is.whole)).0) in
+    no_blocks (start (followed_extent events)) 0 is.leads.blocks is.leads.are_blocks (sym is.leads.whole ∙ (no_parts is.read is.rest (sym is.whole)).0) in
     let made : is.leads.gathered.made ≡ [] =
     subst (λ (bs : List BlockAt). AreMade state.progress.gathering.wanted (sightings_of bs) is.leads.gathered.made) blocks is.leads.gathered.taken.are_made in
     let ends = is.leads.ends in
@@ -99,14 +105,12 @@ unread events state wanted is =
     }
 
 pub followed_none : (events : Events) (followed : Followed) → HasRead followed.capture [] → followed.capture.limit ≡ followed_extent events
-    → followed.capture.progress.gathering.wanted ≡ followed_by events → followed.capture.fault ≡ None → Suits events followed.teller → followed.teller.timeline.rows ≡ []
+    → followed.capture.progress.gathering.wanted ≡ followed_by events → followed.capture.fault ≡ None → HasHeard events [] [] followed.hearing
     → followed.told.items ≡ [] → IsFollowed events [] [] followed
-followed_none events followed read limit wanted fault suits rows told =
+followed_none events followed read limit wanted fault heard told =
     let taken : HasTaken (account_of followed.capture []) followed.capture.progress followed.capture.pending [] = subst (λ (f : Option Fault). HasGivenTo followed.capture [] f []) fault read in
     let begun = unread events followed.capture wanted
     (subst (λ (e : Extent). HasTaken (record { limit = e; taken = [] }) followed.capture.progress followed.capture.pending []) limit taken) in
-    let made = begun.read.leads.gathered.made in
-    let none : HaveTold events None made [] [] = subst (λ (m : List Made). HaveTold events None m [] []) (sym begun.made) (told_of_none events) in
     record {
       taken = [];
       read = begun.read;
@@ -114,7 +118,6 @@ followed_none events followed read limit wanted fault suits rows told =
       limit = limit;
       wanted = wanted;
       ends = begun.ends;
-      suits = suits;
-      have_told = subst (λ (r : Rows Speaker). HaveTold events None made followed.told.items r) (sym rows)
-          (subst (λ (t : List (Telling Speaker)). HaveTold events None made t []) (sym told) none);
+      has_heard = subst (λ (t : List (Telling Speaker)). HasHeard events begun.read.leads.gathered.made t followed.hearing) (sym told)
+          (subst (λ (m : List Made). HasHeard events m [] followed.hearing) (sym begun.made) heard);
     }

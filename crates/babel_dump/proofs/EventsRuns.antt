@@ -11,11 +11,11 @@ use Rattle.babel_capture.specs.Times.{time_of}
 use Rattle.babel_timeline.specs.declared.change.Change.{Change}
 use Rattle.babel_timeline.specs.declared.telling.Telling.{Telling}
 use Rattle.babel_timeline.specs.declared.telling.Telling.TheVariants as tellings
-use Rattle.babel_timeline.specs.Accounts.{IsAccount, Said}
+use Rattle.babel_timeline.specs.Accounts.{Said}
 use Rattle.babel_timeline.specs.Rows.{Rows}
 use Rattle.babel_timeline.specs.Telling.{AreAnswers, AskedFor, IsTold, Tells, TellsEnds}
 use Rattle.babel_timeline.proofs.TellingLaws.{ends_tell, expired_account, tells_then}
-use Rattle.babel_dump.specs.EventsRun.{AreInOrder, AreSaid, AreTold, AreUpTo, HaveTold, IsAccountOf, IsSaid, Says, asked_by}
+use Rattle.babel_dump.specs.EventsRun.{AreInOrder, AreSaid, AreTold, AreUpTo, HaveTold, IsSaid, Says, asked_by}
 use Rattle.babel_dump.specs.Speakers.{speaker_cmp, speaker_exact}
 use Rattle.babel_dump.proofs.SpeakerLaws.{speaker_total}
 use Rattle.babel_dump.specs.declared.events_job.Events.{Events}
@@ -42,7 +42,7 @@ are_said_more events (first ∷ made) one said here (front, later, is, says_firs
 pub says_nothing : (events : Events) (time : ℕ) (what : Found) → None ≡ origin_found what → Says events (Some time) what []
 says_nothing events time passed none = refl
 says_nothing events time untold none = refl
-says_nothing events time (left reason) none = refl
+says_nothing events time (left reason missed) none = refl
 says_nothing events time (refused lack) none = refl
 says_nothing events time (lacked place sender lack) none = refl
 says_nothing events time (found place sender packet has_trailer) none = absurd (let origin : Origin = record { place = place; sender = sender } in let bad : None ≡ Some origin = none in cc)
@@ -51,7 +51,7 @@ pub says_packet : (events : Events) (time : ℕ) (what : Found) (origin : Origin
     → IsSaid events time origin.place origin.sender packet said → Says events (Some time) what said
 says_packet events time passed origin packet said is octets is_said = absurd (let bad : Some origin ≡ None = is in cc)
 says_packet events time untold origin packet said is octets is_said = absurd (let bad : Some origin ≡ None = is in cc)
-says_packet events time (left reason) origin packet said is octets is_said = absurd (let bad : Some origin ≡ None = is in cc)
+says_packet events time (left reason missed) origin packet said is octets is_said = absurd (let bad : Some origin ≡ None = is in cc)
 says_packet events time (refused lack) origin packet said is octets is_said = absurd (let bad : Some origin ≡ None = is in cc)
 says_packet events time (lacked place sender lack) origin packet said is octets is_said = absurd (let bad : Some origin ≡ None = is in cc)
 says_packet events time (found place sender found_octets has_trailer) origin packet said is octets is_said =
@@ -73,14 +73,12 @@ in_order_front made one order front back at time split came =
 
 -- ---- what is told
 
-told_more : (asked : AskedFor) (changes more : List (Change Speaker)) (rows after : Rows Speaker) (before old new : Tellings)
-    → AreTold asked changes rows (before ++ old) → IsTold speaker_cmp asked more rows after old new → AreTold asked (changes ++ more) after (before ++ new)
-told_more None changes more rows after before old new are is =
-    ap (λ (t : Tellings). before ++ t) is ∙ sym (append_assoc before old (map tellings.Change more))
-    ∙ ap (λ (t : Tellings). t ++ map tellings.Change more) are ∙ sym (map-append tellings.Change changes more)
-told_more (Some pair) changes more rows after before old new are (answers, is, keeps) =
-    subst (λ (t : Tellings). AreAnswers speaker_cmp pair t after) (append_assoc before old answers ∙ ap (λ (t : Tellings). before ++ t) (sym is))
-    (keeps (before ++ old) are)
+told_more : (asked : AskedFor) (changes more : List (Change Speaker)) (rows after : Rows Speaker) (before here : Tellings)
+    → AreTold asked changes rows before → IsTold speaker_cmp asked more rows after [] here → AreTold asked (changes ++ more) after (before ++ here)
+told_more None changes more rows after before here are is =
+    ap (λ (t : Tellings). before ++ t) is ∙ ap (λ (t : Tellings). t ++ map tellings.Change more) are ∙ sym (map-append tellings.Change changes more)
+told_more (Some pair) changes more rows after before here are (answers, is, keeps) =
+    subst (λ (t : Tellings). AreAnswers speaker_cmp pair (before ++ t) after) (sym is) (keeps before are)
 
 -- ---- records
 
@@ -134,12 +132,12 @@ module _ (events : Events) where
     }
 
     -- a record with a time, of which this is told
-    pub told_timed : (time : ℕ) (here : List (Said Speaker)) (rows after : Rows Speaker) (old new : Tellings) → time_of one.came ≡ Some time → Says events (Some time) one.what here
-        → Tells speaker_cmp events.expiry (asked_by events) here time rows after old new → HaveTold events None made (before ++ old) rows
-        → HaveTold events None (made ++ one ∷ []) (before ++ new) after
-    told_timed time here rows after old new came says tells have = record {
-      said = have.said ++ here;
-      are_said = are_said_more events made one have.said here have.are_said (subst (λ (t : Option ℕ). Says events t one.what here) (sym came) says);
+    told_timed : (time : ℕ) (said : List (Said Speaker)) (rows after : Rows Speaker) (here : Tellings) → time_of one.came ≡ Some time → Says events (Some time) one.what said
+        → Tells speaker_cmp events.expiry (asked_by events) said time rows after [] here → HaveTold events None made before rows
+        → HaveTold events None (made ++ one ∷ []) (before ++ here) after
+    told_timed time said rows after here came says tells have = record {
+      said = have.said ++ said;
+      are_said = are_said_more events made one have.said said have.are_said (subst (λ (t : Option ℕ). Says events t one.what said) (sym came) says);
       changes = have.changes ++ tells.changes;
       account = λ order.
           let was = have.account (in_order_front made one order) in
@@ -149,32 +147,32 @@ module _ (events : Events) where
             account = tells.account have.said was.moment have.changes there was.account;
             reached = λ bound up none. subst (λ (t : Option ℕ). IfSome t (λ c. c ≤ bound)) came (up_to_front bound made one up).1;
           };
-      are_told = told_more (asked_by events) have.changes tells.changes rows after before old new have.are_told tells.told;
+      are_told = told_more (asked_by events) have.changes tells.changes rows after before here have.are_told tells.told;
     }
 
     -- one that gives no packet: what has expired is told
-    pub told_of_no_packet : (time : ℕ) (rows after : Rows Speaker) (old new : Tellings) → time_of one.came ≡ Some time → None ≡ origin_found one.what
-        → TellsEnds speaker_cmp events.expiry (asked_by events) time rows after old new → HaveTold events None made (before ++ old) rows
-        → HaveTold events None (made ++ one ∷ []) (before ++ new) after
-    told_of_no_packet time rows after old new came none ends have =
-        told_timed time [] rows after old new came (says_nothing events time one.what none)
-        (ends_tell speaker_cmp speaker_total speaker_exact events.expiry (asked_by events) time rows after old new ends) have
+    pub told_of_no_packet : (time : ℕ) (rows after : Rows Speaker) (here : Tellings) → time_of one.came ≡ Some time → None ≡ origin_found one.what
+        → TellsEnds speaker_cmp events.expiry (asked_by events) time rows after [] here → HaveTold events None made before rows
+        → HaveTold events None (made ++ one ∷ []) (before ++ here) after
+    told_of_no_packet time rows after here came none ends have =
+        told_timed time [] rows after here came (says_nothing events time one.what none)
+        (ends_tell speaker_cmp speaker_total speaker_exact events.expiry (asked_by events) time rows after [] here ends) have
 
     -- one that gives a packet
-    pub told_of_packet : (time : ℕ) (origin : Origin) (packet : List ℕ) (said : List (Said Speaker)) (rows mid after : Rows Speaker) (old told new : Tellings) → time_of one.came ≡ Some time
+    pub told_of_packet : (time : ℕ) (origin : Origin) (packet : List ℕ) (said : List (Said Speaker)) (rows mid after : Rows Speaker) (told here : Tellings) → time_of one.came ≡ Some time
         → Some origin ≡ origin_found one.what → packet ≡ octets_found one.what → IsSaid events time origin.place origin.sender packet said
-        → TellsEnds speaker_cmp events.expiry (asked_by events) time rows mid old told → Tells speaker_cmp events.expiry (asked_by events) said time mid after told new
-        → HaveTold events None made (before ++ old) rows → HaveTold events None (made ++ one ∷ []) (before ++ new) after
-    told_of_packet time origin packet said rows mid after old told new came is octets is_said ends tells have =
-        told_timed time said rows after old new came (says_packet events time one.what origin packet said is octets is_said)
-        (tells_then speaker_cmp speaker_total speaker_exact events.expiry (asked_by events) [] said time rows mid after old told new
-        (ends_tell speaker_cmp speaker_total speaker_exact events.expiry (asked_by events) time rows mid old told ends) tells) have
+        → TellsEnds speaker_cmp events.expiry (asked_by events) time rows mid [] told → Tells speaker_cmp events.expiry (asked_by events) said time mid after told here
+        → HaveTold events None made before rows → HaveTold events None (made ++ one ∷ []) (before ++ here) after
+    told_of_packet time origin packet said rows mid after told here came is octets is_said ends tells have =
+        told_timed time said rows after here came (says_packet events time one.what origin packet said is octets is_said)
+        (tells_then speaker_cmp speaker_total speaker_exact events.expiry (asked_by events) [] said time rows mid after [] told here
+        (ends_tell speaker_cmp speaker_total speaker_exact events.expiry (asked_by events) time rows mid [] told ends) tells) have
 
   -- what expires besides, up to a moment
-  pub told_until : (made : List Made) (moment : ℕ) (rows after : Rows Speaker) (before old new : Tellings)
-      → TellsEnds speaker_cmp events.expiry (asked_by events) moment rows after old new → HaveTold events None made (before ++ old) rows
-      → HaveTold events (Some moment) made (before ++ new) after
-  told_until made moment rows after before old new ends have = record {
+  pub told_until : (made : List Made) (moment : ℕ) (rows after : Rows Speaker) (before here : Tellings)
+      → TellsEnds speaker_cmp events.expiry (asked_by events) moment rows after [] here → HaveTold events None made before rows
+      → HaveTold events (Some moment) made (before ++ here) after
+  told_until made moment rows after before here ends have = record {
     said = have.said;
     are_said = have.are_said;
     changes = have.changes ++ ends.changes;
@@ -182,7 +180,7 @@ module _ (events : Events) where
         let was = have.account order in
         let is = expired_account speaker_cmp speaker_total speaker_exact events.expiry moment ends.changes rows after ends.ends have.said was.moment have.changes was.account in
         record { moment = is.0; account = is.1; reached = λ bound up last. is.2 bound (was.reached bound up tt) last };
-    are_told = told_more (asked_by events) have.changes ends.changes rows after before old new have.are_told ends.told;
+    are_told = told_more (asked_by events) have.changes ends.changes rows after before here have.are_told ends.told;
   }
 
   pub told_so : (made : List Made) (until : Option ℕ) (told : Tellings) (rows : Rows Speaker) → HaveTold events None made told rows → HaveTold events until made told rows

@@ -5,7 +5,7 @@ use Rattle.std.specs.Prelude.{IfOk, IfErr}
 use Rattle.babel_dump.specs.Command.{CompareCause}
 use Rattle.babel_dump.specs.Device.{AppendsPrefix}
 use Rattle.babel_dump.specs.Given.{Input, Reads}
-use Rattle.babel_dump.specs.JobRun.{CauseBy, OtherCalled, RanJob, SaysBy, first_calls, other_calls}
+use Rattle.babel_dump.specs.JobRun.{CauseBy, OtherCalled, RanJob, other_calls}
 use Rattle.babel_dump.specs.Parts.{FoundBy, Gathered, Says}
 use Rattle.babel_dump.specs.Run.{Called, Calls, OfFirst, OfStatus, Output, Ran, RanAlone, UnlessWrite, calls_of, run_status}
 use Rattle.babel_dump.specs.SlicedRows.{Finished, found_text}

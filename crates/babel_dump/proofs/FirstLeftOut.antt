@@ -8,6 +8,7 @@ use Rattle.std.proofs.lemmas.Bool.{cases_lt, false≢true, ltb-true, lt-ltb}
 use Rattle.babel_prefix.proofs.Members.{Contains-from_Listed, Listed, Listed-from_Contains, find-Some}
 use Rattle.babel_capture.specs.declared.reason.Reason.{Reason}
 use Rattle.babel_capture.specs.declared.reason.Reason.TheVariants as reasons
+use Rattle.babel_capture.specs.declared.tallies.Origin.{Origin}
 use Rattle.babel_capture.specs.declared.wanted.Wanted.{Wanted}
 use Rattle.babel_capture.specs.Blocks.{BlockAt, sightings_behind, sightings_in}
 use Rattle.babel_capture.specs.Contents.{Content, file, section, describes, holds, skips, nothing}
@@ -16,7 +17,7 @@ use Rattle.babel_capture.specs.Findings.{Found, passed, untold, left, refused, l
 use Rattle.babel_capture.specs.Gathering.{AreMade, Gathering}
 use Rattle.babel_capture.specs.Window.{Extent}
 use Rattle.babel_dump.specs.CaptureGiven.{IsReadSo, extent_of}
-use Rattle.babel_dump.specs.FirstLeftOut.{IsFirstLeftOut, NoneIsLeftOut, RefusedIsFirst, made_of}
+use Rattle.babel_dump.specs.FirstLeftOut.{IsFirstLeftOut, IsLeftFor, NoneIsLeftOut, RefusedIsFirst, made_of}
 use Rattle.babel_dump.specs.LeftOut.{first_among, first_counted, left_out_for, sooner}
 use Rattle.babel_dump.specs.declared.left_out.LeftOutDatagram.{LeftOutDatagram}
 use Rattle.babel_dump.proofs.LeftOutLaws.{none_among}
@@ -70,11 +71,11 @@ one_of P (first ∷ rest) reason all (inr later) = one_of P rest reason all.1 la
 abbrev tests_for : Reason → Made → Bool
 tests_for reason one = is_left_for reason one.what
 
-is_for : (reason : Reason) (one : Made) → one.what ≡ left reason → tests_for reason one ≡ true
-is_for reason one is = rw is (eq-eqb (reason_place reason) (reason_place reason) refl)
+is_for : (reason : Reason) (one : Made) → IsLeftFor reason one → tests_for reason one ≡ true
+is_for reason one (missed, is) = rw is (eq-eqb (reason_place reason) (reason_place reason) refl)
 
-for_is : (reason : Reason) (what : Found) → is_left_for reason what ≡ true → what ≡ left reason
-for_is reason (left other) is = ap left (one_place reason other (eqb-true (reason_place other) (reason_place reason) is))
+for_is : (reason : Reason) (what : Found) → is_left_for reason what ≡ true → (missed : Option Origin) × (what ≡ left reason missed)
+for_is reason (left other missed) is = (missed, ap (λ (r : Reason). left r missed) (one_place reason other (eqb-true (reason_place other) (reason_place reason) is)))
 for_is reason passed is = absurd cc
 for_is reason untold is = absurd cc
 for_is reason (refused lack) is = absurd cc
@@ -238,7 +239,7 @@ none_is_left_out made none one reason c is = never made (Listed-from_Contains ma
       where
         step : (Listed xs one → find (tests_for reason) xs ≡ None → ⊥) → (b : Bool) → tests_for reason x ≡ b → Listed (x ∷ xs) one → cond b (Some x) (find (tests_for reason) xs) ≡ None → ⊥
         step again true was t e = absurd cc
-        step again false was (inl same) e = false≢true (sym was ∙ is_for reason x (subst (λ (y : Made). y.what ≡ left reason) (sym same) is))
+        step again false was (inl same) e = false≢true (sym was ∙ is_for reason x (subst (IsLeftFor reason) (sym same) is))
         step again false was (inr u) e = again u e
 
 -- what is the least of the counts is the first of the packets
@@ -255,7 +256,7 @@ first_of made datagram rises least = by (find (tests_for least.reason) made) ref
           one = one;
           listed = Contains-from_Listed made one in_made.0;
           number = ap (λ (d : LeftOutDatagram). d.packet) this;
-          left_out = for_is least.reason one.what in_made.1 ∙ ap (λ (d : LeftOutDatagram). left d.reason) this;
+          left_out = subst (λ (d : LeftOutDatagram). IsLeftFor d.reason one) this (for_is least.reason one.what in_made.1);
           first = λ other reason c said.
               let found = finds (tests_for reason) 0 made rises other (Listed-from_Contains made other c) (is_for reason other said) in
               let its : LeftOutDatagram = record { packet = found.first.number; reason = reason } in

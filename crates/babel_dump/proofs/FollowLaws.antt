@@ -1,5 +1,5 @@
 -- What more of a capture adds to what its records make, told in turn; and that the octets of a capture make one list of records.
-use Rattle.std.specs.Prelude.{IsTrue, true, false, if◌then◌else◌, None, Some}
+use Rattle.std.specs.Prelude.{IsTrue, true, if◌then◌else◌, None, Some}
 use Rattle.std.proofs.Common.{◌≡◌, ℕ, ◌+◌, List, [], ◌∷◌, ◌++◌, length, take, refl, sym, ap, subst, ◌∙◌, append_assoc, arith, length-append, Option}
 use Rattle.std.proofs.Math.Seq.{take-append_seam}
 use Rattle.babel_capture.specs.declared.packet_end.PacketEnd.{PacketEnd}
@@ -10,9 +10,9 @@ use Rattle.babel_capture.specs.Capture.{IsReadToCut}
 use Rattle.babel_capture.specs.Context.{Before}
 use Rattle.babel_capture.specs.Counts.{Counts, Made}
 use Rattle.babel_capture.specs.Findings.{Found, is_in_turn}
-use Rattle.babel_capture.specs.Gathering.{AreMade, Gathering, dump_of, octets_found, origin_found, with_taken}
+use Rattle.babel_capture.specs.Gathering.{AreMade, dump_of, missed_in, octets_found, origin_found, with_taken}
 use Rattle.babel_capture.specs.PacketEnds.{end_found, ends_from, ends_of, is_noted}
-use Rattle.babel_capture.specs.Reading.{Account, EachHasEnd, HasTaken, Progress}
+use Rattle.babel_capture.specs.Reading.{EachHasEnd, HasTaken, Progress}
 use Rattle.babel_capture.specs.Times.{time_of}
 use Rattle.babel_capture.specs.Window.{Extent}
 use Rattle.babel_capture.proofs.OneCapture.{blocks_one, made_one}
@@ -45,13 +45,13 @@ pub begins : (extent : Extent) (taken fed more : List ℕ) (old new : Progress) 
     → old.gathering.wanted ≡ new.gathering.wanted
     → (back : List Made) × (is.leads.gathered.made ≡ was.leads.gathered.made ++ back)
 begins extent taken fed more old new pending pending_too was is wanted =
-    let same : octets_of was.leads.blocks ++ (pending ++ more) ≡ octets_of is.leads.blocks ++ pending_too =
-    sym (append_assoc (octets_of was.leads.blocks) pending more) ∙ ap (λ (t : List ℕ). (t ++ pending) ++ more) (sym was.leads.whole) ∙ ap (λ (t : List ℕ). t ++ more) (sym was.whole)
-    ∙ is.whole ∙ ap (λ (t : List ℕ). t ++ pending_too) is.leads.whole in
-    let partial : IsPartial (context_behind (start extent) is.leads.blocks) (0 + length (octets_of is.leads.blocks)) pending_too =
-    subst (λ (n : ℕ). IsPartial (context_behind (start extent) is.leads.blocks) n pending_too) (omega (arith, is.leads.place, ap length is.leads.whole))
-    (subst (λ (c : Before). IsPartial c new.at pending_too) is.leads.context is.partial) in
-    let blocks = blocks_begin (start extent) 0 was.leads.blocks is.leads.blocks (pending ++ more) pending_too was.leads.are_blocks is.leads.are_blocks same partial in
+    let same : octets_of was.leads.blocks ++ (was.rest ++ more) ≡ octets_of is.leads.blocks ++ is.rest =
+    sym (append_assoc (octets_of was.leads.blocks) was.rest more) ∙ ap (λ (t : List ℕ). (t ++ was.rest) ++ more) (sym was.leads.whole) ∙ ap (λ (t : List ℕ). t ++ more) (sym was.whole)
+    ∙ is.whole ∙ ap (λ (t : List ℕ). t ++ is.rest) is.leads.whole in
+    let partial : IsPartial (context_behind (start extent) is.leads.blocks) (0 + length (octets_of is.leads.blocks)) is.rest =
+    subst (λ (n : ℕ). IsPartial (context_behind (start extent) is.leads.blocks) n is.rest) (omega (arith, is.leads.place, ap length is.leads.whole))
+    (subst (λ (c : Before). IsPartial c new.at is.rest) is.leads.context is.partial) in
+    let blocks = blocks_begin (start extent) 0 was.leads.blocks is.leads.blocks (was.rest ++ more) is.rest was.leads.are_blocks is.leads.are_blocks same partial in
     let sightings = sightings_begin 0 was.leads.blocks blocks.0 in
     let are : AreMade new.gathering.wanted (sightings_of was.leads.blocks ++ sightings.0) is.leads.gathered.made =
     subst (λ (s : List Sighting). AreMade new.gathering.wanted s is.leads.gathered.made) (ap sightings_of blocks.1 ∙ sightings.1) is.leads.gathered.taken.are_made in
@@ -71,6 +71,7 @@ one_end at number time what = by (origin_found what) refl
       number = number;
       time = time;
       origin = origin_found what;
+      missed = missed_in what;
     } ∷ [] else []
 
     by : (origin : Option Origin) → origin_found what ≡ origin → length (end_found true at number time what) ≡ 1
@@ -123,18 +124,18 @@ pub same_made : (extent : Extent) (taken fed : List ℕ) (progress : Progress) (
     → (is.is_read.blocks ≡ was.leads.blocks) × (is.is_read.gathered.made ≡ was.leads.gathered.made)
 same_made extent taken fed progress pending cut was is = by blocks
   where
-    partial : IsPartial (context_behind (start extent) was.leads.blocks) (0 + length (octets_of was.leads.blocks)) pending
-    partial = subst (λ (n : ℕ). IsPartial (context_behind (start extent) was.leads.blocks) n pending) (omega (arith, was.leads.place, ap length was.leads.whole))
-        (subst (λ (c : Before). IsPartial c progress.at pending) was.leads.context was.partial)
+    partial : IsPartial (context_behind (start extent) was.leads.blocks) (0 + length (octets_of was.leads.blocks)) was.rest
+    partial = subst (λ (n : ℕ). IsPartial (context_behind (start extent) was.leads.blocks) n was.rest) (omega (arith, was.leads.place, ap length was.leads.whole))
+        (subst (λ (c : Before). IsPartial c progress.at was.rest) was.leads.context was.partial)
 
     partial_too : IsPartial (context_behind (start extent) is.is_read.blocks) (0 + length (octets_of is.is_read.blocks)) is.rest
     partial_too = subst (λ (n : ℕ). IsPartial (context_behind (start extent) is.is_read.blocks) n is.rest) (omega (arith, ap length is.is_read.whole)) is.partial
 
-    blocks : (is.is_read.blocks ≡ was.leads.blocks) × (is.rest ≡ pending)
-    blocks = blocks_one (start extent) 0 is.is_read.blocks was.leads.blocks is.rest pending is.is_read.are_blocks was.leads.are_blocks
-        (ap (λ (t : List ℕ). t ++ is.rest) (sym is.is_read.whole) ∙ sym is.whole ∙ was.whole ∙ ap (λ (t : List ℕ). t ++ pending) was.leads.whole) partial_too partial
+    blocks : (is.is_read.blocks ≡ was.leads.blocks) × (is.rest ≡ was.rest)
+    blocks = blocks_one (start extent) 0 is.is_read.blocks was.leads.blocks is.rest was.rest is.is_read.are_blocks was.leads.are_blocks
+        (ap (λ (t : List ℕ). t ++ is.rest) (sym is.is_read.whole) ∙ sym is.whole ∙ was.whole ∙ ap (λ (t : List ℕ). t ++ was.rest) was.leads.whole) partial_too partial
 
-    by : (is.is_read.blocks ≡ was.leads.blocks) × (is.rest ≡ pending) → (is.is_read.blocks ≡ was.leads.blocks) × (is.is_read.gathered.made ≡ was.leads.gathered.made)
+    by : (is.is_read.blocks ≡ was.leads.blocks) × (is.rest ≡ was.rest) → (is.is_read.blocks ≡ was.leads.blocks) × (is.is_read.gathered.made ≡ was.leads.gathered.made)
     by (same, rest) = (
       same,
       made_one progress.gathering.wanted (sightings_of is.is_read.blocks) is.is_read.gathered.made was.leads.gathered.made is.is_read.gathered.taken.are_made

@@ -6,8 +6,8 @@ use Rattle.std.proofs.KnownBytes.{Appends-nil, Appends-trans}
 use Rattle.babel_timeline.specs.declared.telling.Telling.{Telling}
 use Rattle.babel_dump.specs.Device.{Gave, InputState, IsSpent, OutputState}
 use Rattle.babel_dump.specs.EventText.{event_in}
-use Rattle.babel_dump.specs.EventsRun.{AreLines, TellsEvents}
-use Rattle.babel_dump.specs.Followed.{Ends, Goes, HasFollowed, IsFollowed, WroteLines}
+use Rattle.babel_dump.specs.EventsRun.{AreLines, TellsEvents, WroteLines}
+use Rattle.babel_dump.specs.Followed.{Ends, Goes, HasFollowed, IsFollowed}
 use Rattle.babel_dump.specs.Run.{Output, output}
 use Rattle.babel_dump.specs.declared.events.Followed.{Followed}
 use Rattle.babel_dump.specs.declared.events_fault.EventsFault.{EventsFault}
@@ -95,21 +95,10 @@ followed_ended events followed a b u v w (Err fault) has ends = tt
 followed_ended events followed a b u v w (Ok answer) has ends =
     let first = has.goes in
     let end = ends has.octets first.more first.is_followed in
-    let wrote = wrote_more events first.more end.more u v w first.wrote end.wrote in
     record {
       octets = has.octets;
       gave = has.gave;
-      gathering = end.gathering;
-      cut = end.cut;
-      is_read = end.is_read;
-      wanted = end.wanted;
-      accepted = end.accepted;
-      told = first.more ++ end.more;
-      rows = end.rows;
-      have_told = end.have_told;
-      all_last = end.all_last;
-      text = wrote.text;
-      lines = wrote.lines;
-      wrote = wrote.wrote;
-      outcome_is = end.outcome_is;
+      written = first.more ++ end.more;
+      tells = end.tells;
+      wrote = wrote_more events first.more end.more u v w first.wrote end.wrote;
     }

@@ -12,17 +12,17 @@ use Rattle.babel_capture.specs.declared.tallies.Origin.{Origin}
 use Rattle.babel_capture.specs.declared.wanted.Wanted.{Wanted}
 use Rattle.babel_capture.specs.Capture.{State}
 use Rattle.babel_capture.specs.Counts.{Made}
+use Rattle.babel_capture.specs.Gathering.{missed_in}
 use Rattle.babel_capture.specs.Gathering.{dump_of, octets_found, origin_found}
 use Rattle.babel_capture.specs.PacketEnds.{end_found, ends_from, ends_of, is_noted}
 use Rattle.babel_capture.specs.Reading.{HasTaken, Progress, without_dump}
 use Rattle.babel_capture.specs.Times.{time_of}
 use Rattle.babel_capture.specs.Window.{Extent}
-use Rattle.babel_timeline.specs.Rows.{Rows}
-use Rattle.babel_dump.specs.EventsRun.{HaveTold, followed_by, followed_extent}
-use Rattle.babel_dump.specs.Followed.{AreToHear, IsFollowed, Suits}
+use Rattle.babel_dump.specs.EventsRun.{followed_by, followed_extent}
+use Rattle.babel_dump.specs.Followed.{AreToHear, HasHeard, IsFollowed}
 use Rattle.babel_dump.specs.declared.events.Followed.{Followed}
 use Rattle.babel_dump.specs.declared.events_job.Events.{Events}
-use Rattle.babel_dump.specs.declared.speaker.Speaker.{Speaker}
+use Rattle.babel_dump.specs.declared.hearing.Hearing.{Hearing}
 use Rattle.babel_dump.proofs.EventsRuns.{Tellings}
 
 abbrev octets_made : List Made → List ℕ
@@ -31,27 +31,27 @@ octets_made made = flat_map (λ one. octets_found one.what) made
 -- ---- one after another
 
 -- a front of these records was heard; these ends are those of the others, whose octets begin at this offset
-pub record AreHeard (events : Events) (gone kept : List Made) (ends : List PacketEnd) (from : ℕ) (told : Tellings) (rows : Rows Speaker) : Type 0 where
+pub record AreHeard (events : Events) (gone kept : List Made) (ends : List PacketEnd) (from : ℕ) (told : Tellings) (hearing : Hearing) : Type 0 where
   pub front : List Made
   pub back : List Made
   pub whole : kept ≡ front ++ back
   pub ends_are : ends ≡ ends_from true from back
   pub from_is : from ≡ length (octets_made front)
-  pub have_told : HaveTold events None (gone ++ front) told rows
+  pub has_heard : HasHeard events (gone ++ front) told hearing
 
-pub heard_none : (events : Events) (gone kept : List Made) (ends : List PacketEnd) (told : Tellings) (rows : Rows Speaker) → ends ≡ ends_of (followed_by events) kept
-    → HaveTold events None gone told rows → AreHeard events gone kept ends 0 told rows
-heard_none events gone kept ends told rows are have = record {
+pub heard_none : (events : Events) (gone kept : List Made) (ends : List PacketEnd) (told : Tellings) (hearing : Hearing) → ends ≡ ends_of (followed_by events) kept
+    → HasHeard events gone told hearing → AreHeard events gone kept ends 0 told hearing
+heard_none events gone kept ends told hearing are have = record {
   front = [];
   back = kept;
   whole = refl;
   ends_are = are;
   from_is = refl;
-  have_told = subst (λ (m : List Made). HaveTold events None m told rows) (sym (append-nil gone)) have;
+  has_heard = subst (λ (m : List Made). HasHeard events m told hearing) (sym (append-nil gone)) have;
 }
 
 abbrev end_of : ℕ → Made → PacketEnd
-end_of at one = record { end = at + length (octets_found one.what); number = one.number; time = time_of one.came; origin = origin_found one.what }
+end_of at one = record { end = at + length (octets_found one.what); number = one.number; time = time_of one.came; origin = origin_found one.what; missed = missed_in one.what }
 
 one_end : (at : ℕ) (one : Made) → end_found true at one.number (time_of one.came) one.what ≡ end_of at one ∷ []
 one_end at one = by (origin_found one.what)
@@ -101,20 +101,20 @@ none_next at (one ∷ behind) is =
     absurd (let bad : [] ≡ end_of at one ∷ others = is ∙ ap (λ (t : List PacketEnd). t ++ others) (one_end at one) in cc)
 
 -- where no end is left, all of them were
-pub heard_all : (events : Events) (gone kept : List Made) (ends : List PacketEnd) (i from : ℕ) (told : Tellings) (rows : Rows Speaker) → length ends ≤ i
-    → AreHeard events gone kept (drop i ends) from told rows → HaveTold events None (gone ++ kept) told rows
-heard_all events gone kept ends i from told rows past heard =
+pub heard_all : (events : Events) (gone kept : List Made) (ends : List PacketEnd) (i from : ℕ) (told : Tellings) (hearing : Hearing) → length ends ≤ i
+    → AreHeard events gone kept (drop i ends) from told hearing → HasHeard events (gone ++ kept) told hearing
+heard_all events gone kept ends i from told hearing past heard =
     let none : heard.back ≡ [] = none_next from heard.back (sym (drop_of_length-le ends past) ∙ heard.ends_are) in
     let all : kept ≡ heard.front = heard.whole ∙ ap (λ (m : List Made). heard.front ++ m) none ∙ append-nil heard.front in
-    subst (λ (m : List Made). HaveTold events None (gone ++ m) told rows) (sym all) heard.have_told
+    subst (λ (m : List Made). HasHeard events (gone ++ m) told hearing) (sym all) heard.has_heard
 
 -- this record is next
 heard_next : (events : Events) (gone kept : List Made) (dump : List ℕ) (end : PacketEnd) (later : List PacketEnd) (from : ℕ) (packet : List ℕ) (told new : Tellings)
-    (rows after : Rows Speaker) (heard : AreHeard events gone kept (end ∷ later) from told rows) (next : IsNext from heard.back end later)
+    (hearing after : Hearing) (heard : AreHeard events gone kept (end ∷ later) from told hearing) (next : IsNext from heard.back end later)
     → dump ≡ dump_of (followed_by events) kept → (from ≤ end.end → end.end ≤ length dump → packet ≡ slice_range dump from end.end)
-    → (packet ≡ octets_found next.one.what → HaveTold events None (gone ++ heard.front) told rows → HaveTold events None ((gone ++ heard.front) ++ next.one ∷ []) new after)
+    → (packet ≡ octets_found next.one.what → HasHeard events (gone ++ heard.front) told hearing → HasHeard events ((gone ++ heard.front) ++ next.one ∷ []) new after)
     → AreHeard events gone kept later end.end new after
-heard_next events gone kept dump end later from packet told new rows after heard next is cut hears =
+heard_next events gone kept dump end later from packet told new hearing after heard next is cut hears =
     let whole : kept ≡ heard.front ++ next.one ∷ next.behind = heard.whole ∙ ap (λ (m : List Made). heard.front ++ m) next.whole in
     let here : end.end ≡ from + length (octets_found next.one.what) = ap (λ (e : PacketEnd). e.end) next.end_is in
     let octets : packet ≡ octets_found next.one.what =
@@ -127,17 +127,17 @@ heard_next events gone kept dump end later from packet told new rows after heard
       whole = whole ∙ sym (append_assoc heard.front (next.one ∷ []) next.behind);
       ends_are = next.later_are ∙ ap (λ (n : ℕ). ends_from true n next.behind) (sym here);
       from_is = omega (arith, here, heard.from_is, ap length more, length-append (octets_made heard.front) (octets_found next.one.what));
-      have_told = subst (λ (m : List Made). HaveTold events None m new after) (append_assoc gone heard.front (next.one ∷ [])) (hears octets heard.have_told);
+      has_heard = subst (λ (m : List Made). HasHeard events m new after) (append_assoc gone heard.front (next.one ∷ [])) (hears octets heard.has_heard);
     }
 
 -- the record that ends at this index is
 pub heard_one : (events : Events) (gone kept : List Made) (dump : List ℕ) (ends : List PacketEnd) (i : ℕ) (end : PacketEnd) (from : ℕ) (packet : List ℕ)
-    (told new : Tellings) (rows after : Rows Speaker)
+    (told new : Tellings) (hearing after : Hearing)
     → i < length ends → end ≡ get_or ends i end → dump ≡ dump_of (followed_by events) kept → (from ≤ end.end → end.end ≤ length dump → packet ≡ slice_range dump from end.end)
-    → ((made : List Made) (one : Made) → end.time ≡ time_of one.came → end.origin ≡ origin_found one.what → packet ≡ octets_found one.what → HaveTold events None made told rows
-    → HaveTold events None (made ++ one ∷ []) new after)
-    → AreHeard events gone kept (drop i ends) from told rows → AreHeard events gone kept (drop (i + 1) ends) end.end new after
-heard_one events gone kept dump ends i end from packet told new rows after within item is cut hears heard = by here (next_of from here.back end later here.ends_are)
+    → ((made : List Made) (one : Made) → end.time ≡ time_of one.came → end.origin ≡ origin_found one.what → end.missed ≡ missed_in one.what → packet ≡ octets_found one.what → HasHeard events made told hearing
+    → HasHeard events (made ++ one ∷ []) new after)
+    → AreHeard events gone kept (drop i ends) from told hearing → AreHeard events gone kept (drop (i + 1) ends) end.end new after
+heard_one events gone kept dump ends i end from packet told new hearing after within item is cut hears heard = by here (next_of from here.back end later here.ends_are)
   where
     later : List PacketEnd
     later = drop (i + 1) ends
@@ -148,12 +148,13 @@ heard_one events gone kept dump ends i end from packet told new rows after withi
     cons : drop i ends ≡ end ∷ later
     cons = drop-cons ends i end within ∙ ap (λ (e : PacketEnd). e ∷ drop (suc i) ends) (sym item) ∙ ap (λ (n : ℕ). end ∷ drop n ends) after_one
 
-    here : AreHeard events gone kept (end ∷ later) from told rows
-    here = subst (λ (es : List PacketEnd). AreHeard events gone kept es from told rows) cons heard
+    here : AreHeard events gone kept (end ∷ later) from told hearing
+    here = subst (λ (es : List PacketEnd). AreHeard events gone kept es from told hearing) cons heard
 
-    by : (now : AreHeard events gone kept (end ∷ later) from told rows) → IsNext from now.back end later → AreHeard events gone kept later end.end new after
-    by now next = heard_next events gone kept dump end later from packet told new rows after now next is cut
-        (hears (gone ++ now.front) next.one (ap (λ (e : PacketEnd). e.time) next.end_is) (ap (λ (e : PacketEnd). e.origin) next.end_is))
+    by : (now : AreHeard events gone kept (end ∷ later) from told hearing) → IsNext from now.back end later → AreHeard events gone kept later end.end new after
+    by now next = heard_next events gone kept dump end later from packet told new hearing after now next is cut
+        (hears (gone ++ now.front) next.one (ap (λ (e : PacketEnd). e.time) next.end_is) (ap (λ (e : PacketEnd). e.origin) next.end_is)
+        (ap (λ (e : PacketEnd). e.missed) next.end_is))
 
 -- ---- all of them
 
@@ -174,6 +175,7 @@ taken_out extent taken fed progress pending none is =
     let was = is.leads.gathered in
     record {
       read = is.read;
+      rest = is.rest;
       whole = is.whole;
       leads = record {
         blocks = is.leads.blocks;
@@ -199,14 +201,14 @@ taken_out extent taken fed progress pending none is =
         names = is.leads.names;
       };
       partial = is.partial;
+      kept = is.kept;
     }
 
 -- all records were heard, and the dump was taken out
 pub now_followed : (events : Events) (fed : List ℕ) (told : Tellings) (old new : Followed) → (hear : AreToHear events fed (told ++ old.told.items) old)
-    → new.capture ≡ record old.capture { progress = without_dump old.capture.progress } → Suits events new.teller
-    → HaveTold events None (hear.gone ++ hear.kept) (told ++ new.told.items) new.teller.timeline.rows → IsFollowed events fed told new
-now_followed events fed told old new hear same suits have =
-    subst (λ (s : State). IsFollowed events fed told (record { capture = s; teller = new.teller; told = new.told; buffer = new.buffer })) (sym same)
+    → new.capture ≡ record old.capture { progress = without_dump old.capture.progress } → HasHeard events (hear.gone ++ hear.kept) (told ++ new.told.items) new.hearing → IsFollowed events fed told new
+now_followed events fed told old new hear same have =
+    subst (λ (s : State). IsFollowed events fed told (record { capture = s; hearing = new.hearing; told = new.told; buffer = new.buffer })) (sym same)
     (record {
       taken = hear.taken ++ old.capture.progress.gathering.dump;
       read = taken_out (followed_extent events) hear.taken fed old.capture.progress old.capture.pending (ap (λ (w : Wanted). ends_of w []) (sym hear.wanted)) hear.read;
@@ -214,6 +216,5 @@ now_followed events fed told old new hear same suits have =
       limit = hear.limit;
       wanted = hear.wanted;
       ends = refl;
-      suits = suits;
-      have_told = subst (λ (m : List Made). HaveTold events None m (told ++ new.told.items) new.teller.timeline.rows) (sym hear.whole) have;
+      has_heard = subst (λ (m : List Made). HasHeard events m (told ++ new.told.items) new.hearing) (sym hear.whole) have;
     })

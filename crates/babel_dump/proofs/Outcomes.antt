@@ -1,6 +1,6 @@
 -- What a job's run answers and writes is settled by the octets of its readers.
 use Rattle.std.proofs.Common.{◌≡◌, ◌≢◌, refl, ℕ, ◌<◌, ◌≤◌, Bool, true, false, if◌then◌else◌, List, [], ◌++◌, length, length-append, take}
-use Rattle.std.proofs.Common.{Option, None, Some, Result, Ok, Err, inl, inr, ◌⊎◌, arith, append-nil, subst, ap, sym, ◌∙◌}
+use Rattle.std.proofs.Common.{Option, None, Some, Err, inl, inr, ◌⊎◌, arith, append-nil, subst, ap, sym, ◌∙◌}
 use Rattle.std.specs.Prelude.{zero, suc}
 use Rattle.std.specs.Option.{SomeIff}
 use Rattle.std.specs.Io.KnownBytes.{Appends, Consumes, IsAtEnd}
@@ -34,7 +34,6 @@ use Rattle.babel_dump.specs.InFormat.{listed_in, rows_or_count_in}
 use Rattle.babel_canon.specs.Sent.{sent}
 use Rattle.babel_canon.specs.Verdict.{IsVerdict}
 use Rattle.babel_canon.specs.declared.every_difference.Difference.{Difference}
-use Rattle.babel_canon.specs.declared.verdict.Verdict.{Verdict}
 use Rattle.babel_canon.proofs.OneOutcome.{boxes_same, form_is_one}
 use Rattle.babel_canon.proofs.OneDifferences.{differences_are_one}
 use Rattle.babel_canon.proofs.OneVerdict.{verdict_is_one}
@@ -45,7 +44,7 @@ use Rattle.babel_dump.specs.CaptureGiven.{extent_of, GaveCapture, GaveSound, IsR
 use Rattle.babel_dump.specs.CaptureRun.{CaptureCause, IsOutcomeOf}
 use Rattle.babel_dump.specs.CaptureText.{dump_status, dump_text, senders_in, senders_status}
 use Rattle.babel_dump.specs.Command.{CompareCause, Compares, DifferencesCause, HaveDifferences, InTurn, IsOfMany, IsOfMemory, ListsDifferences, ListsPairs, WritesNormal}
-use Rattle.babel_dump.specs.Each.{EachCause, GavePairsOf, GaveText, LooksUpAsked, RefusesPairs}
+use Rattle.babel_dump.specs.Each.{EachCause, GavePairsOf, LooksUpAsked, RefusesPairs}
 use Rattle.babel_dump.specs.Files.{name_of}
 use Rattle.babel_dump.specs.Filter.{kept_pairs_in, kept_rows}
 use Rattle.babel_dump.specs.Given.{GaveAll, GaveDump, GaveTable, GaveUnread, GaveTables, Input, IsFaultOfForm, IsFaultOfGiven, IsOfWhole, Reads, dump_of, expired, expired_of}
@@ -599,12 +598,12 @@ FaultOf (jobs.Extract reading sender place hex file quiet) octets other fault =
 of_dump : (reading : Reading) (reader : Reads) (dump : Contents) (fault : InputFault) → HasContents reader.old dump → IsOfDump fault
     → InputCause (dump_of reader reading) (IsFaultOfGiven (dump_of reader reading)) fault → FaultOfDump reading dump fault
 of_dump reading reader dump (input_faults.Dump fault) has is cause = inl (fault, refl, fault_of_all (dump_of reader reading) dump.octets fault has.octets (cause is))
-of_dump reading reader dump (input_faults.Ignored tlv) has is cause = inr (is_unread (dump_of reader reading) dump (input_faults.Ignored tlv) has cause)
+of_dump reading reader dump (input_faults.Ignored tlv ignores_4) has is cause = inr (is_unread (dump_of reader reading) dump (input_faults.Ignored tlv ignores_4) has cause)
 of_dump reading reader dump (input_faults.Capture fault) has is cause = absurd is
 of_dump reading reader dump (input_faults.LeftOut datagram) has is cause = inr (is_unread (dump_of reader reading) dump (input_faults.LeftOut datagram) has cause)
 of_dump reading reader dump input_faults.NoUpdates has is cause = inr (is_unread (dump_of reader reading) dump input_faults.NoUpdates has cause)
 of_dump reading reader dump (input_faults.SeveralInterfaces interfaces) has is cause = absurd is
-of_dump reading reader dump (input_faults.NoPackets sender) has is cause = absurd is
+of_dump reading reader dump (input_faults.NoPackets absence) has is cause = absurd is
 of_dump reading reader dump input_faults.Read has is cause = absurd is
 
 form_of_all : (reading : Reading) (view : View) (reader : Reads) (dump : Contents) (fault : Fault) → HasContents reader.old dump
@@ -616,12 +615,12 @@ form_of_all reading view reader dump fault has (inr (is, (table, gave, many))) =
 of_form : (reading : Reading) (view : View) (reader : Reads) (dump : Contents) (fault : InputFault) → HasContents reader.old dump → IsOfDump fault
     → InputCause (dump_of reader reading) (IsFaultOfForm (dump_of reader reading) view) fault → FaultOfForm reading view dump fault
 of_form reading view reader dump (input_faults.Dump fault) has is cause = form_of_all reading view reader dump fault has (cause is)
-of_form reading view reader dump (input_faults.Ignored tlv) has is cause = inl (inr (is_unread (dump_of reader reading) dump (input_faults.Ignored tlv) has cause))
+of_form reading view reader dump (input_faults.Ignored tlv ignores_4) has is cause = inl (inr (is_unread (dump_of reader reading) dump (input_faults.Ignored tlv ignores_4) has cause))
 of_form reading view reader dump (input_faults.Capture fault) has is cause = absurd is
 of_form reading view reader dump (input_faults.LeftOut datagram) has is cause = inl (inr (is_unread (dump_of reader reading) dump (input_faults.LeftOut datagram) has cause))
 of_form reading view reader dump input_faults.NoUpdates has is cause = inl (inr (is_unread (dump_of reader reading) dump input_faults.NoUpdates has cause))
 of_form reading view reader dump (input_faults.SeveralInterfaces interfaces) has is cause = absurd is
-of_form reading view reader dump (input_faults.NoPackets sender) has is cause = absurd is
+of_form reading view reader dump (input_faults.NoPackets absence) has is cause = absurd is
 of_form reading view reader dump input_faults.Read has is cause = absurd is
 
 -- a fault of the first input
@@ -702,7 +701,7 @@ of_each reading reader pairs dump text fault has pairs_has is (inr ((asked, gave
 of_capture : (reading : CaptureReading) (wanted : Wanted) (reader : Reads) (contents : Contents) (Several : Interfaces → Type 0) (fault : InputFault) → HasContents reader.old contents
     → IsOfDump fault → CaptureCause (capture_of reader reading wanted) Several fault → FaultOfCapture reading wanted contents fault
 of_capture reading wanted reader contents Several (input_faults.Dump fault) has is memory = absurd (is memory)
-of_capture reading wanted reader contents Several (input_faults.Ignored tlv) has is cause = absurd cause
+of_capture reading wanted reader contents Several (input_faults.Ignored tlv ignores_4) has is cause = absurd cause
 of_capture reading wanted reader contents Several (input_faults.Capture fault) has is cause = absurd is
 of_capture reading wanted reader contents Several (input_faults.LeftOut datagram) has is cause = (
   datagram,
@@ -717,7 +716,7 @@ of_capture reading wanted reader contents Several (input_faults.LeftOut datagram
 )
 of_capture reading wanted reader contents Several input_faults.NoUpdates has is cause = absurd cause
 of_capture reading wanted reader contents Several (input_faults.SeveralInterfaces interfaces) has is cause = absurd is
-of_capture reading wanted reader contents Several (input_faults.NoPackets sender) has is cause = absurd is
+of_capture reading wanted reader contents Several (input_faults.NoPackets absence) has is cause = absurd is
 of_capture reading wanted reader contents Several input_faults.Read has is cause = absurd is
 
 cause_of : (job : Job) (reader second : Reads) (untouched : Type 0) (octets other : Contents) (fault : RunFault) → HasContents reader.old octets → HasContents second.old other

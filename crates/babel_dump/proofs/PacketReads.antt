@@ -70,11 +70,11 @@ of_packets first held handed is sound =
     ∙ ap (λ (t : List ℕ). t ++ octets_in (packets_in ended.kept)) (sym taken) in
     record {
       blocks = leads.blocks;
-      rest = capture.pending;
+      rest = has.rest;
       made = made;
       gone = packets_in ended.gone;
       part = packets_in ended.kept;
-      fed_is = has.whole ∙ ap (λ (t : List ℕ). t ++ capture.pending) leads.whole;
+      fed_is = has.whole ∙ ap (λ (t : List ℕ). t ++ has.rest) leads.whole;
       are_blocks = subst (λ (l : Extent). AreBlocks (start l) 0 leads.blocks) drained.limit leads.are_blocks;
       are_made = subst (λ (w : Wanted). AreMade w (sightings_of leads.blocks) made) drained.wanted leads.gathered.taken.are_made;
       packets = packets;

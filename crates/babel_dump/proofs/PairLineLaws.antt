@@ -1,10 +1,8 @@
 -- The lines of pairs that are written one by one.
-use Rattle.std.proofs.Common.{◌≡◌, ℕ, Bool, true, false, List, [], ◌∷◌, ◌++◌, Result, Ok, Err, refl, sym, ap, subst, ◌∙◌, append_assoc, append-nil, flat_map, OnOk, OnErr, MatchResult}
+use Rattle.std.proofs.Common.{◌≡◌, ℕ, List, [], ◌∷◌, ◌++◌, Result, Ok, Err, refl, sym, subst, ◌∙◌, append-nil, flat_map, OnOk, OnErr, MatchResult}
 use Rattle.std.proofs.lemmas.Grind.{flat_map-append}
 use Rattle.std.proofs.lemmas.List.Elements.{filter-append}
-use Rattle.std.proofs.KnownBytes.{Appends-trans}
 use Rattle.babel_tlv.specs.Pair.{Pair}
-use Rattle.babel_tlv.specs.declared.view.View.{View}
 use Rattle.babel_canon.specs.Sinks.{StopsAmong}
 use Rattle.babel_dump.specs.Device.{OutputState}
 use Rattle.babel_dump.specs.Filter.{is_kept, kept_rows}
@@ -12,8 +10,6 @@ use Rattle.babel_dump.specs.InFormat.{line_in, pairs_in}
 use Rattle.babel_dump.specs.PairLines.{HasLines, StoppedAtLine}
 use Rattle.babel_dump.specs.Run.{Output, output}
 use Rattle.babel_dump.specs.Slices.{Broke, Took, WroteFront}
-use Rattle.babel_dump.specs.declared.filter.Filter.{Filter}
-use Rattle.babel_dump.specs.declared.format.Format.{Format}
 use Rattle.babel_dump.specs.declared.pair_lines.PairLines.{PairLines}
 use Rattle.babel_dump.proofs.KeptLines.{both_kept}
 use Rattle.babel_dump.proofs.SenderLines.{took_with}

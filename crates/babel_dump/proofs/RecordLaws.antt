@@ -1,9 +1,7 @@
 -- The packets of a capture's records, their octets, and where they end.
-use Rattle.std.proofs.Common.{◌≡◌, ℕ, ◌+◌, ◌<◌, ◌≤◌, List, [], ◌∷◌, ◌++◌, length, take, refl, sym, ap, subst, ◌∙◌, append_assoc, inl, inr, arith, length-append, Option}
-use Rattle.std.specs.Prelude.{◌⊎◌, None, Some, false, fold}
+use Rattle.std.proofs.Common.{◌≡◌, ℕ, ◌+◌, ◌≤◌, List, [], ◌∷◌, ◌++◌, length, refl, sym, ap, subst, ◌∙◌, append_assoc, inl, inr, arith, length-append, Option}
+use Rattle.std.specs.Prelude.{None, Some, false, fold}
 use Rattle.std.specs.List.{AllByRecursion, flat_map}
-use Rattle.std.proofs.lemmas.List.{append-nil, nil_from_length}
-use Rattle.std.proofs.lemmas.List.Concat.{flat_map-append}
 use Rattle.babel_prefix.specs.Address.{Address}
 use Rattle.babel_tlv.specs.Framing.{IsBody, framed}
 use Rattle.babel_capture.specs.declared.lack.Lack.{Lack}
@@ -11,7 +9,7 @@ use Rattle.babel_capture.specs.declared.packet_end.PacketEnd.{PacketEnd}
 use Rattle.babel_capture.specs.declared.place.Place.{Place}
 use Rattle.babel_capture.specs.declared.wanted.Wanted.{Wanted}
 use Rattle.babel_capture.specs.declared.wanted.Wanted.TheVariants as wanteds
-use Rattle.babel_capture.specs.Blocks.{AreBlocks, BlockAt, IsBlock, IsPartial, Sighting, context_behind, octets_of, sightings_behind, sightings_in, sightings_of}
+use Rattle.babel_capture.specs.Blocks.{AreBlocks, BlockAt, IsPartial, Sighting, context_behind, octets_of, sightings_behind, sightings_in, sightings_of}
 use Rattle.babel_capture.specs.Contents.{block_said, context_after}
 use Rattle.babel_capture.specs.Context.{Before}
 use Rattle.babel_capture.specs.Counts.{Made}
@@ -43,7 +41,7 @@ packet_len octets (body, fits, is) = let len : length octets ≡ 4 + length body
 abbrev FoundWhole : Found → Type 0
 FoundWhole passed = Unit {0}
 FoundWhole untold = Unit {0}
-FoundWhole (left reason) = Unit {0}
+FoundWhole (left reason missed) = Unit {0}
 FoundWhole (refused lack) = Unit {0}
 FoundWhole (lacked place sender lack) = Unit {0}
 FoundWhole (found place sender packet has_trailer) = IsPacket packet
@@ -78,7 +76,7 @@ sight_whole wanted (datagram place sender carried) what (inr (not, is)) = subst 
 one_whole : (came : Came) (what : Found) (packets : Packets) → FoundWhole what → AreWhole packets → AreWhole (packet_in came what ++ packets)
 one_whole came passed packets whole are = are
 one_whole came untold packets whole are = are
-one_whole came (left reason) packets whole are = are
+one_whole came (left reason missed) packets whole are = are
 one_whole came (refused lack) packets whole are = are
 one_whole came (lacked place sender lack) packets whole are = are
 one_whole came (found place sender packet has_trailer) packets whole are = (whole, are)
@@ -94,7 +92,7 @@ made_whole wanted (sighting ∷ later) made (one, others, is, number, link, came
 one_octets : (came : Came) (what : Found) (packets : Packets) → octets_in (packet_in came what ++ packets) ≡ octets_found what ++ octets_in packets
 one_octets came passed packets = refl
 one_octets came untold packets = refl
-one_octets came (left reason) packets = refl
+one_octets came (left reason missed) packets = refl
 one_octets came (refused lack) packets = refl
 one_octets came (lacked place sender lack) packets = refl
 one_octets came (found place sender packet has_trailer) packets = refl
@@ -112,11 +110,11 @@ one_ends : (at number : ℕ) (came : Came) (what : Found) (packets : Packets) (e
     → AreEndsAt at (packet_in came what ++ packets) (end_found false at number (time_of came) what ++ ends)
 one_ends at number came passed packets ends are = subst (λ (n : ℕ). AreEndsAt n packets ends) (omega arith) are
 one_ends at number came untold packets ends are = subst (λ (n : ℕ). AreEndsAt n packets ends) (omega arith) are
-one_ends at number came (left reason) packets ends are = subst (λ (n : ℕ). AreEndsAt n packets ends) (omega arith) are
+one_ends at number came (left reason missed) packets ends are = subst (λ (n : ℕ). AreEndsAt n packets ends) (omega arith) are
 one_ends at number came (refused lack) packets ends are = subst (λ (n : ℕ). AreEndsAt n packets ends) (omega arith) are
 one_ends at number came (lacked place sender lack) packets ends are = subst (λ (n : ℕ). AreEndsAt n packets ends) (omega arith) are
 one_ends at number came (found place sender packet has_trailer) packets ends are =
-    (record { end = at + length packet; number = number; time = time_of came; origin = Some (record { place = place; sender = sender }) }, ends, refl, refl, refl, are)
+    (record { end = at + length packet; number = number; time = time_of came; origin = Some (record { place = place; sender = sender }); missed = None }, ends, refl, refl, refl, are)
 
 pub made_ends : (at : ℕ) (made : List Made) → AreEndsAt at (packets_in made) (ends_from false at made)
 made_ends at [] = refl

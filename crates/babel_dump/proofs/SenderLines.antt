@@ -11,7 +11,7 @@ use Rattle.babel_dump.specs.Slices.{Broke, Took}
 use Rattle.babel_dump.specs.TextParts.{after_name, to_name}
 use Rattle.babel_dump.specs.declared.format.Format.{Format}
 use Rattle.babel_dump.specs.declared.format.Format.TheVariants as formats
-use Rattle.babel_dump.proofs.SliceLaws.{broke_on, broke_within, pushed, took_more}
+use Rattle.babel_dump.proofs.SliceLaws.{broke_on, pushed, took_more}
 
 pub name_between : (front before octets after end : List ℕ) → front ++ (before ++ octets ++ after) ++ end ≡ (front ++ before) ++ (octets ++ (after ++ end))
 name_between front before octets after end = grind (arith, common_steps)

@@ -30,7 +30,7 @@ timed_one : (came : Came) (what : Found) (packets : Packets) (given : List (ℕ 
     → AreTimed (packet_in came what ++ packets) (timed_found (time_of came) what ++ given)
 timed_one came passed packets given are = are
 timed_one came untold packets given are = are
-timed_one came (left reason) packets given are = are
+timed_one came (left reason missed) packets given are = are
 timed_one came (refused lack) packets given are = are
 timed_one came (lacked place sender lack) packets given are = are
 timed_one came (found place sender packet has_trailer) packets given are = (unwrap_or (time_of came) 0, given, refl, told_time (time_of came), are)

@@ -1,5 +1,5 @@
 -- The text of a prefix in either spelling, in parts.
-use Rattle.std.proofs.Common.{◌≡◌, List, [], ◌∷◌, ◌++◌, refl, append_assoc}
+use Rattle.std.proofs.Common.{◌≡◌, [], ◌∷◌, ◌++◌, refl, append_assoc}
 use Rattle.std.specs.Fmt.{decimal}
 use Rattle.babel_prefix.specs.Address.{AddressPrefix}
 use Rattle.babel_prefix.specs.Short.{short, short_prefix}

@@ -1,5 +1,5 @@
 -- What strict reading refuses is refused with one fault.
-use Rattle.std.proofs.Common.{◌≡◌, refl, sym, ◌∙◌, true, ℕ, zero, suc, Option, None, Some}
+use Rattle.std.proofs.Common.{◌≡◌, refl, sym, ◌∙◌, Bool, true, ℕ, zero, suc, Option, None, Some}
 use Rattle.babel_table.specs.Counts.{Counts}
 use Rattle.babel_table.specs.Rows.{Routes}
 use Rattle.babel_tlv.specs.declared.fault.Fault.{Fault}
@@ -13,40 +13,40 @@ use Rattle.babel_dump.specs.declared.input_fault.InputFault.TheVariants as input
 use Rattle.babel_dump.specs.declared.left_out.LeftOutDatagram.{LeftOutDatagram}
 use Rattle.babel_dump.proofs.IgnoredLaws.{none_is_first}
 
-abbrev fault_of : Option IgnoredTlv → Option LeftOutDatagram → ℕ → Option InputFault
-fault_of (Some tlv) left_out updates = Some (input_faults.Ignored tlv)
-fault_of None (Some datagram) updates = Some (input_faults.LeftOut datagram)
-fault_of None None zero = Some input_faults.NoUpdates
-fault_of None None (suc n) = None
+abbrev fault_of : (ignores_4 : Bool) → Option IgnoredTlv → Option LeftOutDatagram → ℕ → Option InputFault
+fault_of ignores_4 (Some tlv) left_out updates = Some (input_faults.Ignored tlv ignores_4)
+fault_of ignores_4 None (Some datagram) updates = Some (input_faults.LeftOut datagram)
+fault_of ignores_4 None None zero = Some input_faults.NoUpdates
+fault_of ignores_4 None None (suc n) = None
 
-some_updates : (n : ℕ) → (n ≡ 0 → ⊥) → fault_of None None n ≡ None
-some_updates zero some = absurd (some refl)
-some_updates (suc n) some = refl
+some_updates : (ignores_4 : Bool) (n : ℕ) → (n ≡ 0 → ⊥) → fault_of ignores_4 None None n ≡ None
+some_updates ignores_4 zero some = absurd (some refl)
+some_updates ignores_4 (suc n) some = refl
 
-whole_is : (left_out : Option LeftOutDatagram) (report : Counts) → IsReadWhole left_out report → fault_of (first_ignored report) left_out report.updates ≡ None
-whole_is left_out report whole = rw (none_is_first report whole.none_ignored, whole.none_left_out) (some_updates report.updates whole.has_updates)
+whole_is : (left_out : Option LeftOutDatagram) (report : Counts) → IsReadWhole left_out report → fault_of report.ignores_4 (first_ignored report) left_out report.updates ≡ None
+whole_is left_out report whole = rw (none_is_first report whole.none_ignored, whole.none_left_out) (some_updates report.ignores_4 report.updates whole.has_updates)
 
 not_whole_is : (left_out : Option LeftOutDatagram) (report : Counts) (fault : InputFault) → IsNotReadWhole left_out report fault
-    → fault_of (first_ignored report) left_out report.updates ≡ Some fault
+    → fault_of report.ignores_4 (first_ignored report) left_out report.updates ≡ Some fault
 not_whole_is left_out report (input_faults.Dump fault) is = absurd is
-not_whole_is left_out report (input_faults.Ignored tlv) is = rw is refl
+not_whole_is left_out report (input_faults.Ignored tlv ignores_4) (is, ignores) = rw (is, ignores) refl
 not_whole_is left_out report (input_faults.Capture fault) is = absurd is
 not_whole_is left_out report (input_faults.LeftOut datagram) (none, left) = rw (none_is_first report none, left) refl
 not_whole_is left_out report input_faults.NoUpdates (none, none_left, no_updates) = rw (none_is_first report none, none_left, no_updates) refl
 not_whole_is left_out report (input_faults.SeveralInterfaces interfaces) is = absurd is
-not_whole_is left_out report (input_faults.NoPackets sender) is = absurd is
+not_whole_is left_out report (input_faults.NoPackets absence) is = absurd is
 not_whole_is left_out report input_faults.Read is = absurd is
 
 -- it is what reading a dump is refused for
 pub unread_cause : (reader : Input) (Refuses : Fault → Type 0) (table : Routes) (fault : InputFault) → GaveDump reader table → reader.reading.strict ≡ true
     → IsNotReadWhole reader.new.left_out table.report fault → InputCause reader Refuses fault
 unread_cause reader Refuses table (input_faults.Dump fault) gave strict is = absurd is
-unread_cause reader Refuses table (input_faults.Ignored tlv) gave strict is = record { table = table; given = gave; strict = strict; unread = is }
+unread_cause reader Refuses table (input_faults.Ignored tlv ignores_4) gave strict is = record { table = table; given = gave; strict = strict; unread = is }
 unread_cause reader Refuses table (input_faults.Capture fault) gave strict is = absurd is
 unread_cause reader Refuses table (input_faults.LeftOut datagram) gave strict is = record { table = table; given = gave; strict = strict; unread = is }
 unread_cause reader Refuses table input_faults.NoUpdates gave strict is = record { table = table; given = gave; strict = strict; unread = is }
 unread_cause reader Refuses table (input_faults.SeveralInterfaces interfaces) gave strict is = absurd is
-unread_cause reader Refuses table (input_faults.NoPackets sender) gave strict is = absurd is
+unread_cause reader Refuses table (input_faults.NoPackets absence) gave strict is = absurd is
 unread_cause reader Refuses table input_faults.Read gave strict is = absurd is
 
 pub not_whole_one : (left_out : Option LeftOutDatagram) (report : Counts) (fault too : InputFault) → IsNotReadWhole left_out report fault → IsNotReadWhole left_out report too → fault ≡ too

@@ -1,10 +1,9 @@
 -- How far a capture is followed with more of it, and what it gives at its end.
-use Rattle.std.proofs.Common.{◌≡◌, ℕ, ◌+◌, List, [], ◌∷◌, ◌++◌, length, refl, sym, ap, subst, ◌∙◌, append_assoc, append-nil, Option, None, Some}
+use Rattle.std.proofs.Common.{◌≡◌, ℕ, List, [], ◌++◌, map, refl, sym, ap, subst, ◌∙◌, append_assoc, append-nil, Option, None, Some}
 use Rattle.std.specs.Prelude.{Bool, true, false, IfSome, if◌then◌else◌, Result, Ok, Err, OnOk}
 use Rattle.std.specs.declared.cmp.Ordering.{Ordering}
 use Rattle.babel_capture.specs.declared.fault.Fault.{Fault}
-use Rattle.babel_capture.specs.declared.wanted.Wanted.{Wanted}
-use Rattle.babel_capture.specs.Blocks.{BlockAt, context_behind, start}
+use Rattle.babel_capture.specs.Blocks.{context_behind, start}
 use Rattle.babel_capture.specs.Capture.{HasGiven, HasGivenTo, IsReadToCut, State}
 use Rattle.babel_capture.specs.Capture.{moment_read as moment_of}
 use Rattle.babel_capture.specs.Context.{Before}
@@ -15,18 +14,21 @@ use Rattle.babel_capture.specs.Window.{Extent, moment_up_to}
 use Rattle.babel_timeline.specs.declared.teller.Teller.{Teller}
 use Rattle.babel_timeline.specs.declared.telling.Telling.{Telling}
 use Rattle.babel_timeline.specs.Rows.{AllLast, Rows}
-use Rattle.babel_timeline.specs.Telling.{TellsEnds}
 use Rattle.babel_dump.specs.CaptureRun.{IsOutcomeOf}
 use Rattle.babel_dump.specs.CaptureText.{senders_status}
-use Rattle.babel_dump.specs.EventsRun.{HaveTold, asked_by, followed_by, followed_extent, moment_read}
-use Rattle.babel_dump.specs.Followed.{AreToHear, Ends, EndsBy, Goes, IsFollowed, Suits, WroteLines}
+use Rattle.babel_dump.specs.EventsRun.{HaveTold, Step, WroteLines, followed_by, followed_extent, made_in, moment_read, told_in, unlost, written_in}
+use Rattle.babel_dump.specs.Followed.{AreToHear, Ends, EndsAt, EndsBy, HasHeard, IsFollowed, Suits, unlost_by}
+use Rattle.babel_dump.specs.HeardSenders.{heard_told, sender_heard}
 use Rattle.babel_dump.specs.Run.{Output}
 use Rattle.babel_dump.specs.Speakers.{speaker_cmp}
 use Rattle.babel_dump.specs.declared.events.Followed.{Followed}
 use Rattle.babel_dump.specs.declared.events_job.Events.{Events}
 use Rattle.babel_dump.specs.declared.events_outcome.EventsOutcome.{EventsOutcome}
 use Rattle.babel_dump.specs.declared.speaker.Speaker.{Speaker}
+use Rattle.babel_dump.specs.declared.hearing.Hearing.{Hearing}
 use Rattle.babel_dump.proofs.EventsRuns.{told_so, told_until}
+use Rattle.babel_dump.proofs.HeardLaws.{heard_senders}
+use Rattle.babel_dump.proofs.HeardRecords.{unlost_is}
 use Rattle.babel_dump.proofs.FollowLaws.{kept_last, same_made}
 
 abbrev Tellings : Type 0
@@ -57,8 +59,8 @@ pub record Fed (old new : State) (more : List ℕ) : Type 0 where
   pub each : EachHasEnd old.progress new.progress
 
 pub to_hear : (events : Events) (fed more : List ℕ) (told : Tellings) (old new : Followed) → IsFollowed events fed told old → Fed old.capture new.capture more
-    → new.teller ≡ old.teller → new.told ≡ old.told → AreToHear events (fed ++ more) (told ++ new.told.items) new
-to_hear events fed more told old new is feeds teller same =
+    → new.hearing ≡ old.hearing → new.told ≡ old.told → AreToHear events (fed ++ more) (told ++ new.told.items) new
+to_hear events fed more told old new is feeds hearing same =
     let limit : new.capture.limit ≡ followed_extent events = feeds.limit ∙ is.limit in
     let wanted : new.capture.progress.gathering.wanted ≡ followed_by events = feeds.wanted ∙ is.wanted in
     let read = taken_of new.capture (followed_extent events) is.taken (fed ++ more) feeds.none limit
@@ -70,36 +72,34 @@ to_hear events fed more told old new is feeds teller same =
       no_fault = feeds.none;
       limit = limit;
       wanted = wanted;
-      suits = subst (Suits events) (sym teller) is.suits;
       gone = is.read.leads.gathered.made;
       kept = kept.kept;
       whole = kept.whole;
       taken_is = kept.taken_is;
       ends = kept.ends_is;
-      have_told = subst (λ (t : Teller Speaker). HaveTold events None is.read.leads.gathered.made (told ++ new.told.items) t.timeline.rows) (sym teller)
-          (subst (λ (v : Tellings). HaveTold events None is.read.leads.gathered.made (told ++ v) old.teller.timeline.rows) (ap (λ v. v.items) (sym same)) is.have_told);
+      has_heard = subst (HasHeard events is.read.leads.gathered.made (told ++ new.told.items)) (sym hearing)
+          (subst (λ (v : Tellings). HasHeard events is.read.leads.gathered.made (told ++ v) old.hearing) (ap (λ v. v.items) (sym same)) is.has_heard);
     }
 
 -- ---- once lines were written
 
 -- how far a capture was followed, where this is all that was told
-record IsFollowedBy (events : Events) (fed : List ℕ) (all : Tellings) (capture : State) (teller : Teller Speaker) : Type 0 where
+record IsFollowedBy (events : Events) (fed : List ℕ) (all : Tellings) (capture : State) (hearing : Hearing) : Type 0 where
   taken : List ℕ
   read : HasTaken (record { limit = followed_extent events; taken = taken }) capture.progress capture.pending fed
   no_fault : capture.fault ≡ None
   limit : capture.limit ≡ followed_extent events
   wanted : capture.progress.gathering.wanted ≡ followed_by events
   ends : capture.progress.ends ≡ []
-  suits : Suits events teller
-  have_told : HaveTold events None read.leads.gathered.made all teller.timeline.rows
+  has_heard : HasHeard events read.leads.gathered.made all hearing
 
-pub written : (events : Events) (fed : List ℕ) (told : Tellings) (old new : Followed) → IsFollowed events fed told old → new.capture ≡ old.capture → new.teller ≡ old.teller → new.told.items ≡ []
+pub written : (events : Events) (fed : List ℕ) (told : Tellings) (old new : Followed) → IsFollowed events fed told old → new.capture ≡ old.capture → new.hearing ≡ old.hearing → new.told.items ≡ []
     → IsFollowed events fed (told ++ old.told.items) new
-written events fed told old new is capture teller none = from (subst (λ (v : Tellings). IsFollowedBy events fed v new.capture new.teller) all
-    (subst (IsFollowedBy events fed (told ++ old.told.items) new.capture) (sym teller)
-    (subst (λ (s : State). IsFollowedBy events fed (told ++ old.told.items) s old.teller) (sym capture) by)))
+written events fed told old new is capture hearing none = from (subst (λ (v : Tellings). IsFollowedBy events fed v new.capture new.hearing) all
+    (subst (IsFollowedBy events fed (told ++ old.told.items) new.capture) (sym hearing)
+    (subst (λ (s : State). IsFollowedBy events fed (told ++ old.told.items) s old.hearing) (sym capture) by)))
   where
-    by : IsFollowedBy events fed (told ++ old.told.items) old.capture old.teller
+    by : IsFollowedBy events fed (told ++ old.told.items) old.capture old.hearing
     by = record {
       taken = is.taken;
       read = is.read;
@@ -107,14 +107,13 @@ written events fed told old new is capture teller none = from (subst (λ (v : Te
       limit = is.limit;
       wanted = is.wanted;
       ends = is.ends;
-      suits = is.suits;
-      have_told = is.have_told;
+      has_heard = is.has_heard;
     }
 
     all : told ++ old.told.items ≡ (told ++ old.told.items) ++ new.told.items
     all = sym (append-nil (told ++ old.told.items)) ∙ ap (λ (v : Tellings). (told ++ old.told.items) ++ v) (sym none)
 
-    from : IsFollowedBy events fed ((told ++ old.told.items) ++ new.told.items) new.capture new.teller → IsFollowed events fed (told ++ old.told.items) new
+    from : IsFollowedBy events fed ((told ++ old.told.items) ++ new.told.items) new.capture new.hearing → IsFollowed events fed (told ++ old.told.items) new
     from of = record {
       taken = of.taken;
       read = of.read;
@@ -122,24 +121,37 @@ written events fed told old new is capture teller none = from (subst (λ (v : Te
       limit = of.limit;
       wanted = of.wanted;
       ends = of.ends;
-      suits = of.suits;
-      have_told = of.have_told;
+      has_heard = of.has_heard;
     }
 
 -- ---- its end
 
 -- what has ended by the moment, if there is one, is told
-told_by_then : (events : Events) (made : List Made) (told : Tellings) (moment : Option ℕ) (old new : Followed) → EndsBy events moment old new
-    → HaveTold events None made (told ++ old.told.items) old.teller.timeline.rows → HaveTold events moment made (told ++ new.told.items) new.teller.timeline.rows
-told_by_then events made told None old new (teller, same) have =
-    subst (λ (t : Teller Speaker). HaveTold events None made (told ++ new.told.items) t.timeline.rows) (sym teller)
-    (subst (λ (v : Tellings). HaveTold events None made (told ++ v) old.teller.timeline.rows) (ap (λ v. v.items) (sym same)) have)
-told_by_then events made told (Some moment) old new (ends, last) have =
-    told_until events made moment old.teller.timeline.rows new.teller.timeline.rows told old.told.items new.told.items ends have
+record HasEnded (events : Events) (made : List Made) (moment : Option ℕ) (steps : List Step) (written : Tellings) : Type 0 where
+  ended : Tellings
+  rows : Rows Speaker
+  have_told : HaveTold events moment made (told_in steps ++ ended) rows
+  all_last : IfSome moment (λ m. AllLast speaker_cmp events.expiry m rows)
+  written_is : written ≡ written_in [] steps ++ unlost (made_in steps) ended
 
-last_by_then : (events : Events) (moment : Option ℕ) (old new : Followed) → EndsBy events moment old new → IfSome moment (λ m. AllLast speaker_cmp events.expiry m new.teller.timeline.rows)
-last_by_then events None old new ends = tt
-last_by_then events (Some moment) old new (ends, last) = last
+ended_by_then : (events : Events) (made : List Made) (told : Tellings) (moment : Option ℕ) (old new : Followed) → EndsAt events moment old new
+    → (was : HasHeard events made (told ++ old.told.items) old.hearing) → HasEnded events (made_in was.steps) moment was.steps (told ++ new.told.items)
+ended_by_then events made told None old new (hearing, same) was = record {
+  ended = [];
+  rows = old.hearing.teller.timeline.rows;
+  have_told = subst (λ (t : Tellings). HaveTold events None (made_in was.steps) t old.hearing.teller.timeline.rows) (sym (append-nil (told_in was.steps))) was.have_told;
+  all_last = tt;
+  written_is = ap (λ v. told ++ v.items) same ∙ was.written_is ∙ sym (append-nil (written_in [] was.steps));
+}
+ended_by_then events made told (Some moment) old new ends was = record {
+  ended = ends.ended;
+  rows = new.hearing.teller.timeline.rows;
+  have_told = told_until events (made_in was.steps) moment old.hearing.teller.timeline.rows new.hearing.teller.timeline.rows (told_in was.steps) ends.ended ends.tells was.have_told;
+  all_last = ends.last;
+  written_is = ap (λ (t : Tellings). told ++ t) ends.written ∙ sym (append_assoc told old.told.items (unlost_by old.hearing.lost ends.ended))
+      ∙ ap (λ (t : Tellings). t ++ unlost_by old.hearing.lost ends.ended) was.written_is
+      ∙ ap (λ (t : Tellings). written_in [] was.steps ++ t) (unlost_is events made (told ++ old.told.items) old.hearing was ends.ended);
+}
 
 -- the moment is none where a record has no time
 when_timed : (untimed : Bool) (moment : Option ℕ) → untimed ≡ false → (if untimed then None else moment) ≡ moment
@@ -149,10 +161,12 @@ when_timed false moment timed = refl
 pub ending : (events : Events) (fed : List ℕ) (told : Tellings) (writer : Output) (old new : Followed) (status : ℕ) (cut : Option ℕ) (answer : EventsOutcome)
     → (is : IsFollowed events fed told old)
     → ((taken octets : List ℕ) → HasGiven old.capture taken octets → IsReadToCut old.capture.limit octets (with_taken taken old.capture.progress.gathering) cut)
-    → (events.accept_cut ≡ false → cut ≡ None) → EndsBy events (moment_of old.capture) old new → WroteLines events new.told.items writer
+    → (events.accept_cut ≡ false → cut ≡ None) → EndsAt events (moment_of old.capture) old new → WroteLines events new.told.items writer
     → status ≡ senders_status old.capture.progress.gathering.senders → IsOutcomeOf answer.outcome status old.capture.progress.gathering.report cut
+    → map heard_told answer.senders.items ≡ map (sender_heard old) old.capture.progress.gathering.senders
     → Ends events fed told writer answer
-ending events fed told writer old new status cut answer is read accepted ends wrote status_is outcome_is = by (same_made extent is.taken fed old.capture.progress old.capture.pending cut is.read given)
+ending events fed told writer old new status cut answer is read accepted ends wrote status_is outcome_is senders =
+    by (same_made extent is.taken fed old.capture.progress old.capture.pending cut is.read given)
   where
     extent : Extent
     extent = followed_extent events
@@ -175,29 +189,40 @@ ending events fed told writer old new status cut answer is read accepted ends wr
         ∙ ap (λ (b : Before). if untimed then None else moment_up_to events.window b.start old.capture.progress.gathering.report.timing.latest)
         (is.read.leads.context ∙ ap (context_behind (start extent)) (sym blocks))
 
+    was : HasHeard events is.read.leads.gathered.made (told ++ old.told.items) old.hearing
+    was = is.has_heard
+
     by : (given.is_read.blocks ≡ is.read.leads.blocks) × (given.is_read.gathered.made ≡ is.read.leads.gathered.made) → Ends events fed told writer answer
     by (blocks, made) =
-        let are : EndsBy events (if untimed then None else moment) old new = subst (λ (m : Option ℕ). EndsBy events m old new) (same_moment blocks) ends in
-        let have = told_by_then events is.read.leads.gathered.made told (if untimed then None else moment) old new are is.have_told in
+        let done = ended_by_then events is.read.leads.gathered.made told (if untimed then None else moment) old new
+        (subst (λ (m : Option ℕ). EndsAt events m old new) (same_moment blocks) ends) was in
+        let heard = heard_senders events (made_in was.steps) old was.heard answer.senders.items old.capture.progress.gathering.senders senders in
         record {
-          gathering = gathering;
-          cut = cut;
-          is_read = given;
-          wanted = is.wanted;
-          accepted = accepted;
           more = new.told.items;
-          rows = new.teller.timeline.rows;
-          have_told = subst (λ (m : List Made). HaveTold events moment m (told ++ new.told.items) new.teller.timeline.rows) (sym made)
-              (known untimed moment (told ++ new.told.items) new.teller.timeline.rows have);
-          all_last = λ timed. subst (λ (m : Option ℕ). IfSome m (λ t. AllLast speaker_cmp events.expiry t new.teller.timeline.rows)) (when_timed untimed moment timed)
-              (last_by_then events (if untimed then None else moment) old new are);
+          tells = record {
+            gathering = gathering;
+            cut = cut;
+            is_read = given;
+            wanted = is.wanted;
+            accepted = accepted;
+            steps = was.steps;
+            are_made = was.are_made ∙ sym made;
+            each = was.each;
+            ended = done.ended;
+            rows = done.rows;
+            have_told = known untimed moment (told_in was.steps ++ done.ended) done.rows done.have_told;
+            all_last = λ timed. subst (λ (m : Option ℕ). IfSome m (λ t. AllLast speaker_cmp events.expiry t done.rows)) (when_timed untimed moment timed) done.all_last;
+            written_is = done.written_is;
+            senders = heard.0;
+            heard = heard.1;
+            outcome_is = subst (λ (s : ℕ). IsOutcomeOf answer.outcome s gathering.report cut) status_is outcome_is;
+          };
           wrote = wrote;
-          outcome_is = subst (λ (s : ℕ). IsOutcomeOf answer.outcome s gathering.report cut) status_is outcome_is;
         }
       where
-        known : (no : Bool) (m : Option ℕ) (t : Tellings) (rows : Rows Speaker) → HaveTold events (if no then None else m) is.read.leads.gathered.made t rows
-            → HaveTold events m is.read.leads.gathered.made t rows
-        known true m t rows of = told_so events is.read.leads.gathered.made m t rows of
+        known : (no : Bool) (m : Option ℕ) (t : Tellings) (rows : Rows Speaker) → HaveTold events (if no then None else m) (made_in was.steps) t rows
+            → HaveTold events m (made_in was.steps) t rows
+        known true m t rows of = told_so events (made_in was.steps) m t rows of
         known false m t rows of = of
 
 -- ---- what has expired
@@ -208,7 +233,7 @@ last_so cmp order events teller suits moment rows last =
     subst (λ (f : Option ℕ). AllLast speaker_cmp f moment rows) suits.factor (subst (λ (k : Speaker → Speaker → Ordering). AllLast k teller.timeline.factor moment rows) order last)
 
 pub ends_by : {T E : Type 0} (result : Result T E) (events : Events) (moment : Option ℕ) (time : ℕ) → moment ≡ Some time → (old new : Followed)
-    → OnOk result (TellsEnds speaker_cmp events.expiry (asked_by events) time old.teller.timeline.rows new.teller.timeline.rows old.told.items new.told.items)
-    → OnOk result (AllLast speaker_cmp events.expiry time new.teller.timeline.rows) → OnOk result (EndsBy events moment old new)
-ends_by (Ok done) events moment time is old new ends last = subst (λ (m : Option ℕ). EndsBy events m old new) (sym is) (ends, last)
-ends_by (Err fault) events moment time is old new ends last = tt
+    → OnOk result (EndsBy events time old.hearing.teller.timeline.rows new.hearing.teller.timeline.rows old.hearing.lost old.told.items new.told.items)
+    → OnOk result (EndsAt events moment old new)
+ends_by (Ok done) events moment time is old new ends = subst (λ (m : Option ℕ). EndsAt events m old new) (sym is) ends
+ends_by (Err fault) events moment time is old new ends = tt

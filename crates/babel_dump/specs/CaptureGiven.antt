@@ -30,10 +30,11 @@ GaveWhole reader = GaveOctets reader.old reader.new
 
 -- how much of the capture is read
 abbrev pub extent_of : CaptureReading → Extent
-extent_of reading = record { octets = reading.limit; window = reading.window }
+extent_of reading =
+    record { octets = reading.limit; window = reading.window; to_cut = reading.accept_cut }
 
--- the octets are a capture; where a cut is accepted, its last block may be cut short, and this is
--- where
+-- the octets are a capture; where a cut is accepted, its last block may be cut short, or its end
+-- may be a record without octets, and this is where
 abbrev pub IsReadSo : (accept_cut : Bool) → (limit : Extent) → List ℕ → Gathering → Option ℕ
     → Type 0
 IsReadSo false limit octets gathering cut = IsRead limit octets gathering × (cut ≡ None)

@@ -1,10 +1,10 @@
 -- The dump of a sender in a capture, as runs read it: this project's own.
-use Rattle.std.specs.Prelude.{ℕ, ◌≡◌, List, [], length, Option, None, Some, Ok, Err}
+use Rattle.std.specs.Prelude.{ℕ, ◌≡◌, List, [], length, Option, Some, Ok, Err}
 use Rattle.babel_capture.specs.Gathering.{Gathering}
 use Rattle.babel_dump.specs.CaptureGiven.{CaptureInput, GaveCapture, capture_from}
 use Rattle.babel_dump.specs.CaptureRun.{CaptureCause, IsOnSeveral}
 use Rattle.babel_dump.specs.Device.{GaveOctets, InputState, fresh}
-use Rattle.babel_dump.specs.Drained.{HasDrained, HasHanded, Held, capture_limit, wanted_by}
+use Rattle.babel_dump.specs.Drained.{HasHanded, Held, capture_limit, wanted_by}
 use Rattle.babel_dump.specs.declared.capture_reading.CaptureReading.{CaptureReading}
 use Rattle.babel_dump.specs.declared.captured.CaptureNotes.{CaptureNotes}
 use Rattle.babel_dump.specs.declared.input_fault.InputFault.{InputFault}
@@ -35,7 +35,7 @@ pub record IsDumpIn (reader : CaptureInput) (dump : List ℕ) (notes : CaptureNo
 -- Why a capture has no dump to read: it is refused as for `extract`, or the sender has no packets
 -- in it.
 abbrev pub NoDumpCause : CaptureInput → InputFault → Type 0
-NoDumpCause reader (input_faults.NoPackets sender) =
+NoDumpCause reader (input_faults.NoPackets absence) =
     (gathering : Gathering) × (cut : Option ℕ) × GaveCapture reader gathering cut
     × (gathering.senders ≡ [])
 NoDumpCause reader fault = CaptureCause reader (IsOnSeveral reader) fault

@@ -1,6 +1,6 @@
 -- The dump of a sender that a device gives as it reads a capture: what it holds, and what that says
 -- of the octets that it gave. No RFC speaks of devices: these are this project's own.
-use Rattle.std.specs.Prelude.{ℕ, ◌≡◌, ◌≢◌, ◌^◌, ◌≤◌, ◌⊎◌, ⊤, max, Bool, false, true, List, [], ◌++◌}
+use Rattle.std.specs.Prelude.{ℕ, ◌≡◌, ◌≢◌, ◌^◌, ◌≤◌, ◌⊎◌, max, Bool, false, true, List, [], ◌++◌}
 use Rattle.std.specs.Prelude.{length, take, drop, Option, None, Some, Result, Ok, Err}
 use Rattle.std.specs.Io.KnownBytes.{Consumes, IsAtEnd}
 use Rattle.babel_capture.specs.Capture.{EndsShort, HasGiven, IsReadToCut, State}
@@ -27,7 +27,11 @@ capture_limit dump = max (2 ^ 30) dump
 -- how much of a capture is read for its dump
 abbrev pub dump_extent : Reading → Extent
 dump_extent reading =
-    record { octets = capture_limit reading.limits.bytes; window = reading.window }
+    record {
+      octets = capture_limit reading.limits.bytes;
+      window = reading.window;
+      to_cut = reading.accept_cut;
+    }
 
 -- the datagrams of the dump's sender, at its place if one is named
 abbrev pub wanted_by : Reading → Wanted
@@ -54,7 +58,7 @@ EndsRefused accept_cut strict gathering cut (input_faults.Capture fault) =
     (accept_cut ≡ false) × ((at : ℕ) × (cut ≡ Some at) × (fault ≡ capture_faults.CutShort at))
 EndsRefused accept_cut strict gathering cut (input_faults.LeftOut datagram) =
     IsAccepted accept_cut cut × (strict ≡ true) × (first_left_out gathering.report ≡ Some datagram)
-EndsRefused accept_cut strict gathering cut (input_faults.NoPackets sender) =
+EndsRefused accept_cut strict gathering cut (input_faults.NoPackets absence) =
     IsAccepted accept_cut cut × (gathering.senders ≡ [])
 EndsRefused accept_cut strict gathering cut (input_faults.SeveralInterfaces interfaces) =
     IsAccepted accept_cut cut × (strict ≡ true → LeavesNoneOut gathering.report)

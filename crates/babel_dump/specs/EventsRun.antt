@@ -1,24 +1,31 @@
 -- What `events` tells of a capture, and what it promises: this project's own. Who does not use the
 -- command needs none of this page.
-use Rattle.std.specs.Prelude.{ℕ, ◌≡◌, ◌+◌, ◌≤◌, ◌^◌, false, List, [], ◌∷◌, ◌++◌, map}
-use Rattle.std.specs.Prelude.{Option, None, Some, IfSome}
+use Rattle.std.specs.Prelude.{ℕ, ◌≡◌, ◌+◌, ◌≤◌, ◌^◌, Bool, false, not, ◌&&◌, List, [], ◌∷◌, ◌++◌}
+use Rattle.std.specs.Prelude.{Option, None, Some, IfSome, length, map}
+use Rattle.std.specs.BTreeMap.{is_at}
 use Rattle.std.specs.Io.KnownBytes.{Appends}
-use Rattle.std.specs.List.{AllByRecursion, flat_map}
-use Rattle.std.specs.Option.{option_map}
+use Rattle.std.specs.List.{AllByRecursion, filter, flat_map, list_any}
+use Rattle.std.specs.Map.{keys_of}
+use Rattle.std.specs.Option.{is_some, option_map}
 use Rattle.babel_prefix.specs.Address.{Address}
+use Rattle.babel_capture.specs.declared.noted.Missed.{Missed}
 use Rattle.babel_capture.specs.declared.place.Place.{Place}
+use Rattle.babel_capture.specs.declared.tallies.Origin.{Origin}
 use Rattle.babel_capture.specs.declared.wanted.Wanted.{Wanted}
 use Rattle.babel_capture.specs.declared.wanted.Wanted.TheVariants as wanteds
 use Rattle.babel_capture.specs.Blocks.{BlockAt, context_behind, start}
 use Rattle.babel_capture.specs.Capture.{IsReadToCut}
 use Rattle.babel_capture.specs.Counts.{Made}
-use Rattle.babel_capture.specs.Findings.{Found, passed, untold, left, refused, lacked, found}
-use Rattle.babel_capture.specs.Gathering.{Gathering}
+use Rattle.babel_capture.specs.Findings.{Found, found}
+use Rattle.babel_capture.specs.Gathering.{missed_in}
+use Rattle.babel_capture.specs.Gathering.{Gathering, name_of, octets_found, origin_found}
 use Rattle.babel_capture.specs.Times.{time_of}
 use Rattle.babel_capture.specs.Window.{Extent, moment_up_to}
-use Rattle.babel_tlv.specs.declared.start.Start.{Start}
 use Rattle.babel_tlv.specs.Context.{first_context}
 use Rattle.babel_tlv.specs.Framing.{ArePlaced, TlvAt, packet_octets}
+use Rattle.babel_tlv.specs.Says.{sayings}
+use Rattle.babel_table.specs.Counts.{counts_of}
+use Rattle.babel_table.specs.Counts.{Counts as Report}
 use Rattle.babel_table.specs.Moments.{told_from}
 use Rattle.babel_timeline.specs.declared.change.Change.{Change}
 use Rattle.babel_timeline.specs.declared.telling.Telling.{Telling}
@@ -29,17 +36,19 @@ use Rattle.babel_timeline.specs.Telling.{AreAnswers, AskedFor, said_of}
 use Rattle.babel_dump.specs.CaptureRun.{IsOutcomeOf}
 use Rattle.babel_dump.specs.CaptureText.{senders_status}
 use Rattle.babel_dump.specs.Device.{GaveOctets, InputState}
-use Rattle.babel_dump.specs.EventText.{event_in}
+use Rattle.babel_dump.specs.EventText.{event_in, speaker_of}
 use Rattle.babel_dump.specs.Run.{Output}
 use Rattle.babel_dump.specs.declared.addr_pair.AddrPair.{AddrPair}
 use Rattle.babel_dump.specs.declared.events_job.Events.{Events}
 use Rattle.babel_dump.specs.declared.events_outcome.EventsOutcome.{EventsOutcome}
+use Rattle.babel_dump.specs.declared.events_outcome.HeardSender.{HeardSender}
 use Rattle.babel_dump.specs.declared.speaker.Speaker.{Speaker}
 use Rattle.babel_dump.specs.Speakers.{speaker_cmp}
 
 -- how much of a capture is read: more octets than any file has
 abbrev pub followed_extent : Events → Extent
-followed_extent events = record { octets = 2 ^ 62; window = events.window }
+followed_extent events =
+    record { octets = 2 ^ 62; window = events.window; to_cut = events.accept_cut }
 
 -- whose datagrams are wanted, as they come
 abbrev pub followed_by : Events → Wanted
@@ -115,7 +124,80 @@ pub record HaveTold (events : Events) (until : Option ℕ) (made : List Made)
   pub account : AreInOrder made → IsAccountOf events until made said changes rows
   pub are_told : AreTold (asked_by events) changes rows told
 
+-- a record, and what it told
+pub record Step : Type 0 where
+  pub made : Made
+  pub told : List (Telling Speaker)
+
+abbrev pub made_in : List Step → List Made
+made_in steps = map (λ step. step.made) steps
+
+abbrev pub told_in : List Step → List (Telling Speaker)
+told_in steps = flat_map (λ step. step.told) steps
+
+-- after these records, the tellings are what all of them told
+abbrev pub HaveToldSo : Events → List Step → Type 0
+HaveToldSo events steps =
+    (rows : Rows Speaker) × HaveTold events None (made_in steps) (told_in steps) rows
+
+-- ---- whose it is
+
+-- a sender at a place, as one who speaks
+abbrev pub speaker_at : Origin → Speaker
+speaker_at origin = record { sender = origin.sender; place = origin.place }
+
+-- there is a sender, and it is this one
+abbrev pub is_of : Speaker → Option Origin → Bool
+is_of speaker None = false
+is_of speaker (Some origin) = is_at (speaker_cmp (speaker_at origin)) speaker
+
+-- ---- what is heard
+
+-- the record gives a packet of this sender, and has a time
+abbrev pub is_heard : Speaker → Made → Bool
+is_heard speaker one = is_some (time_of one.came) && is_of speaker (origin_found one.what)
+
+abbrev pub packets_heard : Speaker → List Made → List (List ℕ)
+packets_heard speaker made = map (λ one. octets_found one.what) (filter (is_heard speaker) made)
+
+-- packets, end to end, of which the first lies at this offset, are these TLVs
+abbrev pub AreTlvsOf : ℕ → List (List ℕ) → List (List TlvAt) → Type 0
+AreTlvsOf at [] packets = packets ≡ []
+AreTlvsOf at (octets ∷ more) packets =
+    (tlvs : List TlvAt) × (later : List (List TlvAt)) × (rest : List ℕ) × (packets ≡ tlvs ∷ later)
+    × (octets ≡ packet_octets tlvs ++ rest) × ArePlaced (at + 4) tlvs
+    × AreTlvsOf (at + length octets) more later
+
+-- a report of a sender counts the TLVs of its packets, and those that are ignored
+pub record IsReportOf (events : Events) (made : List Made) (speaker : Speaker) (report : Report)
+    : Type 0 where
+  pub packets : List (List TlvAt)
+  pub are_tlvs : AreTlvsOf 0 (packets_heard speaker made) packets
+  pub counts : report ≡ counts_of
+      (sayings (record { sender = speaker.sender; via_v6 = events.limits.via_v6 }) packets)
+
+-- what is answered of a sender: the name of its interface, and its report
+abbrev pub IsHeardSender : Events → List Made → Gathering → HeardSender → Type 0
+IsHeardSender events made gathering heard =
+    (heard.name.items ≡ name_of gathering heard.origin.place.interface)
+    × IsReportOf events made (speaker_at heard.origin) heard.report
+
 -- ---- what is written
+
+-- in one of these records a datagram of this sender lacks something, and was left out
+abbrev pub is_lost : List Made → Speaker → Bool
+is_lost made speaker =
+    list_any (λ one. is_of speaker (option_map (λ (m : Missed). m.origin) (missed_in one.what))) made
+
+-- of what is told after these records, that of senders that are not lost
+abbrev pub unlost : List Made → List (Telling Speaker) → List (Telling Speaker)
+unlost made told = filter (λ one. not (is_lost made (speaker_of one))) told
+
+-- of what records told, behind these, that of senders that were not lost before
+abbrev pub written_in : List Made → List Step → List (Telling Speaker)
+written_in before [] = []
+written_in before (step ∷ later) =
+    unlost before step.told ++ written_in (before ++ step.made ∷ []) later
 
 -- the text is the lines of what is told, each with a name for its interface
 pub record AreLines (events : Events) (told : List (Telling Speaker)) (text : List ℕ) : Type 0 where
@@ -124,31 +206,50 @@ pub record AreLines (events : Events) (told : List (Telling Speaker)) (text : Li
   pub text_is : text
       ≡ flat_map (λ one. event_in events.format events.view events.pair one.0 one.1) named
 
+-- the writer took the lines of what is told
+pub record WroteLines (events : Events) (told : List (Telling Speaker)) (writer : Output) :
+    Type 0 where
+  pub text : List ℕ
+  pub lines : AreLines events told text
+  pub wrote : Appends writer.old.taken writer.new.taken text
+
 -- the moment up to which the capture was read: the last of the window, or the latest time read
 abbrev pub moment_read : Events → List BlockAt → Gathering → Option ℕ
 moment_read events blocks gathering =
     moment_up_to events.window (context_behind (start (followed_extent events)) blocks).start
     gathering.report.timing.latest
 
--- A run of `events` that ends well: the reader gave a capture, all that it had, and the writer took
--- the lines of what its records told. All is told that ends by the moment that it was read to.
-pub record TellsEvents (events : Events) (old new : InputState) (writer : Output)
+-- The octets are a capture, whose records told what they say, one after another; and then all that
+-- ends by the moment that it was read to is told. Of it this is written: of a sender nothing more
+-- once a datagram of it was left out that lacks something. The answer is of what was read.
+pub record TellsCapture (events : Events) (octets : List ℕ) (written : List (Telling Speaker))
     (answer : EventsOutcome) : Type 0 where
-  pub octets : List ℕ
-  pub gave : GaveOctets old new octets
   pub gathering : Gathering
   pub cut : Option ℕ
   pub is_read : IsReadToCut (followed_extent events) octets gathering cut
   pub wanted : gathering.wanted ≡ followed_by events
   pub accepted : events.accept_cut ≡ false → cut ≡ None
-  pub told : List (Telling Speaker)
+  pub steps : List Step
+  pub are_made : made_in steps ≡ is_read.is_read.gathered.made
+  pub each : (front back : List Step) → steps ≡ front ++ back → HaveToldSo events front
+  pub ended : List (Telling Speaker)
   pub rows : Rows Speaker
   pub have_told : HaveTold events (moment_read events is_read.is_read.blocks gathering)
-      is_read.is_read.gathered.made told rows
+      (made_in steps) (told_in steps ++ ended) rows
   pub all_last : gathering.report.timing.has_untimed ≡ false
       → IfSome (moment_read events is_read.is_read.blocks gathering)
       (λ moment. AllLast speaker_cmp events.expiry moment rows)
-  pub text : List ℕ
-  pub lines : AreLines events told text
-  pub wrote : Appends writer.old.taken writer.new.taken text
+  pub written_is : written ≡ written_in [] steps ++ unlost (made_in steps) ended
+  pub senders : map (λ heard. heard.origin) answer.senders.items ≡ keys_of gathering.senders
+  pub heard : AllByRecursion (IsHeardSender events (made_in steps) gathering) answer.senders.items
   pub outcome_is : IsOutcomeOf answer.outcome (senders_status gathering.senders) gathering.report cut
+
+-- A run of `events` that ends well: the reader gave a capture, all that it had, and the writer took
+-- the lines of what it tells.
+pub record TellsEvents (events : Events) (old new : InputState) (writer : Output)
+    (answer : EventsOutcome) : Type 0 where
+  pub octets : List ℕ
+  pub gave : GaveOctets old new octets
+  pub written : List (Telling Speaker)
+  pub tells : TellsCapture events octets written answer
+  pub wrote : WroteLines events written writer

@@ -9,5 +9,5 @@ use Rattle.babel_dump.specs.declared.input_fault.InputFault.TheVariants as input
 -- write failed
 abbrev pub events_status : EventsFault → ℕ
 events_status (faults.Input fault) = input_status fault
-events_status (faults.Sender origin fault) = input_status (input_faults.Dump fault)
+events_status (faults.Sender origin name fault) = input_status (input_faults.Dump fault)
 events_status faults.Write = 4

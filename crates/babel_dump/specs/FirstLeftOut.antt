@@ -1,7 +1,8 @@
 -- Laws of the definitions: which datagram of a capture was left out first, by what is made of its
 -- packets. These are this project's own.
-use Rattle.std.specs.Prelude.{◌≡◌, ◌≢◌, ℕ, ◌≤◌, Bool, true, false, List, Contains, Option}
+use Rattle.std.specs.Prelude.{◌≡◌, ℕ, ◌≤◌, Bool, true, false, List, Contains, Option}
 use Rattle.babel_capture.specs.declared.reason.Reason.{Reason}
+use Rattle.babel_capture.specs.declared.tallies.Origin.{Origin}
 use Rattle.babel_capture.specs.Counts.{Made, counts_of}
 use Rattle.babel_capture.specs.Findings.{left}
 use Rattle.babel_capture.specs.Gathering.{Gathering}
@@ -17,21 +18,25 @@ abbrev pub made_of : (accept_cut : Bool) → (limit : Extent) → (octets : List
 made_of false limit octets gathering cut read = read.0.gathered.made
 made_of true limit octets gathering cut read = read.is_read.gathered.made
 
+-- it was left out for this reason
+abbrev pub IsLeftFor : Reason → Made → Type 0
+IsLeftFor reason one = (missed : Option Origin) × (one.what ≡ left reason missed)
+
 -- of these packets the one with the datagram's number was left out for its reason, and none with a
 -- lower number was left out
 pub record IsFirstLeftOut (made : List Made) (datagram : LeftOutDatagram) : Type 0 where
   pub one : Made
   pub listed : Contains made one
   pub number : one.number ≡ datagram.packet
-  pub left_out : one.what ≡ left datagram.reason
-  pub first : (other : Made) (reason : Reason) → Contains made other → other.what ≡ left reason
+  pub left_out : IsLeftFor datagram.reason one
+  pub first : (other : Made) (reason : Reason) → Contains made other → IsLeftFor reason other
       → datagram.packet ≤ other.number
 
 -- where packets are counted of which none was left out, none of them was
 abbrev pub NoneIsLeftOut : Type 0
 NoneIsLeftOut =
     (made : List Made) → LeavesNoneOut (counts_of made)
-    → (one : Made) (reason : Reason) → Contains made one → one.what ≢ left reason
+    → (one : Made) (reason : Reason) → Contains made one → IsLeftFor reason one → ⊥
 
 -- the datagram for which a capture that is read strictly is refused is the first of its packets
 -- that was left out

@@ -1,27 +1,31 @@
--- How far a capture was followed.
-use Rattle.std.specs.Prelude.{ℕ, ◌≡◌, false, List, [], ◌++◌, Option, None, Some, IfSome}
-use Rattle.std.specs.Io.KnownBytes.{Appends}
-use Rattle.babel_capture.specs.Capture.{IsReadToCut}
+-- How far a capture was followed, and what was heard of its senders.
+use Rattle.std.specs.Prelude.{ℕ, ◌≡◌, not, List, [], ◌∷◌, ◌++◌, Option, None, Some}
+use Rattle.std.specs.Prelude.{length}
+use Rattle.std.specs.BTreeSet.{BTreeSet, contains}
+use Rattle.std.specs.List.{filter, flat_map}
 use Rattle.babel_capture.specs.Counts.{Made}
 use Rattle.babel_capture.specs.Gathering.{Gathering, dump_of, name_of}
 use Rattle.babel_capture.specs.PacketEnds.{ends_of}
 use Rattle.babel_capture.specs.Reading.{HasTaken}
 use Rattle.babel_capture.specs.declared.tallies.Origin.{Origin}
+use Rattle.babel_timeline.specs.Hearing.{CountsPacket, octets_heard, report_of}
 use Rattle.babel_timeline.specs.Rows.{AllLast, Rows}
 use Rattle.babel_timeline.specs.Telling.{Tells, TellsEnds}
 use Rattle.babel_timeline.specs.Accounts.{Said}
+use Rattle.babel_timeline.specs.declared.heard.Heard.{Heard}
 use Rattle.babel_timeline.specs.declared.teller.Teller.{Teller}
 use Rattle.babel_timeline.specs.declared.telling.Telling.{Telling}
-use Rattle.babel_dump.specs.CaptureRun.{IsOutcomeOf}
-use Rattle.babel_dump.specs.CaptureText.{senders_status}
 use Rattle.babel_dump.specs.Device.{GaveOctets, InputState}
 use Rattle.babel_dump.specs.EventText.{event_in, speaker_of}
-use Rattle.babel_dump.specs.EventsRun.{AreLines, HaveTold, IsSaid, asked_by, followed_by}
-use Rattle.babel_dump.specs.EventsRun.{followed_extent, moment_read}
+use Rattle.babel_dump.specs.EventsRun.{HaveTold, HaveToldSo, IsReportOf, IsSaid, Step}
+use Rattle.babel_dump.specs.EventsRun.{TellsCapture, WroteLines, asked_by, followed_by}
+use Rattle.babel_dump.specs.EventsRun.{followed_extent, is_lost, made_in, packets_heard}
+use Rattle.babel_dump.specs.EventsRun.{speaker_at, told_in, written_in}
 use Rattle.babel_dump.specs.Run.{Output}
 use Rattle.babel_dump.specs.Speakers.{speaker_cmp}
 use Rattle.babel_dump.specs.declared.events.Followed.{Followed}
 use Rattle.babel_dump.specs.declared.events_job.Events.{Events}
+use Rattle.babel_dump.specs.declared.hearing.Hearing.{Hearing}
 use Rattle.babel_dump.specs.declared.events_outcome.EventsOutcome.{EventsOutcome}
 use Rattle.babel_dump.specs.declared.speaker.Speaker.{Speaker}
 
@@ -31,9 +35,34 @@ pub record Suits (events : Events) (teller : Teller Speaker) : Type 0 where
   pub view : teller.interest.view ≡ events.view
   pub asked : teller.interest.asked ≡ asked_by events
 
+-- what was heard of a sender is how many octets its packets have, and their report
+pub record IsHeardOf (events : Events) (made : List Made) (heard : List (Speaker × Heard))
+    (speaker : Speaker) : Type 0 where
+  pub report : IsReportOf events made speaker (report_of speaker_cmp heard speaker)
+  pub octets : octets_heard speaker_cmp heard speaker
+      ≡ length (flat_map (λ packet. packet) (packets_heard speaker made))
+
+-- the records were heard, one after another, and this is to be written of what they told
+pub record HasHeard (events : Events) (made : List Made) (written : List (Telling Speaker))
+    (hearing : Hearing) : Type 0 where
+  pub suits : Suits events hearing.teller
+  pub steps : List Step
+  pub are_made : made_in steps ≡ made
+  pub each : (front back : List Step) → steps ≡ front ++ back → HaveToldSo events front
+  pub have_told : HaveTold events None (made_in steps) (told_in steps) hearing.teller.timeline.rows
+  pub written_is : written ≡ written_in [] steps
+  pub lost : (speaker : Speaker)
+      → contains speaker_cmp hearing.lost speaker ≡ is_lost (made_in steps) speaker
+  pub heard : (speaker : Speaker)
+      → IsHeardOf events (made_in steps) hearing.teller.heard.entries speaker
+
+-- of what is told now, that of senders that are not lost
+abbrev pub unlost_by : BTreeSet Speaker → List (Telling Speaker) → List (Telling Speaker)
+unlost_by lost told = filter (λ one. not (contains speaker_cmp lost (speaker_of one))) told
+
 -- of the capture these octets were read, the records before those that it keeps were heard, and
--- they told this
-pub record AreToHear (events : Events) (fed : List ℕ) (told : List (Telling Speaker))
+-- of what they told this is to be written
+pub record AreToHear (events : Events) (fed : List ℕ) (written : List (Telling Speaker))
     (followed : Followed) : Type 0 where
   pub taken : List ℕ
   pub read : HasTaken (record { limit = followed_extent events; taken = taken })
@@ -41,17 +70,16 @@ pub record AreToHear (events : Events) (fed : List ℕ) (told : List (Telling Sp
   pub no_fault : followed.capture.fault ≡ None
   pub limit : followed.capture.limit ≡ followed_extent events
   pub wanted : followed.capture.progress.gathering.wanted ≡ followed_by events
-  pub suits : Suits events followed.teller
   pub gone : List Made
   pub kept : List Made
   pub whole : read.leads.gathered.made ≡ gone ++ kept
   pub taken_is : taken ≡ dump_of (followed_by events) gone
   pub ends : followed.capture.progress.ends ≡ ends_of (followed_by events) kept
-  pub have_told : HaveTold events None gone told followed.teller.timeline.rows
+  pub has_heard : HasHeard events gone written followed.hearing
 
--- of the capture these octets were read, all of its records that are whole were heard, and these
--- tellings were written before those that are kept
-pub record IsFollowed (events : Events) (fed : List ℕ) (told : List (Telling Speaker))
+-- of the capture these octets were read, all of its records that are whole were heard, and this was
+-- written before what is told and not written yet
+pub record IsFollowed (events : Events) (fed : List ℕ) (written : List (Telling Speaker))
     (followed : Followed) : Type 0 where
   pub taken : List ℕ
   pub read : HasTaken (record { limit = followed_extent events; taken = taken })
@@ -60,27 +88,19 @@ pub record IsFollowed (events : Events) (fed : List ℕ) (told : List (Telling S
   pub limit : followed.capture.limit ≡ followed_extent events
   pub wanted : followed.capture.progress.gathering.wanted ≡ followed_by events
   pub ends : followed.capture.progress.ends ≡ []
-  pub suits : Suits events followed.teller
-  pub have_told : HaveTold events None read.leads.gathered.made (told ++ followed.told.items)
-      followed.teller.timeline.rows
+  pub has_heard : HasHeard events read.leads.gathered.made (written ++ followed.told.items)
+      followed.hearing
 
 -- the line of what is told, with the name of its interface
 abbrev pub named_event : Events → Gathering → Telling Speaker → List ℕ
 named_event events gathering told = event_in events.format events.view events.pair
     (name_of gathering (speaker_of told).place.interface) told
 
--- the writer took the lines of what was told
-pub record WroteLines (events : Events) (told : List (Telling Speaker)) (writer : Output) :
-    Type 0 where
-  pub text : List ℕ
-  pub lines : AreLines events told text
-  pub wrote : Appends writer.old.taken writer.new.taken text
-
 -- it was followed so far, and the writer took the lines of what is told besides
-pub record Goes (events : Events) (fed : List ℕ) (told : List (Telling Speaker)) (writer : Output)
-    (followed : Followed) : Type 0 where
+pub record Goes (events : Events) (fed : List ℕ) (written : List (Telling Speaker))
+    (writer : Output) (followed : Followed) : Type 0 where
   pub more : List (Telling Speaker)
-  pub is_followed : IsFollowed events fed (told ++ more) followed
+  pub is_followed : IsFollowed events fed (written ++ more) followed
   pub wrote : WroteLines events more writer
 
 -- the reader gave all that it had, and the writer took the lines of what that told
@@ -90,36 +110,48 @@ pub record HasFollowed (events : Events) (old new : InputState) (writer : Output
   pub gave : GaveOctets old new octets
   pub goes : Goes events octets [] writer followed
 
--- what has ended by this moment, if there is one, is told
-abbrev pub EndsBy : Events → Option ℕ → (old new : Followed) → Type 0
-EndsBy events None old new = (new.teller ≡ old.teller) × (new.told ≡ old.told)
-EndsBy events (Some moment) old new =
-    TellsEnds speaker_cmp events.expiry (asked_by events) moment old.teller.timeline.rows
-    new.teller.timeline.rows old.told.items new.told.items
-    × AllLast speaker_cmp events.expiry moment new.teller.timeline.rows
+-- what has ended by this moment is told, and is to be written where its sender is not lost
+pub record EndsBy (events : Events) (moment : ℕ) (rows after : Rows Speaker)
+    (lost : BTreeSet Speaker) (old new : List (Telling Speaker)) : Type 0 where
+  pub ended : List (Telling Speaker)
+  pub tells : TellsEnds speaker_cmp events.expiry (asked_by events) moment rows after [] ended
+  pub last : AllLast speaker_cmp events.expiry moment after
+  pub written : new ≡ old ++ unlost_by lost ended
+
+-- the same where there is a moment, and nothing where there is none
+abbrev pub EndsAt : Events → Option ℕ → (old new : Followed) → Type 0
+EndsAt events None old new = (new.hearing ≡ old.hearing) × (new.told ≡ old.told)
+EndsAt events (Some moment) old new =
+    EndsBy events moment old.hearing.teller.timeline.rows new.hearing.teller.timeline.rows
+    old.hearing.lost old.told.items new.told.items
 
 -- These octets are all of a capture that was followed so far. The writer took the lines of what is
 -- told besides, up to the moment that it was read to.
-pub record Ends (events : Events) (fed : List ℕ) (told : List (Telling Speaker)) (writer : Output)
-    (answer : EventsOutcome) : Type 0 where
-  pub gathering : Gathering
-  pub cut : Option ℕ
-  pub is_read : IsReadToCut (followed_extent events) fed gathering cut
-  pub wanted : gathering.wanted ≡ followed_by events
-  pub accepted : events.accept_cut ≡ false → cut ≡ None
+pub record Ends (events : Events) (fed : List ℕ) (written : List (Telling Speaker))
+    (writer : Output) (answer : EventsOutcome) : Type 0 where
   pub more : List (Telling Speaker)
-  pub rows : Rows Speaker
-  pub have_told : HaveTold events (moment_read events is_read.is_read.blocks gathering)
-      is_read.is_read.gathered.made (told ++ more) rows
-  pub all_last : gathering.report.timing.has_untimed ≡ false
-      → IfSome (moment_read events is_read.is_read.blocks gathering)
-      (λ moment. AllLast speaker_cmp events.expiry moment rows)
+  pub tells : TellsCapture events fed (written ++ more) answer
   pub wrote : WroteLines events more writer
-  pub outcome_is : IsOutcomeOf answer.outcome (senders_status gathering.senders) gathering.report cut
 
--- with what the packet says, the tellings are those before and what it tells
+-- the packet is heard: what it says is told, and counted for its sender
 pub record HearsPacket (events : Events) (origin : Origin) (time : ℕ) (packet : List ℕ)
-    (rows after : Rows Speaker) (old new : List (Telling Speaker)) : Type 0 where
+    (old new : Teller Speaker) (before told : List (Telling Speaker)) : Type 0 where
+  pub suits : Suits events new
   pub said : List (Said Speaker)
   pub is_said : IsSaid events time origin.place origin.sender packet said
-  pub tells : Tells speaker_cmp events.expiry (asked_by events) said time rows after old new
+  pub tells : Tells speaker_cmp events.expiry (asked_by events) said time old.timeline.rows
+      new.timeline.rows before told
+  pub counts : CountsPacket speaker_cmp (speaker_at origin)
+      (record { sender = origin.sender; via_v6 = events.limits.via_v6 }) packet old.heard.entries
+      new.heard.entries
+
+-- with this record this is told besides, and what was heard of senders is of it, too
+pub record HearsRecord (events : Events) (one : Made) (old new : Teller Speaker)
+    (told : List (Telling Speaker)) : Type 0 where
+  pub suits : Suits events new
+  pub tells : (made : List Made) (before : List (Telling Speaker))
+      → HaveTold events None made before old.timeline.rows
+      → HaveTold events None (made ++ one ∷ []) (before ++ told) new.timeline.rows
+  pub heard : (made : List Made) (speaker : Speaker)
+      → IsHeardOf events made old.heard.entries speaker
+      → IsHeardOf events (made ++ one ∷ []) new.heard.entries speaker

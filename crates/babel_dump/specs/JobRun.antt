@@ -19,7 +19,6 @@ use Rattle.babel_dump.specs.declared.capture_reading.CaptureReading.{CaptureRead
 use Rattle.babel_dump.specs.declared.job.Job.{Job}
 use Rattle.babel_dump.specs.declared.job.Job.TheVariants as jobs
 use Rattle.babel_dump.specs.declared.outcome.Outcome.{Outcome}
-use Rattle.babel_dump.specs.declared.reading.Reading.{Reading}
 use Rattle.babel_dump.specs.declared.run_fault.RunFault.{RunFault}
 
 abbrev pub capture_of : Reads → CaptureReading → Wanted → CaptureInput

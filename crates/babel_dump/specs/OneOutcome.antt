@@ -55,7 +55,7 @@ pub record RanOver (job : Job) (contents other : Contents) (before after : List 
 -- not run out, and it is no fault of a capture's octets
 abbrev pub IsOfDump : InputFault → Type 0
 IsOfDump (input_faults.Dump fault) = fault ≢ faults.Memory
-IsOfDump (input_faults.Ignored tlv) = Unit {0}
+IsOfDump (input_faults.Ignored tlv ignores_4) = Unit {0}
 IsOfDump (input_faults.LeftOut datagram) = Unit {0}
 IsOfDump input_faults.NoUpdates = Unit {0}
 IsOfDump fault = ⊥

@@ -1,7 +1,6 @@
 -- What the two parts of a run promise, reading and writing. These are this project's own.
-use Rattle.std.specs.Prelude.{ℕ, Bool, true, false, ◌≡◌, ◌+◌, ◌<◌, ◌≤◌, ◌⊎◌, List, [], length}
-use Rattle.std.specs.Prelude.{Option, None, Some, Result, IfOk, IfErr, OnOk, OnErr}
-use Rattle.std.specs.Io.KnownBytes.{Appends}
+use Rattle.std.specs.Prelude.{ℕ, Bool, ◌≡◌, ◌<◌, ◌≤◌, ◌⊎◌, List, [], length}
+use Rattle.std.specs.Prelude.{Result, IfOk, IfErr}
 use Rattle.babel_prefix.specs.Address.{Address}
 use Rattle.babel_tlv.specs.declared.view.View.{View}
 use Rattle.babel_tlv.specs.Pair.{Pair}
@@ -22,12 +21,11 @@ use Rattle.babel_canon.specs.declared.verdict.Verdict.{Verdict}
 use Rattle.babel_dump.specs.AskedPairs.{IsFirstWrong}
 use Rattle.babel_dump.specs.Command.{IsOfMany, IsOfMemory, IsOutcome, IsOutcomeOfAnswers}
 use Rattle.babel_dump.specs.Command.{IsOutcomeOfBoth}
-use Rattle.babel_dump.specs.Device.{AppendsPrefix}
 use Rattle.babel_dump.specs.Given.{GaveAll, GaveTables, Input, Reads}
 use Rattle.babel_dump.specs.InFormat.{differences_or_count_in, verdict_in}
 use Rattle.babel_dump.specs.Reads.{AreUncut, GaveReads}
 use Rattle.babel_dump.specs.JobRun.{CauseBy, OtherCalled, SaysBy, first_calls, other_calls}
-use Rattle.babel_dump.specs.Run.{Called, Calls, Output}
+use Rattle.babel_dump.specs.Run.{Called, Calls}
 use Rattle.babel_dump.specs.RunText.{answer_in, differences_status, form_text, verdict_status}
 use Rattle.babel_dump.specs.SlicedRows.{found_text}
 use Rattle.babel_dump.specs.declared.both.SeenTables.{SeenTables}

@@ -28,7 +28,7 @@ use Rattle.babel_dump.specs.declared.sender_keys.SenderKeys.{SenderKeys}
 abbrev pub packet_in : Came → Found → List (Option ℕ × List ℕ)
 packet_in came passed = []
 packet_in came untold = []
-packet_in came (left reason) = []
+packet_in came (left reason missed) = []
 packet_in came (refused lack) = []
 packet_in came (lacked place sender lack) = []
 packet_in came (found place sender packet has_trailer) = (time_of came, packet) ∷ []

@@ -12,9 +12,11 @@ pub record IsReadWhole (left_out : Option LeftOutDatagram) (report : Counts) : T
   pub none_left_out : left_out ≡ None
   pub has_updates : report.updates ≢ 0
 
--- why it is refused, in this order: its first ignored TLV, a datagram that was left out, no Updates
+-- why it is refused, in this order: its first ignored TLV, with whether an Update in encoding 4 was
+-- ignored; a datagram that was left out; no Updates
 abbrev pub IsNotReadWhole : Option LeftOutDatagram → Counts → InputFault → Type 0
-IsNotReadWhole left_out report (input_faults.Ignored tlv) = first_ignored report ≡ Some tlv
+IsNotReadWhole left_out report (input_faults.Ignored tlv ignores_4) =
+    (first_ignored report ≡ Some tlv) × (ignores_4 ≡ report.ignores_4)
 IsNotReadWhole left_out report (input_faults.LeftOut datagram) =
     IgnoresNone report × (left_out ≡ Some datagram)
 IsNotReadWhole left_out report input_faults.NoUpdates =

@@ -1,6 +1,6 @@
 -- The text of a time: ISO 8601, in UTC, with nine digits after the point. Of the calendar it is
 -- known how many days after 1 January 1970 a date is.
-use Rattle.std.specs.Prelude.{ℕ, zero, suc, ◌+◌, ◌-◌, ◌*◌, ◌/◌, ◌%◌, pos, unsigned_abs, nat_le}
+use Rattle.std.specs.Prelude.{ℕ, zero, suc, ◌+◌, ◌-◌, ◌/◌, ◌%◌, pos, unsigned_abs, nat_le}
 use Rattle.std.specs.Prelude.{if◌then◌else◌, List, [], ◌∷◌, ◌++◌, codes, Option, None, Some}
 use Rattle.jiff_core.specs.Calendar.{days_from_civil}
 use Rattle.babel_dump.specs.JsonText.{quoted}

@@ -1,70 +1,92 @@
-//! What is said of a sender that has no packets among those of a capture that are read.
-use crate::events_job::Events;
-use crate::job::Job;
+//! What is said where a capture has none of the packets that are wanted.
+use crate::moment_words::moments_of;
 use crate::place_word::PlaceInWords;
-use crate::run_fault::Side;
+use crate::push_time::SECOND;
 use crate::time_text::TimeText;
-use babel_capture::{Moment, Place, Window};
+use babel_capture::{Capture, Moment, Place, Time, Wanted, Window};
 use babel_prefix::Addr;
 use std::fmt;
 
-/// That a sender has no packets in a capture, or none at a place or between two moments, where
-/// these are named. `Display` gives the line for standard error.
-#[derive(Clone, Copy, Debug)]
+/// That a capture has no packets of a sender, or of any, where none is named; or none at a place or
+/// between two moments, where these are named. `Display` gives the line for standard error.
+#[derive(Clone, Copy, Debug, PartialEq, Eq)]
 pub struct Absence {
-    sender: Addr,
+    sender: Option<Addr>,
     place: Option<Place>,
-    window: Window,
+    /// The first and the last moment, in nanoseconds since the start of 1970.
+    since: Option<u128>,
+    until: Option<u128>,
+    /// When the sender's first packet came that is at another place, or time.
+    first: Option<Time>,
 }
 
 impl Absence {
-    /// That of the sender whose packets a job asks for in its input on this side.
-    pub fn of(job: &Job, side: Side, sender: Addr) -> Absence {
-        let (place, window) = job.asked_packets(side);
+    /// That of the packets that are wanted of this capture, which was read in this window.
+    pub(crate) fn of(capture: &Capture, window: &Window) -> Absence {
+        let gathered = capture.gathered();
+        let (sender, place) = match gathered.wanted() {
+            Wanted::Sender { sender, place, .. } => (Some(sender), place),
+            Wanted::InTurn { sender, place } => (sender, place),
+            Wanted::Everyone | Wanted::Each => (None, None),
+        };
+        let (since, until) = moments_of(window);
+        let start = match capture.start() {
+            Some(start) => Some(start.nanoseconds()),
+            None => None,
+        };
         Absence {
             sender,
             place,
-            window,
+            since: moment_of(since, start),
+            until: moment_of(until, start),
+            first: gathered.first_outside(),
         }
     }
 
-    /// That of the sender whose packets `events` asks for.
-    pub fn of_events(events: &Events, sender: Addr) -> Absence {
-        Absence {
-            sender,
-            place: events.place,
-            window: events.window,
-        }
+    /// Whether no packet can be between the two moments, since the first is later than the last.
+    pub fn is_backwards(&self) -> bool {
+        matches!((self.since, self.until), (Some(since), Some(until)) if since > until)
     }
 }
 
 impl fmt::Display for Absence {
     fn fmt<W: fmt::Write>(&self, f: &mut fmt::Formatter<W>) -> fmt::Result {
-        write!(f, "no packets from {}", self.sender)?;
+        let Some(sender) = self.sender else {
+            return f.write_str("no Babel packets");
+        };
+        write!(f, "no packets from {sender}")?;
         if let Some(place) = self.place {
             write!(f, " at{}", PlaceInWords(place))?;
         }
-        match moments(self.window) {
-            (Some(since), Some(until)) => write!(f, " from {since} to {until}"),
-            (Some(since), None) => write!(f, " since {since}"),
-            (None, Some(until)) => write!(f, " until {until}"),
-            (None, None) => Ok(()),
+        match (text_of(self.since), text_of(self.until)) {
+            (Some(since), Some(until)) => write!(f, " from {since} to {until}")?,
+            (Some(since), None) => write!(f, " since {since}")?,
+            (None, Some(until)) => write!(f, " until {until}")?,
+            (None, None) => {}
+        }
+        match self.first {
+            Some(first) => write!(f, "; its first came at {}", TimeText(first)),
+            None => Ok(()),
         }
     }
 }
 
-/// The first and the last moment of a window, where they are named.
-fn moments(window: Window) -> (Option<TimeText>, Option<TimeText>) {
-    match window {
-        Window::Whole => (None, None),
-        Window::Between { since, until } => (text_of(since), text_of(until)),
+/// A moment of a capture whose first packet came then, in nanoseconds since the start of 1970, as
+/// that; `None` where it depends on that and there is none.
+fn moment_of(moment: Option<Moment>, start: Option<u128>) -> Option<u128> {
+    match moment? {
+        Moment::At(time) => Some(time.nanoseconds()),
+        Moment::After {
+            seconds,
+            nanoseconds,
+        } => {
+            let later = u128::from(seconds) * u128::from(SECOND) + u128::from(nanoseconds);
+            start?.checked_add(later)
+        }
     }
 }
 
-/// The text of a moment, where that is a time.
-fn text_of(moment: Option<Moment>) -> Option<TimeText> {
-    match moment? {
-        Moment::At(time) => Some(TimeText(time)),
-        Moment::After { .. } => None,
-    }
+/// The text of a moment, where there is one, up to the year 9999.
+fn text_of(moment: Option<u128>) -> Option<TimeText> {
+    Some(TimeText(Time::new(moment?)?))
 }

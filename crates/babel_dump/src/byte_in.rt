@@ -4,6 +4,7 @@ ghost use Rattle.babel_dump.specs.Device.{InputState, ReadGave, failed_calls, en
 ghost use Rattle.babel_dump.specs.Device.{no_times};
 ghost use Rattle.babel_dump.specs.Reads.{ReadsPacket};
 
+use crate::absence::Absence;
 use crate::left_out::LeftOutDatagram;
 use babel_table::USUAL_SEED;
 use std::io;
@@ -58,6 +59,11 @@ pub trait ByteIn {
         ensures { state self.new ≡ state self.old }
     {}
 
+    /// Keeps what is said where the capture that it gave has no packets, for the notes.
+    fn keep_absence(&mut self, _absence: Absence)
+        ensures { state self.new ≡ state self.old }
+    {}
+
     /// The seed by which keys are found in what it gave: `Feeder::with_seed`.
     fn seed(&self) -> u128 {
         USUAL_SEED
@@ -69,6 +75,8 @@ pub trait ByteIn {
 pub struct FromReader<R: Read> {
     reader: R,
     left_out: Option<LeftOutDatagram>,
+    /// What is said where the capture that it gave has no packets, if it gave one.
+    absence: Option<Absence>,
     failures: u64,
     reads: u64,
     ends: u64,
@@ -106,10 +114,16 @@ impl<R: Read> FromReader<R> {
         FromReader {
             reader,
             left_out,
+            absence: None,
             failures: 0,
             reads: 0,
             ends: 0,
         }
+    }
+
+    /// What is said where the capture that it gave has no packets, if it gave one.
+    pub fn absence(&self) -> Option<Absence> {
+        self.absence
     }
 }
 
@@ -154,5 +168,9 @@ impl<R: Read> ByteIn for FromReader<R> {
 
     fn moment(&self) -> Option<u128> {
         None
+    }
+
+    fn keep_absence(&mut self, absence: Absence) {
+        self.absence = Some(absence);
     }
 }

@@ -7,6 +7,7 @@ ghost use Rattle.babel_dump.specs.CaptureRun.{CaptureCause, IsNoFault, capture_c
 ghost use Rattle.babel_dump.specs.Device.{HasRoomToCount};
 ghost use Rattle.babel_dump.specs.Parts.{Gathered};
 
+use crate::absence::Absence;
 use crate::byte_in::ByteIn;
 use crate::capture_reading::CaptureReading;
 use crate::input_fault::InputFault;
@@ -72,8 +73,9 @@ fn read_whole<R: ByteIn>(
         accept_cut,
         ..
     } = reading;
-    let mut capture = Capture::within(alloc, u64::from(limit), window, wanted);
+    let mut capture = Capture::within(alloc, u64::from(limit), window, accept_cut, wanted);
     feed_all(&mut capture, CaptureReading { ..reading }, reader)?;
+    reader.keep_absence(Absence::of(&capture, &reading.window));
     let read = finished(capture, accept_cut)?;
     Ok(read)
 }

@@ -14,12 +14,13 @@ ghost use Rattle.babel_dump.specs.Reads.{GavePacket, IsBetween};
 ghost use Rattle.babel_dump.specs.declared.captured.CaptureNotes.{CaptureNotes as CaptureNotesSaid};
 ghost use Rattle.babel_dump.specs.declared.input_fault.InputFault.{InputFault as InputFaultSaid};
 
+use crate::absence::Absence;
 use crate::byte_in::ByteIn;
 use crate::input_fault::InputFault;
 use crate::interfaces::interfaces_of;
 use crate::left_out::{LeftOutDatagram, first_left_out};
 use crate::reading::Reading;
-use babel_capture::{Capture, Fault, Gathered, PacketEnd, Report, Time};
+use babel_capture::{Capture, Fault, PacketEnd, Report, Time};
 use babel_tlv::Fault as DumpFault;
 use std::alloc::Global;
 use std::io;
@@ -63,7 +64,13 @@ impl<R: Read + Drop> Source<R> {
             alloc,
             reading,
             reader,
-            capture: Capture::within(alloc, u64::from(how.limit), how.window, reading.wanted()),
+            capture: Capture::within(
+                alloc,
+                u64::from(how.limit),
+                how.window,
+                how.accept_cut,
+                reading.wanted(),
+            ),
             end: None,
         }
     }
@@ -236,7 +243,7 @@ impl<R: Read + Drop> Source<R> {
             → HasGiven source.capture taken fed → Stands source fed taken (Some result) }
     {
         match self.capture.cut() {
-            Ok(cut) => end_of(self.alloc, self.reading, self.capture.gathered(), cut),
+            Ok(cut) => end_of(self.alloc, self.reading, &self.capture, cut),
             Err(fault) => Err(InputFault::Capture(fault)),
         }
     }
@@ -440,15 +447,18 @@ impl<R: Read + Drop> ByteIn for CapturedDump<R> {
 fn end_of(
     alloc: Global,
     reading: Reading,
-    gathered: &Gathered,
+    capture: &Capture,
     cut: Option<u64>,
 ) -> Result<CaptureNotes, InputFault>
-    ensures ok { IfOk result (EndsWith reading.accept_cut gathered.now cut) }
-    ensures err { IfErr result (EndsRefused reading.accept_cut reading.strict gathered.now cut) }
+    ensures ok { IfOk result
+        (EndsWith reading.accept_cut capture.now.progress.gathering cut) }
+    ensures err { IfErr result
+        (EndsRefused reading.accept_cut reading.strict capture.now.progress.gathering cut) }
 {
     if let (Some(at), false) = (cut, reading.accept_cut) {
         return Err(InputFault::Capture(Fault::CutShort { at }));
     }
+    let gathered = capture.gathered();
     let report = gathered.report();
     let places = gathered.senders().len();
     if places != 1 && reading.strict {
@@ -457,7 +467,7 @@ fn end_of(
         }
     }
     match places {
-        0 => Err(InputFault::NoPackets(reading.sender)),
+        0 => Err(InputFault::NoPackets(Absence::of(capture, &reading.window))),
         1 => Ok(CaptureNotes {
             report,
             cut,

@@ -5,6 +5,7 @@ ghost use Rattle.std.specs.Io.Chain.{chain_second};
 ghost use Rattle.std.specs.Io.KnownBytes.{Consumes, Keeps, ReadConsumes, prepend_known};
 ghost use Rattle.babel_dump.specs.Device.{HasRoomToCount};
 
+use crate::absence::Absence;
 use crate::byte_in::{ByteIn, FromReader};
 use crate::captured::{CaptureNotes, CapturedDump};
 use crate::input_fault::InputFault;
@@ -205,6 +206,14 @@ impl<R: Read + Drop> DumpInput<R> {
         }
     }
 
+    /// What is said where a capture that was read as such has no packets.
+    pub fn absence(&self) -> Option<Absence> {
+        match self {
+            DumpInput::Stream(stream) => stream.absence(),
+            DumpInput::Captured(_) => None,
+        }
+    }
+
     /// What is told where a run over the dump answers this fault.
     pub fn told(self, fault: InputFault) -> InputFault {
         match self {
@@ -261,6 +270,13 @@ impl<R: Read + Drop> ByteIn for DumpInput<R> {
         match self {
             DumpInput::Stream(stream) => stream.keep_passed(passed),
             DumpInput::Captured(dump) => dump.keep_passed(passed),
+        }
+    }
+
+    fn keep_absence(&mut self, absence: Absence) {
+        match self {
+            DumpInput::Stream(stream) => stream.keep_absence(absence),
+            DumpInput::Captured(dump) => dump.keep_absence(absence),
         }
     }
 }

@@ -2,6 +2,7 @@ ghost use Rattle.std.specs.Prelude.{◌≡◌};
 ghost use Rattle.babel_dump.specs.EventsStatus.{events_status};
 
 use crate::input_fault::InputFault;
+use crate::place_word::NamedOrigin;
 use crate::write::WriteFailed;
 use babel_capture::Origin;
 use babel_tlv::Fault;
@@ -16,8 +17,13 @@ pub enum EventsFault {
     #[error("{0}")]
     Input(InputFault),
     /// The TLVs of this sender are refused: by an offset in its dump.
-    #[error("{1}")]
-    Sender(Origin, Fault),
+    #[error("{fault}")]
+    Sender {
+        origin: Origin,
+        /// The name of its interface, as the capture has it, once that is told.
+        name: Option<Vec<u8>>,
+        fault: Fault,
+    },
     /// A write or a flush failed, or a write took nothing.
     #[error("write failed")]
     Write,
@@ -66,9 +72,23 @@ impl EventsFault {
     {
         match self {
             EventsFault::Input(fault) => fault.status(),
-            EventsFault::Sender(_, Fault::Memory) => 5,
-            EventsFault::Sender(_, _) => 3,
+            EventsFault::Sender {
+                fault: Fault::Memory,
+                ..
+            } => 5,
+            EventsFault::Sender { .. } => 3,
             EventsFault::Write => 4,
+        }
+    }
+
+    /// The sender whose TLVs are refused, if they are.
+    pub fn sender(&self) -> Option<NamedOrigin<'_>> {
+        match self {
+            EventsFault::Sender { origin, name, .. } => Some(NamedOrigin {
+                origin: *origin,
+                name: name.as_deref().unwrap_or(&[]),
+            }),
+            _ => None,
         }
     }
 }

@@ -1,5 +1,6 @@
 use crate::events_job::Events;
 use crate::outcome::Outcome;
+use crate::place_word::NamedOrigin;
 use babel_capture::Origin;
 use babel_table::Report;
 
@@ -20,6 +21,16 @@ pub struct HeardSender {
     pub name: Vec<u8>,
     /// How many TLVs it sent, and which were ignored, by their offsets in its dump.
     pub report: Report,
+}
+
+impl HeardSender {
+    /// The sender at its place.
+    pub fn named(&self) -> NamedOrigin<'_> {
+        NamedOrigin {
+            origin: self.origin,
+            name: &self.name,
+        }
+    }
 }
 
 impl EventsOutcome {

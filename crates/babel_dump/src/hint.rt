@@ -117,10 +117,16 @@ impl Hint {
         }
     }
 
-    /// What to know about TLVs that a job ignored for this reason, in the dump on this side.
-    pub fn of_reason(job: &Job, reason: Reason, side: Side) -> Option<Hint> {
+    /// What to know about TLVs that a job ignored for this reason, in the dump on this side, where
+    /// Updates were ignored because their encoding is 4, or not.
+    pub fn of_reason(
+        job: &Job,
+        reason: Reason,
+        ignores_encoding_4: bool,
+        side: Side,
+    ) -> Option<Hint> {
         match reason {
-            Reason::UnknownEncoding => Hint::of_encoding(job.limits()?),
+            Reason::UnknownEncoding if ignores_encoding_4 => Hint::of_encoding(job.limits()?),
             Reason::NoNextHop => Some(Hint::NoNextHop(side.option())),
             _ => None,
         }
@@ -150,7 +156,7 @@ impl Hint {
         match fault {
             RunFault::Input(
                 _,
-                InputFault::Ignored(_)
+                InputFault::Ignored { .. }
                 | InputFault::Dump(
                     Fault::TlvPastEnd { .. }
                     | Fault::EncodingSetsRouterId { .. }
@@ -170,12 +176,13 @@ impl Hint {
             }
             InputFault::Dump(Fault::TooManyPairs) => Some(Hint::Pairs(keys.limits.entries())),
             InputFault::Dump(Fault::TooLong) => Some(Hint::Octets(keys.limits.bytes())),
-            InputFault::Ignored(
-                IgnoredTlv {
+            InputFault::Ignored {
+                tlv: IgnoredTlv {
                     reason: Reason::UnknownEncoding,
                     ..
                 },
-            ) => Hint::of_encoding(keys.limits),
+                ignores_encoding_4: true,
+            } => Hint::of_encoding(keys.limits),
             InputFault::LeftOut(datagram) => Hint::of_lack(datagram.reason),
             _ => None,
         }
@@ -188,9 +195,10 @@ impl Hint {
                 Hint::of_capture(events.limits.bytes(), fault, begins)
             }
             EventsFault::Input(InputFault::NoPackets(_)) => Some(Hint::Senders),
-            EventsFault::Sender(_, Fault::TooManyRoutes { .. }) => {
-                Some(Hint::Routes(events.limits.entries()))
-            }
+            EventsFault::Sender {
+                fault: Fault::TooManyRoutes { .. },
+                ..
+            } => Some(Hint::Routes(events.limits.entries())),
             _ => None,
         }
     }
@@ -208,7 +216,10 @@ impl Hint {
     fn of_input(job: &Job, side: Side, fault: &InputFault, begins: &[u8]) -> Option<Hint> {
         match fault {
             InputFault::Dump(fault) => Hint::of_dump(job, *fault, begins),
-            InputFault::Ignored(tlv) => Hint::of_reason(job, tlv.reason, side),
+            InputFault::Ignored {
+                tlv,
+                ignores_encoding_4,
+            } => Hint::of_reason(job, tlv.reason, *ignores_encoding_4, side),
             InputFault::Capture(fault) => {
                 Hint::of_capture(job.most_octets_of_capture(), fault, begins)
             }

@@ -1,11 +1,11 @@
 ghost use Rattle.std.specs.Prelude.{◌≡◌};
 ghost use Rattle.babel_dump.specs.Run.{input_status};
 
+use crate::absence::Absence;
 use crate::ignored::IgnoredTlv;
 use crate::interfaces::Interfaces;
 use crate::left_out::LeftOutDatagram;
 use babel_capture::Fault as CaptureFault;
-use babel_prefix::Addr;
 use babel_tlv::Fault;
 use std::alloc::AllocError;
 use thiserror::Error;
@@ -18,8 +18,12 @@ pub enum InputFault {
     #[error("{0}")]
     Dump(Fault),
     /// A TLV of the dump was ignored, and the dump is read strictly.
-    #[error("{0}")]
-    Ignored(IgnoredTlv),
+    #[error("{tlv}")]
+    Ignored {
+        tlv: IgnoredTlv,
+        /// Whether an Update of the dump was ignored because its encoding is 4.
+        ignores_encoding_4: bool,
+    },
     /// The capture is refused, or an allocation was.
     #[error("{0}")]
     Capture(CaptureFault),
@@ -33,8 +37,8 @@ pub enum InputFault {
     #[error("packets from this sender on several interfaces: {0}")]
     SeveralInterfaces(Interfaces),
     /// The sender whose dump is asked for has no packets in the capture.
-    #[error("no packets from {0}")]
-    NoPackets(Addr),
+    #[error("{0}")]
+    NoPackets(Absence),
     /// A read failed.
     #[error("read failed")]
     Read,

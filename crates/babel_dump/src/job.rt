@@ -7,11 +7,12 @@ use crate::capture_reading::CaptureReading;
 use crate::filter::Filter;
 use crate::format::Format;
 use crate::key_text::Named;
+use crate::moment_words::moments_of;
 use crate::reading::{Reading, TimeOption, capture_limit};
 use crate::run_fault::Side;
 use crate::spelling::Spelling;
 use babel_canon::Body;
-use babel_capture::{Place, Window};
+use babel_capture::{Moment, Place, Window};
 use babel_prefix::Addr;
 use babel_table::Limits;
 use babel_tlv::View;
@@ -332,16 +333,26 @@ impl Job {
         }
     }
 
-    /// Where and when the packets came that are read of the input on this side, if it is a capture:
-    /// the place, if one is named, and the window.
-    pub(crate) fn asked_packets(&self, side: Side) -> (Option<Place>, Window) {
-        if let Job::Extract { reading, place, .. } = self {
-            return (*place, reading.window);
+    /// The options that say from when and up to when packets are read of the input on this side: of
+    /// the other those of the first where these say the same.
+    pub fn moment_options(&self, side: Side) -> (&'static str, &'static str) {
+        if side == Side::First {
+            return ("--since", "--until");
         }
-        match side {
-            Side::First => asked_packets(self.reading()),
-            Side::Other => asked_packets(self.other_reading()),
-        }
+        let (since, until) = moments(self.reading());
+        let (other_since, other_until) = moments(self.other_reading());
+        (
+            if other_since == since {
+                "--since"
+            } else {
+                "--other-since"
+            },
+            if other_until == until {
+                "--until"
+            } else {
+                "--other-until"
+            },
+        )
     }
 
     /// How many octets of an input are read at most.
@@ -449,10 +460,10 @@ fn for_captures(reading: Option<Reading>) -> ForCaptures {
     }
 }
 
-/// Where and when the packets came that are read of a capture that is read so.
-fn asked_packets(reading: Option<Reading>) -> (Option<Place>, Window) {
+/// The moments between which an input is read that is read so, where they are named.
+fn moments(reading: Option<Reading>) -> (Option<Moment>, Option<Moment>) {
     match reading {
-        Some(reading) => (reading.place, reading.window),
-        None => (None, Window::Whole),
+        Some(reading) => moments_of(&reading.window),
+        None => (None, None),
     }
 }

@@ -3,8 +3,6 @@ ghost use Rattle.std.specs.Prelude.{◌≡◌, ◌++◌, IfOk, OnOk};
 ghost use Rattle.std.specs.Option.{option_copied};
 ghost use Rattle.babel_dump.specs.KeyText.{file_text, has_escape, key_line, name_escape};
 
-use crate::place_word::PlaceInWords;
-use babel_capture::Origin;
 use sha2::{Digest, Sha256};
 use std::alloc::{AllocError, Global};
 use std::fmt;
@@ -21,18 +19,6 @@ impl Display for Named<'_> {
         };
         write_file(f, file)?;
         f.write_str(": ")
-    }
-}
-
-/// A file's name and a sender at its place in it, as the lines of keys have them, a colon and a
-/// space.
-#[derive(Clone, Copy)]
-pub struct NamedSender<'a>(pub &'a str, pub Origin);
-
-impl Display for NamedSender<'_> {
-    fn fmt<W: Write>(&self, f: &mut Formatter<W>) -> fmt::Result {
-        write_file(f, self.0)?;
-        write!(f, " {}{}: ", self.1.sender, PlaceInWords(self.1.place))
     }
 }
 

@@ -78,6 +78,14 @@ impl Moments {
     }
 }
 
+/// The moments of a window, where they are named.
+pub(crate) fn moments_of(window: &Window) -> (Option<Moment>, Option<Moment>) {
+    match window {
+        Window::Whole => (None, None),
+        Window::Between { since, until } => (*since, *until),
+    }
+}
+
 /// Whether a moment is later than another, whatever the capture.
 fn is_later(start: Moment, end: Moment) -> bool {
     match start {

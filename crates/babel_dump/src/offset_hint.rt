@@ -12,8 +12,11 @@ impl OffsetHint {
     /// That of this fault; `None` where it tells no offset.
     pub fn of(fault: &EventsFault) -> Option<OffsetHint> {
         match fault {
-            EventsFault::Sender(_, Fault::Memory) => None,
-            EventsFault::Sender(origin, _) => Some(OffsetHint(SenderInWords(*origin))),
+            EventsFault::Sender {
+                fault: Fault::Memory,
+                ..
+            } => None,
+            EventsFault::Sender { origin, .. } => Some(OffsetHint(SenderInWords(*origin))),
             _ => None,
         }
     }

@@ -1,8 +1,10 @@
 //! What is said of words that `clap` refuses, and the texts that it was asked for.
 use crate::command::command;
+use crate::commands::COMMANDS;
 use crate::escaped::Escaped;
 use crate::help_text::wrapped;
 use crate::job::Refusal;
+use crate::options::has_option;
 use clap::Error;
 use clap::error::ErrorKind;
 use std::alloc::{AllocError, Global};
@@ -109,16 +111,12 @@ fn unexpected_option(said: &str) -> Option<&str> {
 /// The names of the commands that have an option, with commas between them.
 fn commands_with(alloc: Global, option: &str) -> Result<String, AllocError> {
     let mut names = String::new(alloc);
-    for each in command(alloc)?.get_subcommands() {
-        if each
-            .get_arguments()
-            .iter()
-            .any(|arg| arg.get_long() == Some(option))
-        {
+    for command in COMMANDS {
+        if has_option(command.name, option) {
             if !names.is_empty() {
                 names.push_str(", ")?;
             }
-            names.push_str(each.get_name())?;
+            names.push_str(command.name)?;
         }
     }
     Ok(names)

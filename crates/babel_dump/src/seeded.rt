@@ -1,5 +1,6 @@
 ghost use Rattle.std.specs.Prelude.{◌≡◌};
 
+use crate::absence::Absence;
 use crate::byte_in::ByteIn;
 use crate::left_out::LeftOutDatagram;
 use std::io;
@@ -46,6 +47,10 @@ impl<R: ByteIn> ByteIn for Seeded<R> {
 
     fn keep_passed(&mut self, passed: usize) {
         self.device.keep_passed(passed);
+    }
+
+    fn keep_absence(&mut self, absence: Absence) {
+        self.device.keep_absence(absence);
     }
 
     fn seed(&self) -> u128 {

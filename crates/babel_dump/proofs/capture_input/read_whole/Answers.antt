@@ -6,14 +6,15 @@ use Rattle.babel_dump.proofs.capture_input.read_whole.Goals as goal
 
 pub returns : goal.returns
 returns g c =
-    let fed = c.in_ok-feed_all.ensures in record {
+    let fed = c.in_ok-feed_all.ensures in
+    rw c.keep_absence.ensures (record {
       made = rw (← c.within-capture.ensures.made.1) (
         given_capture _ c.feed_all.new.capture _ _ (record { limit = fed.limit; wanted = fed.wanted }) fed.gathered.made c.in_ok-read.ensures.read c.in_ok-read.ensures.wanted,
         given_moment _ c.feed_all.new.capture _ (record { limit = fed.limit; wanted = fed.wanted }) fed.gathered.made fed.sound c.in_ok-read.ensures.moment,
       );
       cause = search rules;
       called = search rules;
-    }
+    })
 
 pub returns-in_err-feed_all : goal.returns-in_err-feed_all
 returns-in_err-feed_all g c =
@@ -26,9 +27,10 @@ returns-in_err-feed_all g c =
 pub returns-in_err-read : goal.returns-in_err-read
 returns-in_err-read g c =
     let fed = c.in_ok-feed_all.ensures in
-    let exit = err_from_is_err_and c.from_residual-in_err-read.result c.from_residual-in_err-read.ensures.1 in record {
+    let exit = err_from_is_err_and c.from_residual-in_err-read.result c.from_residual-in_err-read.ensures.1 in
+    rw c.keep_absence.ensures (record {
       made = search rules;
       cause = rw (exit.1, exit.2, ← c.within-capture.ensures.made.1) (λ not_memory. given_fault _ c.feed_all.new.capture _ (record { limit = fed.limit; wanted = fed.wanted })
           fed.gathered.made (c.in_err-read.ensures.accepted fed.sound) (c.in_err-read.ensures.fault not_memory));
       called = search rules;
-    }
+    })

@@ -1,5 +1,5 @@
 -- Octets of the part were given; or nothing is left of it, and there is another, or none.
-use Rattle.std.proofs.Common.{rules, arith, ◌≡◌, ◌<◌, ◌+◌, ap, length, length-append, sym, take, ◌++◌, ◌∙◌, [], refl, true, false}
+use Rattle.std.proofs.Common.{rules, ◌≡◌, ◌<◌, ◌+◌, ap, length, sym, take, [], refl, true, false}
 use Rattle.std.proofs.lemmas.List.{length-take-le}
 use Rattle.babel_dump.specs.Drained.{held_of, source_of}
 use Rattle.babel_dump.proofs.Drains.{handed_on, hands_end, hands_part, hands_trans}

@@ -1,5 +1,5 @@
 -- The dump of a sender at one place at most.
-use Rattle.std.proofs.Common.{rules, ◌≡◌, ℕ, ◌≤◌, Bool, true, false, ap, ◌∙◌, subst, length, List}
+use Rattle.std.proofs.Common.{rules, ◌≡◌, ℕ, ◌≤◌, Bool, true, false, ap, ◌∙◌, subst, length}
 use Rattle.std.specs.Prelude.{◌↔◌, IsTrue}
 use Rattle.babel_capture.specs.Tallies.{Senders}
 use Rattle.babel_dump.specs.CaptureText.{places_of}

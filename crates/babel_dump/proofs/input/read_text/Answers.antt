@@ -1,5 +1,5 @@
 -- What was given so far, and the octets of one more read.
-use Rattle.std.proofs.Common.{rules, ◌<◌, length, subst, sym, List, ℕ, arith, length-append}
+use Rattle.std.proofs.Common.{rules}
 use Rattle.babel_dump.specs.Device.{Gave}
 use Rattle.babel_dump.proofs.Devices.{gave_more}
 use Rattle.babel_dump.proofs.input.read_text.Goals as goal

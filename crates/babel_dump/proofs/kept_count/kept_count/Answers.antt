@@ -1,5 +1,4 @@
-use Rattle.std.proofs.Common.{◌≡◌, ◌^◌, ◌<◌, List, [], length, refl, sym, ap, ◌∙◌, arith}
-use Rattle.babel_tlv.specs.Pair.{Pair}
+use Rattle.std.proofs.Common.{◌≡◌, ◌^◌, ◌<◌, [], length, refl, sym, ap, ◌∙◌, arith}
 use Rattle.babel_dump.specs.Filter.{is_kept, keeps_every, kept_rows}
 use Rattle.babel_dump.specs.PairLines.{HasCounted}
 use Rattle.babel_dump.specs.declared.filter.Filter.{Filter}

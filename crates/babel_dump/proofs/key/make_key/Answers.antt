@@ -1,4 +1,4 @@
-use Rattle.std.proofs.Common.{rules, refl, ap, subst, sym}
+use Rattle.std.proofs.Common.{rules, refl}
 use Rattle.std.proofs.lemmas.Result.{err_from_is_err_and}
 use Rattle.babel_dump.proofs.key.make_key.Goals as goal
 

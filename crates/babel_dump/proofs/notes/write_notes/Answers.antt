@@ -1,4 +1,4 @@
-use Rattle.std.proofs.Common.{List, ℕ, ◌++◌, ◌≡◌, ◌∙◌, ap, arith}
+use Rattle.std.proofs.Common.{List, ℕ, ◌++◌, ◌∙◌, ap, arith}
 use Rattle.babel_dump.specs.NoteJson.{note_json}
 use Rattle.babel_dump.proofs.SliceLaws.{broke_next, wrote_next, wrote_none}
 use Rattle.babel_dump.proofs.notes.write_notes.Goals as goal

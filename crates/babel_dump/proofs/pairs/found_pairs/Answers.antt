@@ -1,5 +1,4 @@
 use Rattle.std.proofs.Common.{ℕ, Bool, List, ◌++◌, length, sym, ap, append-nil, ◌∙◌}
-use Rattle.babel_tlv.specs.Pair.{Pair}
 use Rattle.babel_dump.specs.Filter.{kept_pairs_in, kept_rows}
 use Rattle.babel_dump.specs.InFormat.{counts_in, pairs_in, pairs_or_counts_in}
 use Rattle.babel_dump.proofs.Forms.{says_pairs}

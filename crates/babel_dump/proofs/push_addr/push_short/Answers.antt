@@ -1,7 +1,7 @@
 -- The groups around the gap that was found, or the long text.
-use Rattle.std.proofs.Common.{◌≡◌, ℕ, List, [], ◌∷◌, ◌++◌, take, ◌-◌, ◌∙◌, ap, arith, append_assoc}
+use Rattle.std.proofs.Common.{ℕ, List, [], ◌∷◌, ◌++◌, take, ◌-◌, ◌∙◌, ap, arith, append_assoc}
 use Rattle.babel_prefix.specs.Text.{groups_from, groups_text}
-use Rattle.babel_prefix.proofs.PieceLaws.{around, no_gap}
+use Rattle.babel_prefix.proofs.PieceLaws.{around}
 use Rattle.babel_dump.proofs.push_addr.push_short.Goals as goal
 
 pub returns-clause-text : goal.returns-clause-text

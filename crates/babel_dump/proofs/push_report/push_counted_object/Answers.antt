@@ -1,4 +1,3 @@
-use Rattle.std.proofs.Common.{List, ℕ, ◌++◌, ◌≡◌}
 use Rattle.babel_dump.proofs.TextLemmas.{appended}
 use Rattle.babel_dump.proofs.push_report.push_counted_object.Goals as goal
 

@@ -1,4 +1,4 @@
-use Rattle.std.proofs.Common.{sym, ◌∙◌, arith, refl, Some, None}
+use Rattle.std.proofs.Common.{sym, ◌∙◌, arith, Some, None}
 use Rattle.std.proofs.lemmas.Grind.{common_steps}
 use Rattle.babel_dump.proofs.JsonLaws.{comma_after-more, objects_more, text_more}
 use Rattle.babel_dump.proofs.TextLemmas.{appended}

@@ -1,4 +1,3 @@
-use Rattle.std.proofs.Common.{arith}
 use Rattle.babel_dump.proofs.SenderLines.{broke_before_end, broke_in_middle, line_parts, took_whole}
 use Rattle.babel_dump.proofs.SliceLaws.{broke_within, front_at_err}
 use Rattle.babel_dump.proofs.slices.write_sender.Goals as goal

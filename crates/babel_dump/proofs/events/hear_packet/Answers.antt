@@ -1,6 +1,0 @@
-use Rattle.babel_dump.proofs.EventsFollowed.{hears_packet}
-use Rattle.babel_dump.proofs.SpeakerLaws.{speaker_order}
-use Rattle.babel_dump.proofs.events.hear_packet.Goals as goal
-
-pub returns-in-Ok-clause-heard : goal.returns-in-Ok-clause-heard
-returns-in-Ok-clause-heard c suits = hears_packet _ speaker_order c.args.events.now c.args.teller.now suits c.args.origin c.via_v6.result c.via_v6.ensures.value c.args.time _ c.args.packet.now _ _ _ _ c.in-Ok.ensures.ok
