@@ -137,6 +137,7 @@ enum Fault {
     NotCapture,
     CutShort(u64),
     BadLength(u64),
+    Blank(u64),
     BadOrder(u64),
     Version(u64, u16, u16),
     NoInterface(u64),
@@ -155,7 +156,7 @@ impl fmt::Display for Fault {
         match self {
             Fault::NotCapture => write!(f, "not a capture"),
             Fault::CutShort(at) => write!(f, "capture cut short at {at}"),
-            Fault::BadLength(at) => write!(f, "bad length at {at}"),
+            Fault::BadLength(at) | Fault::Blank(at) => write!(f, "bad length at {at}"),
             Fault::BadOrder(at) => write!(f, "bad byte order at {at}"),
             Fault::Version(at, major, minor) => {
                 write!(f, "version {major}.{minor} not read at {at}")
@@ -292,9 +293,11 @@ impl Reader {
         let len = match self.layout {
             Layout::Pcap(order) => {
                 let kept = order.u32_at(octets, 8);
-                let is_blank = kept == 0 && order.u32_at(octets, 12) == 0;
-                if kept > LONGEST_PACKET || is_blank {
+                if kept > LONGEST_PACKET {
                     return Err(Fault::BadLength(at));
+                }
+                if kept == 0 && order.u32_at(octets, 12) == 0 {
+                    return Err(Fault::Blank(at));
                 }
                 16 + kept
             }
@@ -1119,10 +1122,12 @@ fn read_capture(
     loop {
         let needed = loop {
             let rest = &octets[start..end];
-            match reader.block_len(rest, at)? {
-                None => break 0,
-                Some(len) if len > rest.len() => break len,
-                Some(len) => {
+            match reader.block_len(rest, at) {
+                Err(Fault::Blank(_)) if accept_cut => return Ok(()),
+                Err(fault) => return Err(fault.into()),
+                Ok(None) => break 0,
+                Ok(Some(len)) if len > rest.len() => break len,
+                Ok(Some(len)) => {
                     reader.take_block(&rest[..len], at)?;
                     start += len;
                     at += len as u64;

@@ -9,7 +9,8 @@ expiry mean, for nothing but to be read.
 The options are `--interface`, `--since`, `--until`, `--expiry`, `--v4-via-v6`, `--accept-cut` and
 `--quiet`; of `show` and `lookup` also `--hold`, of `events` also `--ignore`, `--json` and
 `--max-routes`. It writes what babel-dump writes, but for hints, of `show` and `lookup` the
-rows and the notes on times alone.
+rows and the notes on times alone. With `--follows-all` events go on where a datagram of the sender
+is missed, and faults don't say whose they are.
 
 A table is made of all that was said: of each key the last word decides, and its time and Interval
 whether it has expired. Events are made by a walk over all rows for each record.
@@ -310,10 +311,7 @@ class Event:
     held: object
 
     def text(self, names):
-        place, *sender = self.origin
-        where = reader.place_text(place, reader.name_at(place, names))
-        words = [reader.time_text(self.time), reader.text_of(*sender)]
-        words += [] if where == "interface 0" else [where]
+        words = [reader.time_text(self.time), sender_text(self.origin, names)]
         words += [self.what] + ([] if self.what == "answers" else [" from ".join(self.texts)])
         words += [what_text(self.held)] if self.held or self.what == "answers" else []
         return " ".join(words) + "\n"
@@ -337,18 +335,30 @@ class Event:
         )
 
 
+def sender_text(origin, names):
+    """A sender and its place, which is left out where it is interface 0 alone, without a name."""
+    place, *sender = origin
+    where = reader.place_text(place, reader.name_at(place, names))
+    return reader.text_of(*sender) + ("" if where == "interface 0" else f" {where}")
+
+
 class Timeline:
     """The rows of all senders, each with when it expires, if it does; and what was told so far.
-    Where a pair of addresses is asked for, only rows that contain both."""
+    Where a pair of addresses is asked for, only rows that contain both. Of those that are lost
+    nothing is told."""
 
     def __init__(self, factor, ignored, pair, most):
         self.factor, self.ignored, self.pair, self.most = factor, ignored, pair, most
-        self.rows, self.events, self.answers = {}, [], {}
+        self.rows, self.events, self.answers, self.lost = {}, [], {}, {}
+
+    def add(self, event):
+        if event.origin not in self.lost:
+            self.events.append(event)
 
     def tell(self, time, origin, what, key, route=None):
         if not self.pair:
             route = seen(route, self.ignored)
-            self.events.append(Event(time, origin, what, key_texts(key), route))
+            self.add(Event(time, origin, what, key_texts(key), route))
 
     def tell_answer(self, time, origin):
         """The answer for the pair of addresses, if it is another one than before."""
@@ -358,7 +368,7 @@ class Timeline:
         found = seen(answer(rows, *self.pair), self.ignored)
         if found != self.answers.get(origin):
             self.answers[origin] = found
-            self.events.append(Event(time, origin, "answers", list(map(str_of, self.pair)), found))
+            self.add(Event(time, origin, "answers", list(map(str_of, self.pair)), found))
 
     def expire(self, moment):
         """All that has expired at this moment, by its own time, key, sender and place."""
@@ -503,7 +513,7 @@ def events(octets, options):
     factor = options.expiry and factor_of(options.expiry)
     told = Timeline(factor, (options.ignore or "").split(","), pair, options.max_routes)
     try:
-        play(found, told, options.v4_via_v6)
+        play(found, told, options)
         if fault:
             raise fault
         if options.sender and not found.packets:
@@ -511,30 +521,41 @@ def events(octets, options):
         if found.records:
             told.expire(end_of(found, window))
     except Fault as cause:
-        return Answer(3, lines_of(told, found, options), (str(cause),))
+        return Answer(3, lines_of(told, found, options), (*told.lost.values(), str(cause)))
     status, none = (0, ()) if found.packets else (1, ("no Babel packets",))
     intervals = [reader.interval_of(sent) for sent in found.packets.values()]
     notes = [*reader.notes_of(found), *reader.time_notes(found, intervals)]
     output = lines_of(told, found, options)
     if options.json and not options.quiet:
         output += "".join(reader.json_line(says) for _, says in notes).encode()
-    return Answer(status, output, none + reader.texts_of(notes))
+    return Answer(status, output, (*told.lost.values(), *none, *reader.texts_of(notes)))
 
 
-def play(found, told, via_v6):
-    """Tells of each record in turn what expires before it and what it says."""
+def play(found, told, options):
+    """Tells of each record in turn what expires before it and what it says. A fault says whose it
+    is, where no sender is named."""
     packets, before = {}, {}
     for origin, packet, place in found.sent:
         packets[place] = origin, packet
+    missed = {} if options.follows_all else {one[-1]: one for one in found.missed}
     for place, (_, time) in enumerate(found.records):
         told.expire(time)
         if place in packets:
             origin, packet = packets[place]
             start = before.get(origin, 0)
-            for at, word in words_in(packet, sender_of(origin), start, via_v6):
-                if word:
-                    told.take(time, origin, at, word)
+            try:
+                for at, word in words_in(packet, sender_of(origin), start, options.v4_via_v6):
+                    if word:
+                        told.take(time, origin, at, word)
+            except Fault as fault:
+                if options.sender or options.follows_all:
+                    raise
+                raise Fault(f"{sender_text(origin, found.names)}: {fault}") from fault
             before[origin] = start + len(packet)
+        if place in missed:
+            origin, number, reason, _ = missed[place]
+            note = f"{sender_text(origin, found.names)}: datagram left out at packet {number}: "
+            told.lost.setdefault(origin, f"note: {note}{reason}; its routes are not followed")
 
 
 def lines_of(told, found, options):
@@ -548,6 +569,8 @@ def run(octets, options):
     """What a command answers."""
     try:
         found = {"show": show, "lookup": lookup, "events": events}[options.command](octets, options)
+    except reader.NoTime as error:
+        found = Answer(2, errors=(str(error),))
     except Fault as fault:
         found = Answer(3, errors=(str(fault),))
     if options.quiet:
@@ -564,7 +587,7 @@ def parser():
     words.add_argument("--from", dest="sender")
     for name in "interface", "since", "until", "expiry", "ignore", "to", "src":
         words.add_argument(f"--{name}")
-    for name in "hold", "v4-via-v6", "accept-cut", "json", "quiet":
+    for name in "hold", "v4-via-v6", "accept-cut", "json", "quiet", "follows-all":
         words.add_argument(f"--{name}", action="store_true")
     words.add_argument("--max-routes", type=int, default=MOST_ROUTES)
     return words

@@ -48,10 +48,19 @@ YEAR_10000 = 253_402_300_800
 # The options of an interface, with the length that they must have: draft-ietf-opsawg-pcapng, 4.2.
 NAME, RESOLUTION, OFFSET = 2, 9, 14
 LENGTHS = {RESOLUTION: 1, OFFSET: 8}
+BACKWARDS = "--since is later than --until"
 
 
 class Fault(Exception):
     """Why a capture is refused: the line that says so."""
+
+
+class Blank(Fault):
+    """A record without octets begins here, which is an end where a cut is accepted."""
+
+    def __init__(self, at):
+        super().__init__(f"bad length at {at}")
+        self.at = at
 
 
 class NoTime(Exception):
@@ -92,7 +101,9 @@ class Found:
     that name no interface; of each sender at each place how many have octets after the body; and
     the sections in which datagrams of Babel came. The time of the first record; of each that was
     read its number and its time, where it has one that can be told; and in their order the origin,
-    the packet and the place among these records of all packets; and of each origin these places."""
+    the packet and the place among these records of all packets; and of each origin these places.
+    Of the datagrams that were left out since they lack something the origin, the number, the reason
+    and the place among the records."""
 
     packets: dict = field(default_factory=dict)
     start: int = None
@@ -100,6 +111,7 @@ class Found:
     sent: list = field(default_factory=list)
     places: dict = field(default_factory=dict)
     left_out: dict = field(default_factory=dict)
+    missed: list = field(default_factory=list)
     short: int = 0
     cooked: int = 0
     trailers: collections.Counter = field(default_factory=collections.Counter)
@@ -187,7 +199,9 @@ def pcap_packets(octets, order, limit, _names):
     refuse_version(octets, 0, 4, order, [(2, 4)])
 
     def length(header):
-        if number(header, 8) > LONGEST_PACKET or header[8:16] == bytes(8):
+        if header[8:16] == bytes(8):
+            raise Blank(at)
+        if number(header, 8) > LONGEST_PACKET:
             raise Fault(f"bad length at {at}")
         return 16 + number(header, 8)
 
@@ -508,14 +522,18 @@ class Window:
     since: Moment = None
     until: Moment = None
 
-    def is_backwards(self):
-        """It ends before it begins, whatever the capture."""
+    def is_backwards(self, start=None):
+        """It ends before it begins: whatever the capture, or if its first record came then."""
         since, until = self.since, self.until
-        return (
-            None not in (since, until)
-            and since.from_start == until.from_start
-            and since.nanoseconds > until.nanoseconds
-        )
+        if None in (since, until):
+            return False
+        if start is None and since.from_start != until.from_start:
+            return False
+        return since.at(start or 0) > until.at(start or 0)
+
+    def refuse_backwards(self, start=None):
+        if self.is_backwards(start):
+            raise NoTime(BACKWARDS)
 
     def has(self, start, time):
         return (self.since is None or self.since.at(start) <= time) and (
@@ -532,8 +550,7 @@ def window_of(since, until):
         if word is not None and moment is None:
             raise NoTime(f"not a time: {word}")
     window = Window(*moments)
-    if window.is_backwards():
-        raise NoTime("--since is later than --until")
+    window.refuse_backwards()
     return window
 
 
@@ -606,16 +623,28 @@ def interval_of(packets):
     return max((big(body, 4, 2) for body in updates if big(body, 8, 2) != INFINITY), default=None)
 
 
+def until_blank(found, fits, accept_cut):
+    """The packets, and where a record without octets makes an end of them, if it may."""
+    try:
+        yield from found
+    except Blank as end:
+        if not accept_cut:
+            raise
+        if not fits:
+            raise Fault(f"capture too long at {end.at}") from end
+        yield end.at
+
+
 def find(octets, limit, wanted, accept_cut, window=None, found=None):
     """What a capture gives of the senders that are wanted, in what is found so far: all, or the
     records between two moments, where times are asked for."""
     found, number = Found() if found is None else found, 0
-    for packet in packets(octets, limit, found.names):
+    for packet in until_blank(packets(octets, limit, found.names), len(octets) <= limit, accept_cut):
         if isinstance(packet, int):
             if not accept_cut:
                 raise Fault(f"capture cut short at {packet}")
             found.cut = packet
-            return found
+            break
         number += 1
         if packet.link not in LINKS:
             raise Fault(f"link type {packet.link} not read at {packet.at}")
@@ -628,6 +657,8 @@ def find(octets, limit, wanted, accept_cut, window=None, found=None):
             continue
         take(found, packet, number, wanted)
         found.records.append((number, time))
+    if window:
+        window.refuse_backwards(found.start)
     return found
 
 
@@ -642,15 +673,16 @@ def take(found, packet, number, wanted):
     place = packet.interface, seen.link, seen.vlans
     if not wanted(seen.sender, place):
         return
-    reason = seen.what
+    origin, reason = (place, seen.sender.version, int(seen.sender)), seen.what
     if reason in LACKS and wanted.names:
         raise Fault(f"{LACKS[reason]} at {packet.at}")
+    if reason in LACKS:
+        found.missed.append((origin, number, reason, len(found.records)))
     if reason == "whole":
         babel, reason = packet_in(seen.payload)
     if reason:
         found.left_out.setdefault(reason, []).append(number)
         return
-    origin = place, seen.sender.version, int(seen.sender)
     if origin not in found.packets and len(found.packets) == MOST_SENDERS:
         raise Fault(f"too many senders at {packet.at}")
     found.packets.setdefault(origin, []).append(babel)

@@ -1,7 +1,7 @@
 #!/usr/bin/env python3
 """docs/DEFINITIONS.md: how long each file of definitions is, that each uses only those above it,
 those that the headline needs, the clauses that are quoted, and those that public contracts name.
-docs/PROMISES.md: what it names.
+docs/PROMISES.md: what it names. The manual page and the completions: the options of the source.
 
 Run by itself, this prints the lists and the numbers of that page anew, into it.
 """
@@ -14,6 +14,8 @@ import headline
 import promises
 import transcript
 from checks import TOP
+
+import options
 
 ROW = re.compile(r"(\| `(babel_\w+)` (\w+) \|) \d+ \|")
 LENGTH = re.compile(r"\d+\s+definitions\s+of\s+\d+\s+files,\s+\d+\s+lines,\s+of\s+which\s+\d+\s")
@@ -53,6 +55,14 @@ def check_order(tally):
         seen.add(file)
 
 
+def check_options(tally):
+    """What is printed of the options of the source stands in documents."""
+    for path in options.DOCUMENTS:
+        told = transcript.difference(options.printed(path), path.read_text())
+        hint = "python3 tools/options.py prints them anew\n"
+        tally.check(f"the options in {path.name}", told and told + hint)
+
+
 def check(tally, _long):
     text = headline.DOCUMENT.read_text()
     clauses = (TOP / "crates/babel_canon/src/normal_form.rt").read_text()
@@ -62,6 +72,7 @@ def check(tally, _long):
     told = transcript.difference(printed(text), text)
     hint = "python3 tests/definitions.py prints them anew\n"
     tally.check("the lists and numbers of docs/DEFINITIONS.md", told and told + hint)
+    check_options(tally)
     check_order(tally)
     cited.check(tally, set(headline.files()))
     promises.check(tally)

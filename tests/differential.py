@@ -6,6 +6,7 @@ each reason and each fault."""
 import pathlib
 import tempfile
 
+import capture_reader as reader
 import extract
 import golden
 import transcript
@@ -26,7 +27,6 @@ RANDOM_DUMPS = 2_000
 RANDOM_DUMPS_LONG = 50_000
 CAPTURES = 300
 CAPTURES_LONG = 3_000
-BACKWARDS = ("--since is later than --until",)
 
 
 def check(tally, long):
@@ -50,8 +50,9 @@ def check(tally, long):
         for what, problem in says.checked(program, dumps, SEED):
             tally.check(f"the definitions beside what a dump says: {what}", problem)
         plain = build(PLAIN_OF_CAPTURES, folder)
-        # The plain program takes times the wrong way round, which are refused as words.
-        cases = (case for case in extract.cases_of(tally) if case.answer.errors != BACKWARDS)
+        # The plain program takes times the wrong way round.
+        backwards = (reader.BACKWARDS,)
+        cases = (case for case in extract.cases_of(tally) if case.answer.errors != backwards)
         extract.check_cases(plain, cases, tally, extract.without_notes)
         captures = CAPTURES_LONG if long else CAPTURES
         for side, is_plain in (program, False), (plain, True):

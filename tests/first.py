@@ -6,17 +6,12 @@ Each run of `rt try` takes about two processor minutes, so there are three.
 import pathlib
 import re
 import shutil
-import subprocess
-import sys
 import tempfile
 
 import transcript
 from checks import TOP, built_program, need
-from program import COMMANDS, expect
+from program import expect
 from tour import steps
-
-sys.path.append(str(TOP / "tools"))
-import unproved  # noqa: E402
 
 SECONDS = 900
 SAYS = re.compile(r"^! babel-dump: the proved program is not built yet; .*\n", re.MULTILINE)
@@ -52,20 +47,9 @@ def check_answer(tally, command, found, wanted, runs):
     expect(tally, f"first: {command}: the lines that say so", len(SAYS.findall(found)), runs)
 
 
-def check_flags(program, tally):
-    """What reads the words before `rt try` does knows the options that no word follows."""
-    flags = set()
-    for command in COMMANDS:
-        words = [program, command, "--help"]
-        text = subprocess.run(words, check=True, capture_output=True, text=True).stdout
-        flags |= set(re.findall(r"^  (?:-\w, |    )(--[a-z0-9-]+)(?=$|  )", text, re.MULTILINE))
-    expect(tally, "the options without a value", unproved.FLAGS, flags - {"--help", "--version"})
-
-
 def check(tally, _long):
     need("rt", "it is the Rattle kit's")
     program = built_program()
-    check_flags(program, tally)
     with tempfile.TemporaryDirectory() as folder:
         folder = pathlib.Path(folder)
         fresh = fresh_copy(folder)

@@ -1,5 +1,5 @@
 """Each allocation refused in turn: of the program over program.txt, of `events` over events.txt, of
-the crates' tests, in the long form over the dumps of routers.
+the tests of libraries, in the long form over the dumps of routers.
 
 refuse.c is loaded into a process and refuses its Nth allocation, for N = 1, 2, .. until none is
 refused. The program must print what it prints otherwise, or `out of memory` alone, with status 5;
@@ -23,9 +23,10 @@ import transcript
 from checks import TOP, built_program, need
 
 OUT_OF_MEMORY = ["! out of memory\n? 5\n", "! other: out of memory\n? 5\n"]
-# What the crates' tests named so fail with where a refusal was answered as such.
+# What the tests named so fail with where a refusal was answered as such.
 TESTS = "refused_memory"
-CRATES = ["babel_library_tests", "babel_dump_tests"]
+CRATE = "babel_library_tests"
+BUILT = TOP / f"crates/{CRATE}/out/{CRATE}_tests"
 TEST_REFUSED = re.compile(
     rb"memory was refused, and Memory answered|error: AllocError|error: OutOfMemory"
 )
@@ -105,15 +106,25 @@ def keys(known):
 
 
 def events(known):
-    """A judge of runs of `events` that are to print this."""
-    is_answer = answers(known)
+    """A judge of runs of `events` that are to print this, or the first lines of it and the first of
+    the notes, which are said at once."""
+    is_answer, (all_lines, all_notes) = answers(known), parted(known)
 
     def is_right(run, was_refused):
-        lines, told, rest = transcript.printed(run).partition(OUT_OF_MEMORY[0])
-        is_begun = was_refused and told and not rest and known.startswith(lines)
-        return is_answer(run, was_refused) or is_begun and transcript.is_whole(lines)
+        begun, told, rest = transcript.printed(run).partition(OUT_OF_MEMORY[0])
+        lines, notes = parted(begun)
+        is_begun = all_lines.startswith(lines) and all_notes.startswith(notes)
+        is_cut = was_refused and told and not rest and is_begun and transcript.is_whole(lines)
+        return is_answer(run, was_refused) or is_cut
 
     return is_right
+
+
+def parted(printed):
+    """The lines of standard output, and those of standard error."""
+    lines = printed.splitlines(keepends=True)
+    errors = [line for line in lines if line.startswith("! ")]
+    return "".join(line for line in lines if not line.startswith("! ")), "".join(errors)
 
 
 JUDGES = {"key": keys, "events": events}
@@ -152,37 +163,31 @@ def dump_cases(program, folder):
             yield Case(command, words, folder, answers(known))
 
 
-def tests_of(crate):
-    return TOP / f"crates/{crate}/out/{crate}_tests"
-
-
-def is_current(crate):
-    """The crate's tests were built after the last change of a source."""
-    tests, sources = tests_of(crate), TOP.glob("crates/*/src/**/*.rt")
-    return tests.is_file() and all(
-        source.stat().st_mtime < tests.stat().st_mtime for source in sources
+def is_current():
+    """The tests were built after the last change of a source."""
+    sources = TOP.glob("crates/*/src/**/*.rt")
+    return BUILT.is_file() and all(
+        source.stat().st_mtime < BUILT.stat().st_mtime for source in sources
     )
 
 
-def test_cases(crate, folder):
-    """A crate's tests of refused memory."""
-    tests = tests_of(crate)
-    listed = subprocess.run([tests, "--list"], check=True, capture_output=True, text=True).stdout
+def test_cases(folder):
+    """The tests of refused memory."""
+    listed = subprocess.run([BUILT, "--list"], check=True, capture_output=True, text=True).stdout
     for name in re.findall(rf"^(\S+::{TESTS}_\w+): test$", listed, re.MULTILINE):
-        yield Case(f"{crate}: {name}", [tests, name], folder, is_right_test)
+        yield Case(f"{CRATE}: {name}", [BUILT, name], folder, is_right_test)
 
 
 def cases(program, folder, tally, long):
     yield from program_cases(program, folder)
-    for crate in CRATES:
-        what = f"the tests of {crate}"
-        why = "they are not built, or older than the sources; ./check gate builds them"
-        if is_current(crate):
-            yield from test_cases(crate, folder)
-        elif long:
-            tally.check(what, why)
-        else:
-            print(f"not run: {what}: {why}")
+    what = f"the tests of {CRATE}"
+    why = "they are not built, or older than the sources; ./check gate builds them"
+    if is_current():
+        yield from test_cases(folder)
+    elif long:
+        tally.check(what, why)
+    else:
+        print(f"not run: {what}: {why}")
     if long:
         yield from dump_cases(program, folder)
 

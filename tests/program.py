@@ -1,5 +1,6 @@
 """The program as a process: rows of the .txt files, and what a shell's words can't bring about."""
 
+import contextlib
 import ipaddress
 import itertools
 import json
@@ -19,6 +20,7 @@ import transcript
 from checks import DRILL, ROUTERS, TOP, built_program
 
 import agree
+import options
 
 HEADER = bytes((42, 2))
 ROUTER_ID = bytes.fromhex("060a0000 0200000000000001")
@@ -29,14 +31,10 @@ MANY = 1_001
 # Room for the program and its libraries, and not for the rows of most-routes.dump.
 LITTLE_MEMORY = 8 << 20
 SHOW = ["show", "--from", "192.0.2.1"]
-COMMANDS = (
-    "show", "lookup", "pairs", "normalise", "key", "compare", "diff", "senders", "extract", "events"
-)
 ONE_ROUTE = TOP / "examples/one-route.dump"
 ONE_ROUTE_SHOWN = (
     b"10.0.0.0/8 from 0.0.0.0/0 via 192.0.2.1 id 0200000000000001 seqno 1 metric 256\ntlvs 2\n"
 )
-COMPLETIONS = "babel-dump.bash", "_babel-dump", "babel-dump.fish"
 INSTALLED = (
     "man/man1/babel-dump.1",
     "bash-completion/completions/babel-dump",
@@ -90,6 +88,17 @@ def large_dumps():
     yield "too-many-pairs", routes(ROWS - 1) + packet(ROUTER_ID + update(0, 0, 768))
     longest = packet(bytes(65_535)) * (OCTETS // 65_539)
     yield "longest", longest + packet(bytes(OCTETS - len(longest) - 4))
+    # The longest of them fills a packet's body, or is one octet too long for it.
+    for count in 3, 4:
+        updates = [
+            update(place << 24, 16 if place <= count else 8, 256 if place % 2 else 512)
+            for place in range(1, 78)
+        ]
+        yield f"body-with-{count}", packet(ROUTER_ID + b"".join(updates))
+    # A section of pcapng, and a block of 16 MiB.
+    yield "section", bytes.fromhex("0a0d0d0a1c0000004d3c2b1a01000000ffffffffffffffff1c000000")
+    length = (1 << 24).to_bytes(4, "little")
+    yield "block", bytes.fromhex("05000000") + length + bytes((1 << 24) - 12) + length
     yield "many-router-ids", hosts(
         lambda place: bytes.fromhex("060a0000") + ((2 << 56) + place).to_bytes(8, "big")
     )
@@ -175,6 +184,17 @@ def check_full_file(program, tally):
     expect(tally, "a file that takes ten octets", (*found, taken), (4, text, b"2a02002106"))
 
 
+def drained(reader):
+    """All that was written to a pipe, or a terminal, whose other end is closed; closes it."""
+    text = b""
+    # A terminal ends with an error.
+    with contextlib.suppress(OSError):
+        while piece := os.read(reader, 1 << 16):
+            text += piece
+    os.close(reader)
+    return text
+
+
 def check_colours(program, tally):
     """Rows are in colour where it is asked for always, or for a terminal and there is one."""
     row = "-10.0.0.0/8 from 0.0.0.0/0 via 192.0.2.1 id 0200000000000001 seqno 1 metric 256"
@@ -184,9 +204,8 @@ def check_colours(program, tally):
         words += [f"--color={when}"] if when else []
         reader, writer = os.openpty() if is_terminal else os.pipe()
         found = run(program, words, stdout=writer)
-        text = os.read(reader, 1 << 16).decode().replace("\r\n", "\n")
         os.close(writer)
-        os.close(reader)
+        text = drained(reader).decode().replace("\r\n", "\n")
         is_coloured = when == "always" or (when == "auto" and is_terminal)
         wanted = heads + (f"\x1b[31m{row}\x1b[0m\n" if is_coloured else f"{row}\n")
         where = "on a terminal" if is_terminal else "into a pipe"
@@ -220,35 +239,28 @@ def check_little_memory(program, folder, tally):
         )
 
 
-def words_of(text):
-    """The long options in a text; fish writes each after `-l`, and an option after it."""
-    names = re.findall(r"(?:--| -l (?=[a-z0-9-]+ -))([a-z][a-z0-9-]*)", text)
-    return {f"--{name}" for name in names}
-
-
 def help_of(program, *words):
     how = {"check": True, "capture_output": True, "text": True}
     return subprocess.run([program, *words, "--help"], **how).stdout
 
 
-def check_manual(program, tally):
-    """The manual page and the completions have each command and each option, and no other."""
-    manual = (TOP / "docs/babel-dump.1").read_text().replace("\\-", "-")
-    completions = {name: (TOP / "docs" / name).read_text() for name in COMPLETIONS}
-    options = words_of(help_of(program)) | {"--version"}
-    for command in COMMANDS:
-        options |= words_of(help_of(program, command))
+def check_options(program, tally):
+    """The source has the commands and options of help texts; the manual page names no others."""
+    names = re.findall(r"^  ([a-z]+)  ", help_of(program), re.MULTILINE)
+    expect(tally, "the commands", set(names), {*options.COMMANDS, "help"})
+    manual = options.MANUAL.read_text().replace("\\-", "-")
+    for command in options.COMMANDS:
+        shown = re.compile(r"^  (?:-\w, |    )(--[a-z0-9-]+)(?: <(\w+)>)?(?=$|  )", re.MULTILINE)
+        rows = [row for row in options.rows_of(command) if not row.is_argument]
+        wanted = [(f"--{row.id}", row.takes[0] if row.takes else "") for row in rows]
+        found = shown.findall(help_of(program, command))
+        expect(tally, f"the options of {command}", found, [*wanted, ("--help", "")])
         expect(tally, f"{command} in the manual page", f"\n.B {command}\n" in manual, True)
-        for name, text in completions.items():
-            found = re.search(rf"[ '\"(]{command}[ :)]", text) is not None
-            expect(tally, f"{command} in {name}", found, True)
-    expect(tally, "the options in the manual page", words_of(manual), options)
-    for name, text in completions.items():
-        expect(tally, f"the options in {name}", words_of(text), options)
+    named = set(re.findall(r"--[a-z][a-z0-9-]*", manual))
+    expect(tally, "the options in the manual page", named, options.FLAGS | {*options.VALUED})
     if shutil.which("groff"):
-        page = subprocess.run(
-            ["groff", "-ww", "-man", "-Tutf8", TOP / "docs/babel-dump.1"], capture_output=True
-        )
+        words = ["groff", "-ww", "-man", "-Tutf8", options.MANUAL]
+        page = subprocess.run(words, capture_output=True)
         expect(tally, "what groff says of the manual page", page.stderr, b"")
 
 
@@ -312,7 +324,7 @@ def put_example_files(folder):
 def check_examples(program, folder, tally):
     """The examples of the help texts work as printed: they write, and nothing goes wrong."""
     put_example_files(folder)
-    for words in [], *([command] for command in COMMANDS):
+    for words in [], *([command] for command in options.COMMANDS):
         text = help_of(program, *words)
         for example in re.findall(r"^  (babel-dump .*)$", text, re.MULTILINE):
             done = transcript.shell(example, folder, capture_output=True)
@@ -438,7 +450,7 @@ def check(tally, _long):
         check_full_file(program, tally)
         check_colours(program, tally)
         check_little_memory(program, folder, tally)
-        check_manual(program, tally)
+        check_options(program, tally)
         check_examples(program, folder, tally)
         check_completions(folder, tally)
         check_json(program, tally)

@@ -1,48 +1,52 @@
-//! The canonical form of worked dumps, by the public calls. Expected values are those of RFC 8966
-//! and RFC 9079, worked by hand. What else dumps are normalised to, and how they compare, the runs
-//! show, which write just that.
-mod changed;
-mod refused_memory;
-mod sinks;
-mod sizes;
-mod via_v6;
+//! Canonical pairs that are put into a sink of the caller's, as the program has none that refuses
+//! one.
+ghost use Rattle.std.specs.Prelude.{⊤};
 
-use crate::dumps::{
-    ALL_RETRACTED, MERGED, NESTED_SOURCES, NESTED_SOURCES_FORM, ONE_HELD_FORM, ONE_ROUTE_FORM, V4,
-    octets,
-};
-use babel_canon::{Body, canonical};
-use babel_prefix::{Addr, parse_addr};
-use babel_table::{Limits, Table, read_dump};
-use babel_tlv::Mode;
-use std::alloc::Global;
+use crate::dumps::{NESTED_SOURCES, V4, octets};
+use babel_canon::{CanonicalPairs, PairSink};
+use babel_prefix::parse_addr;
+use babel_table::{Limits, read_dump};
+use babel_tlv::{Held, Key, Mode};
 use std::test::Fail;
 
-/// The address that a text spells.
-fn addr(text: &str) -> Result<Addr, Fail> {
-    Ok(parse_addr(text).ok_or("no address")?)
+/// A sink that has room for so many pairs, and counts those that it was given.
+#[derive(Drop)]
+struct Room {
+    pairs: usize,
+    given: usize,
 }
 
-/// The table of a dump of this sender.
-fn table(alloc: Global, mode: Mode, sender: &str, dump: &[u8]) -> Result<Table, Fail> {
-    Ok(read_dump(alloc, Limits::usual(), mode, addr(sender)?, dump)?)
-}
+/// There is no room for the pair.
+#[derive(Clone, Copy, Debug, PartialEq, Eq)]
+struct Full;
 
-/// The mode, a dump from 192.0.2.1, how many canonical pairs it has, and its canonical octets.
-static FORMS: [(Mode, &str, usize, &str); 3] = [
-    (Mode::Plain, MERGED, 1, ONE_ROUTE_FORM),
-    (Mode::Plain, NESTED_SOURCES, 9, NESTED_SOURCES_FORM),
-    (Mode::Hold, ALL_RETRACTED, 2, ONE_HELD_FORM),
-];
+impl PairSink for Room {
+    type Error = Full;
+
+    ghost has = { λ _ _ _. ⊤ };
+
+    ghost stopped = { λ _ _ _. ⊤ };
+
+    fn put(&mut self, _key: Key, _held: Held) -> Result<(), Full> {
+        self.given = self.given.saturating_add(1);
+        if self.given > self.pairs {
+            return Err(Full);
+        }
+        Ok(())
+    }
+}
 
 #[test]
-fn pairs_and_octets(rt: HostRuntime) -> Result<(), Fail> {
-    for (mode, dump, pairs, form) in &FORMS {
-        let table = table(rt.alloc(), *mode, V4, &octets(rt.alloc(), dump)?)?;
-        let canon = canonical(rt.alloc(), Limits::usual(), Body::usual(), &table)?;
-        assert_eq!(rt; canon.pairs().len(), *pairs, "of {dump}");
-        let octets = octets(rt.alloc(), form)?;
-        assert_eq!(rt; canon.bytes(), octets.as_slice(), "of {dump}");
+fn stops_at_the_pair_that_is_not_taken(rt: HostRuntime) -> Result<(), Fail> {
+    let dump = octets(rt.alloc(), NESTED_SOURCES)?;
+    let sender = parse_addr(V4).ok_or("no address")?;
+    let table = read_dump(rt.alloc(), Limits::usual(), Mode::Plain, sender, &dump)?;
+    for (pairs, result, given) in [(9, Ok(()), 9), (4, Err(Full), 5), (0, Err(Full), 1)] {
+        let canonical = CanonicalPairs::of(rt.alloc(), Limits::usual(), &table)?;
+        assert_eq!(rt; canonical.count(), 9);
+        let mut sink = Room { pairs, given: 0 };
+        assert!(rt; canonical.put(&mut sink) == result, "{pairs}");
+        assert_eq!(rt; sink.given, given);
     }
     Ok(())
 }

@@ -1,5 +1,6 @@
-//! Tests of the libraries below the runs, by their public calls alone. They stand in a crate of
-//! their own, since a crate that has tests is proved a second time with them.
+//! Tests of the libraries below the runs, by their public calls alone: of what no row of tests/ can
+//! ask. They stand in a crate of their own, since a crate that has tests is proved a second time
+//! with them.
 #![tactic(auto)]
 
 #[cfg(test)]
@@ -13,9 +14,3 @@ mod prefix;
 mod table;
 #[cfg(test)]
 mod teller;
-#[cfg(test)]
-mod timeline;
-#[cfg(test)]
-mod tlv;
-#[cfg(test)]
-mod trie;

@@ -7,7 +7,8 @@ use std::alloc::Global;
 use std::io;
 use std::io::ErrorKind;
 
-/// Gives these octets, at most so many in each read. One read may fail, counted from 1.
+/// Gives these octets, at most so many in each read, and one at least. One read may fail, counted
+/// from 1.
 #[derive(Drop)]
 pub struct ScriptedIn<'a> {
     rest: &'a [u8],
@@ -21,14 +22,13 @@ pub struct ScriptedIn<'a> {
 
 impl<'a> ScriptedIn<'a> {
     pub fn new(octets: &'a [u8], per_read: usize, failing_read: u64) -> ScriptedIn<'a>
-        requires { 0 < per_read }
         ensures failures { result.failures ≡ 0 }
         ensures reads { result.reads ≡ 0 }
         ensures ends { result.ends ≡ 0 }
     {
         ScriptedIn {
             rest: octets,
-            per_read,
+            per_read: per_read.max(1),
             failing_read,
             failures: 0,
             reads: 0,
@@ -66,73 +66,6 @@ impl ByteIn for ScriptedIn<'_> {
             self.ends += 1;
         }
         Ok(n)
-    }
-
-    fn left_out(&self) -> Option<LeftOutDatagram> {
-        None
-    }
-
-    fn has_times(&self) -> bool {
-        false
-    }
-
-    fn time(&self) -> Option<u128> {
-        None
-    }
-
-    fn moment(&self) -> Option<u128> {
-        None
-    }
-}
-
-/// Gives these octets again and again without end, one in each read.
-#[derive(Drop)]
-pub struct EndlessIn<'a> {
-    cycle: &'a [u8],
-    failures: u64,
-    reads: u64,
-}
-
-impl<'a> EndlessIn<'a> {
-    pub fn new(cycle: &'a [u8]) -> EndlessIn<'a>
-        ensures failures { result.failures ≡ 0 }
-        ensures reads { result.reads ≡ 0 }
-    {
-        EndlessIn {
-            cycle,
-            failures: 0,
-            reads: 0,
-        }
-    }
-
-    pub fn reads(&self) -> u64 {
-        self.reads
-    }
-}
-
-impl ByteIn for EndlessIn<'_> {
-    ghost state = { λ d. record {
-      left = None;
-      captured = None;
-      left_out = None;
-      times = no_times;
-      failures = d.failures;
-      reads = d.reads;
-      ends = 0;
-    } };
-
-    fn read(&mut self, buf: &mut [u8]) -> io::Result<usize> {
-        let at = self.reads as usize;
-        self.reads += 1;
-        if buf.is_empty() {
-            return Ok(0);
-        }
-        if self.cycle.is_empty() {
-            self.failures += 1;
-            return Err(io::Error::from(ErrorKind::Other));
-        }
-        buf[0] = self.cycle[at % self.cycle.len()];
-        Ok(1)
     }
 
     fn left_out(&self) -> Option<LeftOutDatagram> {

@@ -1,152 +1,163 @@
 //! Each read and each write that fails, in turn.
-ghost use Rattle.std.specs.Prelude.{◌<◌};
-
-use super::{Case, ONE_BY_ONE, Script, all_asked, expect_run, run};
-use babel_dump::{InputFault, RunFault, Side};
-use babel_library_tests::dumps::{
-    NESTED_SOURCES, ONE_FAMILY, ONE_ROUTE, TWO_FAMILIES, TWO_SOURCES, V4, V6, octets,
-};
-use babel_table::Limits;
-use babel_tlv::{Fault, Mode};
+use super::devices::ScriptedIn;
+use super::{Case, Script, asked, expect_fault, run};
+use babel_dump::{Asked, InputFault, PairsFault, RunFault, Side};
+use babel_library_tests::dumps::{NESTED_SOURCES, ONE_FAMILY, ONE_ROUTE, TWO_FAMILIES, octets};
+use babel_tlv::Fault;
 use std::alloc::Global;
 use std::process::Abort;
 use std::test::Fail;
 
-const LOOKUP: &str = "lookup --to 10.1.2.3 --src 10.1.2.3";
+/// pcap, least octet first, raw IP: an empty packet of 192.0.2.1 and of 192.0.2.2, this one with a
+/// trailer.
+const CAPTURE: &str =
+    "d4c3b2a1020004000000000000000000000004006500000000000000000000002000000020000000 \
+     45000020000000000111 0000 c0000201 e000006f 1a281a28 000c0000 2a020000 \
+     00000000000000002200000022000000 \
+     45000022000000000111 0000 c0000202 e000006f 1a281a28 000e0000 2a020000 1234";
 
-const LOOKUP_OF_SOURCE: &str = "lookup --to 172.16.0.1 --src 172.16.0.1";
-
-const LOOKUP_OF_HOST: &str = "lookup --to 0.0.0.1 --src 0.0.0.1";
-
-/// A sender, its dump, the other dump of a comparison, and the words of a lookup.
-static GIVEN: [(&str, &str, &str, &str); 4] = [
-    (V4, ONE_ROUTE, NESTED_SOURCES, LOOKUP),
-    (V4, NESTED_SOURCES, ONE_ROUTE, LOOKUP),
-    (V4, TWO_SOURCES, TWO_SOURCES, LOOKUP_OF_SOURCE),
-    (V6, TWO_FAMILIES, ONE_FAMILY, LOOKUP_OF_HOST),
+/// What is asked, of which octets, and of which others: first of 13 dumps, then of captures.
+static ASKED: [(&str, &str, &str); 16] = [
+    ("show --from 192.0.2.1", NESTED_SOURCES, ""),
+    ("show --summary --from 192.0.2.1", ONE_ROUTE, ""),
+    (
+        "lookup --to 10.1.2.3 --src 10.1.2.3 --from 192.0.2.1",
+        NESTED_SOURCES,
+        "",
+    ),
+    ("lookup --to 10.1.2.3 --from 192.0.2.1", ONE_ROUTE, ""),
+    ("normalise --from 192.0.2.1", NESTED_SOURCES, ""),
+    ("normalise --hex --from fe80::1", TWO_FAMILIES, ""),
+    ("normalise --routes --hex --from 192.0.2.1", ONE_ROUTE, ""),
+    ("key --from 192.0.2.1 a", ONE_ROUTE, ""),
+    ("pairs --from fe80::1", TWO_FAMILIES, ""),
+    ("pairs --count --from 192.0.2.1", NESTED_SOURCES, ""),
+    ("compare --from fe80::1 a b", TWO_FAMILIES, ONE_FAMILY),
+    (
+        "compare --all --from 192.0.2.1 a b",
+        ONE_ROUTE,
+        NESTED_SOURCES,
+    ),
+    (
+        "compare --routes --all --from 192.0.2.1 a b",
+        ONE_ROUTE,
+        NESTED_SOURCES,
+    ),
+    ("senders", CAPTURE, ""),
+    ("extract --from 192.0.2.2 --hex", CAPTURE, ""),
+    ("extract --from 192.0.2.1", CAPTURE, ""),
 ];
 
 /// How many octets one write takes.
 const TAKEN: usize = 7;
 
-/// The octets come one by one.
+/// The octets come one by one; nothing fails.
 const SCRIPT: Script = Script {
+    read: 1,
     written: TAKEN,
-    ..ONE_BY_ONE
+    failing_read: 0,
+    failing_other_read: 0,
+    failing_call: 0,
 };
 
-/// What is asked of two dumps, octet by octet.
-fn case<'a>(
-    sender: &'a str,
-    asked: &'a str,
-    text: &'a str,
-    dump: &'a [u8],
-    other: &'a [u8],
-) -> Case<'a>
-    ensures { 0 < result.script.read }
-{
-    Case {
-        asked,
-        mode: Mode::Plain,
-        sender,
-        limits: Limits::usual(),
-        text,
-        dump,
-        other,
-        script: SCRIPT,
-    }
-}
-
+/// Each read of the dump, also the one that meets its end, is answered where it fails, before the
+/// other dump is read.
 #[test]
 fn each_read(rt: HostRuntime) -> Result<(), Fail> {
-    for (sender, dump, other, lookup) in &GIVEN {
-        for asked in &all_asked(lookup) {
-            expect_read_faults(&rt, rt.alloc(), sender, asked, dump, other)?;
+    for (line, dump, other) in &ASKED {
+        let (dump, other) = (octets(rt.alloc(), dump)?, octets(rt.alloc(), other)?);
+        for failing_read in 1..dump.len() as u64 + 2 {
+            let script = Script {
+                failing_read,
+                failing_other_read: 1,
+                ..SCRIPT
+            };
+            let reads = expect_read_fault(&rt, rt.alloc(), line, &dump, &other, script)?;
+            assert_eq!(rt; reads, (failing_read, 0), "{line}");
         }
     }
     Ok(())
 }
 
-/// Each read of the dump, also the one that meets its end, is answered where it fails, before the
-/// other dump is read.
-fn expect_read_faults<'a>(
+/// A read that fails is answered, and nothing is written. How often both inputs were read.
+fn expect_read_fault(
     rt: &impl Abort,
     alloc: Global,
-    sender: &'a str,
-    asked: &'a str,
-    text: &'a str,
-    other: &'a str,
-) -> Result<(), Fail> {
-    let (dump, other) = (octets(alloc, text)?, octets(alloc, other)?);
-    for failing in 1..dump.len() as u64 + 2 {
-        let script = Script {
-            failing_read: failing,
-            failing_other_read: 1,
-            ..SCRIPT
-        };
-        let case = Case {
-            script,
-            ..case(sender, asked, text, &dump, &other)
-        };
-        let reads = expect_run(
-            rt,
-            alloc,
-            &case,
-            Some(&RunFault::Input(Side::First, InputFault::Read)),
-            4,
-            &[],
-        )?;
-        assert_eq!(rt; reads, (failing, 0), "{asked} of {text}");
-    }
-    Ok(())
-}
-
-#[test]
-fn each_read_of_the_other_dump(rt: HostRuntime) -> Result<(), Fail> {
-    for (sender, dump, other, _lookup) in &GIVEN {
-        expect_other_read_faults(&rt, rt.alloc(), sender, dump, other)?;
-    }
-    Ok(())
+    line: &str,
+    dump: &[u8],
+    other: &[u8],
+    script: Script,
+) -> Result<(u64, u64), Fail> {
+    let side = if script.failing_read == 0 {
+        Side::Other
+    } else {
+        Side::First
+    };
+    let fault = RunFault::Input(side, InputFault::Read);
+    let case = Case {
+        line,
+        dump,
+        other,
+        script,
+    };
+    expect_fault(rt, alloc, &case, &fault, 4, &[])
 }
 
 /// Each read of the other dump, also the one that meets its end, is answered where it fails, after
 /// all of the dump.
-fn expect_other_read_faults<'a>(
-    rt: &impl Abort,
-    alloc: Global,
-    sender: &'a str,
-    text: &'a str,
-    other: &'a str,
-) -> Result<(), Fail> {
-    let (dump, other) = (octets(alloc, text)?, octets(alloc, other)?);
-    let asked = format!(in alloc; "compare a b --other-from {sender}")?;
-    for failing in 1..other.len() as u64 + 2 {
-        let script = Script {
-            failing_other_read: failing,
-            ..SCRIPT
-        };
-        let case = Case {
-            script,
-            ..case(sender, asked.as_str(), text, &dump, &other)
-        };
-        let reads = expect_run(
-            rt,
-            alloc,
-            &case,
-            Some(&RunFault::Input(Side::Other, InputFault::Read)),
-            4,
-            &[],
-        )?;
-        assert_eq!(rt; reads, (dump.len() as u64 + 1, failing), "of {text}");
+#[test]
+fn each_read_of_the_other_dump(rt: HostRuntime) -> Result<(), Fail> {
+    for (line, dump, other) in ASKED.iter().filter(|(_, _, other)| !other.is_empty()) {
+        let (dump, other) = (octets(rt.alloc(), dump)?, octets(rt.alloc(), other)?);
+        for failing_other_read in 1..other.len() as u64 + 2 {
+            let script = Script {
+                failing_other_read,
+                ..SCRIPT
+            };
+            let reads = expect_read_fault(&rt, rt.alloc(), line, &dump, &other, script)?;
+            assert_eq!(rt;
+                reads,
+                (dump.len() as u64 + 1, failing_other_read),
+                "{line}"
+            );
+        }
     }
     Ok(())
 }
 
+/// Each read of pairs that fails is answered, and the dump is not read.
 #[test]
-fn each_write_and_the_flush(rt: HostRuntime) -> Result<(), Fail> {
-    for (sender, dump, other, lookup) in &GIVEN {
-        for asked in &all_asked(lookup) {
-            expect_write_faults(&rt, rt.alloc(), sender, asked, dump, other)?;
+fn each_read_of_pairs(rt: HostRuntime) -> Result<(), Fail> {
+    let dump = octets(rt.alloc(), ONE_ROUTE)?;
+    for failing_other_read in 1..5 {
+        let script = Script {
+            failing_other_read,
+            ..SCRIPT
+        };
+        let case = Case {
+            line: "lookup --each p --from 192.0.2.1",
+            dump: &dump,
+            other: b"# x",
+            script,
+        };
+        let fault = RunFault::Pairs(PairsFault::Read);
+        let reads = expect_fault(&rt, rt.alloc(), &case, &fault, 4, &[])?;
+        assert_eq!(rt; reads, (0, failing_other_read));
+    }
+    Ok(())
+}
+
+/// Each read of a capture that fails, where each sender's key is asked for.
+#[test]
+fn each_read_for_keys_of_senders(rt: HostRuntime) -> Result<(), Fail> {
+    let capture = octets(rt.alloc(), CAPTURE)?;
+    let Asked::SenderKeys(files) = asked(rt.alloc(), "key x")? else {
+        return Err(Fail::from("no keys of senders"));
+    };
+    for keys in &files {
+        for failing in 1..capture.len() as u64 + 2 {
+            let read = keys.gather(rt.alloc(), &mut ScriptedIn::new(&capture, 1, failing));
+            assert_eq!(rt; read.err(), Some(InputFault::Read));
         }
     }
     Ok(())
@@ -154,29 +165,60 @@ fn each_write_and_the_flush(rt: HostRuntime) -> Result<(), Fail> {
 
 /// Each write, and the flush after them, is answered where it fails, and what was written is a part
 /// of the whole.
-fn expect_write_faults<'a>(
+#[test]
+fn each_write_and_the_flush(rt: HostRuntime) -> Result<(), Fail> {
+    for (line, dump, other) in &ASKED {
+        expect_write_faults(&rt, rt.alloc(), line, dump, other)?;
+    }
+    Ok(())
+}
+
+fn expect_write_faults(
     rt: &impl Abort,
     alloc: Global,
-    sender: &'a str,
-    asked: &'a str,
-    text: &'a str,
-    other: &'a str,
+    line: &str,
+    dump: &str,
+    other: &str,
 ) -> Result<(), Fail> {
-    let (dump, other) = (octets(alloc, text)?, octets(alloc, other)?);
-    let whole = run(alloc, &case(sender, asked, text, &dump, &other))?;
-    assert!(rt; whole.outcome.is_ok(), "{asked} of {text}");
+    let (dump, other) = (octets(alloc, dump)?, octets(alloc, other)?);
+    let case = Case {
+        line,
+        dump: &dump,
+        other: &other,
+        script: SCRIPT,
+    };
+    let whole = run(alloc, &case)?;
+    assert!(rt; whole.outcome.is_ok() && !whole.taken.is_empty(), "{line}");
     let whole = whole.taken.as_slice();
     for call in 0..whole.len().div_ceil(TAKEN).saturating_add(1) {
         let script = Script {
             failing_call: call as u64 + 1,
             ..SCRIPT
         };
-        let case = Case {
-            script,
-            ..case(sender, asked, text, &dump, &other)
-        };
         let part = whole.len().min(call.saturating_mul(TAKEN));
-        expect_run(rt, alloc, &case, Some(&RunFault::Write), 4, &whole[..part])?;
+        let case = Case { script, ..case };
+        expect_fault(rt, alloc, &case, &RunFault::Write, 4, &whole[..part])?;
+    }
+    Ok(())
+}
+
+/// A write that takes nothing is a fault.
+#[test]
+fn a_write_that_takes_nothing(rt: HostRuntime) -> Result<(), Fail> {
+    for (line, dump, other) in &ASKED {
+        let (dump, other) = (octets(rt.alloc(), dump)?, octets(rt.alloc(), other)?);
+        let script = Script {
+            read: 7,
+            written: 0,
+            ..SCRIPT
+        };
+        let case = Case {
+            line,
+            dump: &dump,
+            other: &other,
+            script,
+        };
+        expect_fault(&rt, rt.alloc(), &case, &RunFault::Write, 4, &[])?;
     }
     Ok(())
 }
@@ -205,49 +247,37 @@ fn each_write_of_several_slices(rt: HostRuntime) -> Result<(), Fail> {
     let (dump, text) = many_routes(rt.alloc())?;
     let whole = text.as_bytes();
     let mut written = 0;
-    for call in 1..100 {
+    for failing_call in 1..100 {
         let script = Script {
             read: 4_096,
             written: 20_000,
-            failing_call: call,
-            ..ONE_BY_ONE
+            failing_call,
+            ..SCRIPT
         };
         let case = Case {
+            line: "show --from 192.0.2.1",
+            dump: &dump,
+            other: &[],
             script,
-            ..case(V4, "show", "2,000 routes", &dump, &[])
         };
         let ran = run(rt.alloc(), &case)?;
-        assert!(rt; whole.starts_with(ran.taken.as_slice()), "call {call}");
+        assert!(rt;
+            whole.starts_with(ran.taken.as_slice()),
+            "call {failing_call}"
+        );
         if ran.outcome.is_ok() {
             assert_eq!(rt; ran.taken.len(), whole.len());
             return Ok(());
         }
-        assert_eq!(rt; ran.outcome, Err(RunFault::Write), "call {call}");
+        assert_eq!(rt; ran.outcome, Err(RunFault::Write), "call {failing_call}");
+        let grows = failing_call == 1 || written < ran.taken.len();
         assert!(rt;
-            call == 1 || written < ran.taken.len() || ran.taken.len() == whole.len(),
-            "call {call}"
+            grows || ran.taken.len() == whole.len(),
+            "call {failing_call}"
         );
         written = ran.taken.len();
     }
     Err(Fail::from("a call of the writer fails without end"))
-}
-
-#[test]
-fn a_write_that_takes_nothing(rt: HostRuntime) -> Result<(), Fail> {
-    let dump = octets(rt.alloc(), ONE_ROUTE)?;
-    let script = Script {
-        read: 7,
-        written: 0,
-        ..ONE_BY_ONE
-    };
-    for asked in &all_asked(LOOKUP) {
-        let case = Case {
-            script,
-            ..case(V4, asked, ONE_ROUTE, &dump, &[])
-        };
-        expect_run(&rt, rt.alloc(), &case, Some(&RunFault::Write), 4, &[])?;
-    }
-    Ok(())
 }
 
 /// A dump in pieces of so many octets, of which the second read fails, the fault and its status,
@@ -272,21 +302,23 @@ const SECOND_READS: [(&str, usize, RunFault, u8, u64); 2] = [
 
 #[test]
 fn a_second_read_that_fails(rt: HostRuntime) -> Result<(), Fail> {
-    for (text, piece, fault, status, reads) in &SECOND_READS {
-        let dump = octets(rt.alloc(), text)?;
+    for (dump, read, fault, status, reads) in &SECOND_READS {
+        let dump = octets(rt.alloc(), dump)?;
         let script = Script {
-            read: (*piece).max(1),
+            read: *read,
             failing_read: 2,
             failing_other_read: 1,
             ..SCRIPT
         };
-        for asked in &all_asked(LOOKUP) {
+        for (line, _, _) in &ASKED[..13] {
             let case = Case {
+                line,
+                dump: &dump,
+                other: &dump,
                 script,
-                ..case(V4, asked, text, &dump, &dump)
             };
-            let found = expect_run(&rt, rt.alloc(), &case, Some(fault), *status, &[])?;
-            assert_eq!(rt; found, (*reads, 0), "{asked} of {text}");
+            let found = expect_fault(&rt, rt.alloc(), &case, fault, *status, &[])?;
+            assert_eq!(rt; found, (*reads, 0), "{line}");
         }
     }
     Ok(())

@@ -1,5 +1,5 @@
 //! One call of a device over a reader or a writer of std is one call of that, whose answer it
-//! gives.
+//! gives: no clause says so.
 use babel_dump::{ByteIn, ByteOut, FromReader, FromWriter};
 use std::io;
 use std::io::{ErrorKind, Read, Write};
@@ -53,53 +53,40 @@ impl Write for Numbered {
     }
 }
 
-/// What a read gave: how many octets, and the first in the buffer; or how it failed.
-type Given = Result<(usize, u8), ErrorKind>;
+/// How many octets a call moved, none by a flush; or how it failed.
+type Moved = Result<usize, ErrorKind>;
 
-/// What the first three reads of a device gave.
-fn three_reads(failing_call: u8) -> [Given; 3] {
-    let mut reader = FromReader::new(Numbered::failing_at(failing_call));
-    let mut buf = [0; 8];
-    let first = given(reader.read(&mut buf), buf[0]);
-    let second = given(reader.read(&mut buf), buf[0]);
-    let third = given(reader.read(&mut buf), buf[0]);
-    [first, second, third]
+fn moved(call: io::Result<usize>) -> Moved {
+    call.map_err(|error| error.kind())
 }
 
-fn given(read: io::Result<usize>, octet: u8) -> Given {
-    match read {
-        Ok(n) => Ok((n, octet)),
-        Err(error) => Err(error.kind()),
-    }
+/// What the first three reads of a device moved, and the first octet after them.
+fn three_reads(failing_call: u8) -> ([Moved; 3], u8) {
+    let mut reader = FromReader::new(Numbered::failing_at(failing_call));
+    let mut buf = [0; 8];
+    let first = moved(reader.read(&mut buf));
+    let second = moved(reader.read(&mut buf));
+    let third = moved(reader.read(&mut buf));
+    ([first, second, third], buf[0])
 }
 
 #[test]
 fn each_read_is_one_call(rt: HostRuntime) -> Result<(), Fail> {
     let failed = Err(ErrorKind::TimedOut);
-    assert_eq!(rt; three_reads(0), [Ok((1, 1)), Ok((1, 2)), Ok((1, 3))]);
-    assert_eq!(rt; three_reads(1), [failed, Ok((1, 2)), Ok((1, 3))]);
-    assert_eq!(rt; three_reads(2), [Ok((1, 1)), failed, Ok((1, 3))]);
+    assert_eq!(rt; three_reads(0), ([Ok(1), Ok(1), Ok(1)], 3));
+    assert_eq!(rt; three_reads(1), ([failed, Ok(1), Ok(1)], 3));
+    assert_eq!(rt; three_reads(2), ([Ok(1), failed, Ok(1)], 3));
+    assert_eq!(rt; three_reads(3), ([Ok(1), Ok(1), failed], 2));
     Ok(())
 }
 
-/// What a write, a flush and a write of a device answered: how many octets were taken, none by a
-/// flush; or how it failed.
-fn write_flush_write(failing_call: u8) -> [Result<usize, ErrorKind>; 3] {
+/// What a write, a flush and a write of a device moved.
+fn write_flush_write(failing_call: u8) -> [Moved; 3] {
     let mut writer = FromWriter::new(Numbered::failing_at(failing_call));
-    let first = taken(writer.write(b"12345678"));
-    let flushed = match writer.flush() {
-        Ok(()) => Ok(0),
-        Err(error) => Err(error.kind()),
-    };
-    let second = taken(writer.write(b"12345678"));
+    let first = moved(writer.write(b"12345678"));
+    let flushed = moved(writer.flush().map(|()| 0));
+    let second = moved(writer.write(b"12345678"));
     [first, flushed, second]
-}
-
-fn taken(written: io::Result<usize>) -> Result<usize, ErrorKind> {
-    match written {
-        Ok(n) => Ok(n),
-        Err(error) => Err(error.kind()),
-    }
 }
 
 #[test]

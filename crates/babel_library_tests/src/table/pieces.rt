@@ -1,102 +1,92 @@
-//! How a dump is cut into pieces makes no difference.
-use super::faults::{CUT, FAULTY, FOUR, PAST_END, TOO_MANY};
-use super::{fed, fed_by_octet, limits, router, router_v6, same};
+//! How a dump is cut into pieces makes no difference, and where it ends is told.
 use crate::dumps::{
-    ALL_RETRACTED, FAULTY_SUB_TLVS, HELD_AFTER_ONE, LINK_LOCAL, MORE_OMITTED, MORE_PAIRS,
-    NESTED_SOURCES, ONE_IGNORED, ONE_RETRACTED, ONE_ROUTE, ONE_ROUTE_FORM, ONE_V6_ROUTE,
-    ONLY_RETRACTED, OTHER_ENCODING, RESERVED_ROUTER_ID, RETRACTED, ROUTER_ID_BY_FLAG,
-    SEVEN_REASONS, SOURCE_LEFT, THREE_ROUTES, TWO_ROUTES, TWO_ROUTES_FORM, TWO_SOURCES, octets,
+    ALL_RETRACTED, EITHER_ENCODING, NESTED_SOURCES, ONE_ROUTE, ROUTER_ID_BY_FLAG, TWO_ROUTES, V4,
+    V6, octets,
 };
-use babel_prefix::Addr;
-use babel_table::{Limits, read_dump};
+use babel_prefix::{Addr, parse_addr};
+use babel_table::{Feeder, Limits, Table, read_dump};
 use babel_tlv::{Fault, Mode};
 use std::alloc::Global;
 use std::test::Fail;
 
-const DUMPS: [&str; 26] = [
+/// The last: Updates with faulty sub-TLVs, which are ignored; dumps with faults: too many routes
+/// where three may be, and then a TLV past the end; a wrong magic after a packet; a wrong version;
+/// the router-id flag in an encoding that is not read, and then a TLV past the end.
+const DUMPS: [&str; 11] = [
     ONE_ROUTE,
     NESTED_SOURCES,
-    TWO_SOURCES,
     TWO_ROUTES,
-    TWO_ROUTES_FORM,
-    ONE_IGNORED,
     ROUTER_ID_BY_FLAG,
     ALL_RETRACTED,
-    FAULTY_SUB_TLVS,
-    OTHER_ENCODING,
-    LINK_LOCAL,
-    THREE_ROUTES,
-    FOUR,
-    MORE_PAIRS,
-    ONE_ROUTE_FORM,
-    SOURCE_LEFT,
-    SEVEN_REASONS,
-    RESERVED_ROUTER_ID,
-    MORE_OMITTED,
-    ONE_V6_ROUTE,
-    PAST_END,
-    TOO_MANY,
-    RETRACTED,
-    ONLY_RETRACTED,
-    ONE_RETRACTED,
-    HELD_AFTER_ONE,
+    EITHER_ENCODING,
+    "2a020057 060a0000 0200000000000001 081301000800064000010100 0a 8002080a 80020814 \
+     080e01000800064000010100 0a 800100 081301000800064000010100 0a 8006210a00000000 \
+     080f01000800064000010100 0a 8005080a",
+    "2a020041 060a0000 0200000000000001 080b010008000640000101000a 080b0100080006400001020014 \
+     080b010008000640000103001e 080b0100080006400001040028 04",
+    "2a020019 060a0000 0200000000000001 080b010008000640000101000a 2b020000",
+    "2a030000",
+    "2a020010 080b044008000640000101000a 040200",
 ];
+
+/// Equal rows and reports, or equal faults at equal offsets.
+fn same(left: &Result<Table, Fault>, right: &Result<Table, Fault>) -> bool {
+    match (left, right) {
+        (Ok(left), Ok(right)) => {
+            let (rows, others) = (left.rows(), right.rows());
+            rows.len() == others.len()
+                && rows.zip(others).all(|(row, other)| row == other)
+                && *left.report() == *right.report()
+        }
+        (Err(left), Err(right)) => *left == *right,
+        _ => false,
+    }
+}
+
+/// What a dump gives in pieces of this length, after a first one of another length.
+fn fed(
+    alloc: Global,
+    limits: Limits,
+    mode: Mode,
+    sender: Addr,
+    (first, rest): (&[u8], &[u8]),
+    step: usize,
+) -> Result<Table, Fault> {
+    let mut feeder = Feeder::new(alloc, limits, mode, sender)?;
+    let _ = feeder.feed(first);
+    for piece in rest.chunks(step.max(1)) {
+        let _ = feeder.feed(piece);
+    }
+    feeder.finish()
+}
 
 /// Whether the dump, cut in two at each place, and octet by octet, gives what it gives whole.
 fn agrees(alloc: Global, limits: Limits, mode: Mode, sender: Addr, dump: &[u8]) -> bool {
     let whole = read_dump(alloc, limits, mode, sender, dump);
     for cut in 0..dump.len() {
-        let (front, back) = dump.split_at(cut);
-        if !same(&whole, &fed(alloc, limits, mode, sender, &[front, back])) {
+        let cut = dump.split_at(cut);
+        let in_two = fed(alloc, limits, mode, sender, cut, dump.len());
+        if !same(&whole, &in_two) {
             return false;
         }
     }
-    same(&whole, &fed_by_octet(alloc, limits, mode, sender, dump))
+    same(&whole, &fed(alloc, limits, mode, sender, (&[], dump), 1))
 }
 
 #[test]
 fn every_cut(rt: HostRuntime) -> Result<(), Fail> {
     let alloc = rt.alloc();
-    let faulty = FAULTY.iter().chain(&CUT).map(|(text, _)| *text);
-    for text in DUMPS.iter().copied().chain(faulty) {
+    let limits = |octets, routes| Limits::new(octets, routes).ok_or("no limits");
+    for text in DUMPS {
         let dump = octets(alloc, text)?;
-        for sender in [router(), router_v6()] {
-            for most in [Limits::usual(), limits(83, 1), limits(249, 3)] {
+        for sender in [V4, V6] {
+            let sender = parse_addr(sender).ok_or("no address")?;
+            for most in [Limits::usual(), limits(83, 1)?, limits(249, 3)?] {
                 for mode in [Mode::Plain, Mode::Hold] {
                     assert!(rt; agrees(alloc, most, mode, sender, &dump), "{text}");
                 }
             }
         }
-    }
-    Ok(())
-}
-
-#[test]
-fn every_cut_at_the_limit(rt: HostRuntime) -> Result<(), Fail> {
-    let alloc = rt.alloc();
-    for (magic, padding) in [(42, 79), (42, 80), (43, 80)] {
-        let mut dump = Vec::from_slice(alloc, &[magic, 2, 0, padding])?;
-        dump.resize(4 + padding as usize, 0)?;
-        assert!(rt; agrees(alloc, limits(83, 1), Mode::Plain, router(), &dump));
-    }
-    Ok(())
-}
-
-#[test]
-fn cut_off(rt: HostRuntime) -> Result<(), Fail> {
-    let alloc = rt.alloc();
-    let dump = octets(alloc, ROUTER_ID_BY_FLAG)?;
-    assert!(rt; dump.len() == 48);
-    for len in 0..48usize {
-        let rows = match len {
-            0 => Ok(0),
-            1..=31 => Err(Fault::Truncated { at: 0 }),
-            32 => Ok(1),
-            _ => Err(Fault::Truncated { at: 32 }),
-        };
-        let front = &dump[..len.min(dump.len())];
-        let got = read_dump(alloc, Limits::usual(), Mode::Plain, router_v6(), front);
-        assert!(rt; got.map(|table| table.rows().len()) == rows);
     }
     Ok(())
 }
@@ -109,10 +99,10 @@ fn after_packets(octets: &[u8]) -> &[u8] {
             break;
         }
         let body = u16::from_be_bytes([rest[2], rest[3]]) as usize;
-        let Some(behind) = rest.get(4 + body..) else {
+        let Some(after) = rest.get(4 + body..) else {
             break;
         };
-        rest = behind;
+        rest = after;
     }
     rest
 }
@@ -128,10 +118,8 @@ fn is_cut_off(alloc: Global, mode: Mode, sender: Addr, dump: &[u8]) -> bool {
             Ok(_) if at < len => Err(Fault::Truncated { at: at as u64 }),
             answer => answer,
         };
-        if !same(
-            &want,
-            &read_dump(alloc, Limits::usual(), mode, sender, front),
-        ) {
+        let given = read_dump(alloc, Limits::usual(), mode, sender, front);
+        if !same(&want, &given) {
             return false;
         }
     }
@@ -141,41 +129,14 @@ fn is_cut_off(alloc: Global, mode: Mode, sender: Addr, dump: &[u8]) -> bool {
 #[test]
 fn cut_off_anywhere(rt: HostRuntime) -> Result<(), Fail> {
     let alloc = rt.alloc();
-    for text in DUMPS {
+    for text in &DUMPS[..7] {
         let dump = octets(alloc, text)?;
-        for mode in [Mode::Plain, Mode::Hold] {
-            assert!(rt; is_cut_off(alloc, mode, router(), &dump), "{text}");
-        }
-    }
-    Ok(())
-}
-
-/// Whether the dump, with each octet changed in turn, gives in pieces what it gives whole.
-fn agrees_changed(alloc: Global, mode: Mode, sender: Addr, text: &str) -> Result<bool, Fail> {
-    let mut dump = octets(alloc, text)?;
-    for place in 0..dump.len() {
-        if place < dump.len() {
-            let octet = dump[place];
-            for changed in [0, 255, octet ^ 1] {
-                dump[place] = changed;
-                if !agrees(alloc, Limits::usual(), mode, sender, &dump) {
-                    return Ok(false);
-                }
+        for sender in [V4, V6] {
+            let sender = parse_addr(sender).ok_or("no address")?;
+            for mode in [Mode::Plain, Mode::Hold] {
+                assert!(rt; is_cut_off(alloc, mode, sender, &dump), "{text}");
             }
-            dump[place] = octet;
         }
-    }
-    Ok(true)
-}
-
-#[test]
-fn changed_octets(rt: HostRuntime) -> Result<(), Fail> {
-    let alloc = rt.alloc();
-    for mode in [Mode::Plain, Mode::Hold] {
-        for text in [ONE_ROUTE, NESTED_SOURCES, FAULTY_SUB_TLVS] {
-            assert!(rt; agrees_changed(alloc, mode, router(), text)?, "{text}");
-        }
-        assert!(rt; agrees_changed(alloc, mode, router_v6(), ROUTER_ID_BY_FLAG)?);
     }
     Ok(())
 }
