@@ -653,12 +653,12 @@ def find(octets, limit, wanted, accept_cut, window=None, found=None):
             what = "packet without a time" if packet.time is None else "bad time"
             raise Fault(f"{what} at {packet.at}")
         found.start = time if found.start is None else found.start
+        if window:
+            window.refuse_backwards(found.start)
         if window and not window.has(found.start, time):
             continue
         take(found, packet, number, wanted)
         found.records.append((number, time))
-    if window:
-        window.refuse_backwards(found.start)
     return found
 
 

@@ -49,14 +49,14 @@ asked-other at (Some moment) is = or-other at (in_years moment) is
     or-other at None is = cc
     or-other at (Some time) is = cc
 
-by-other : (since until : Option Moment) (start : Option ℕ) (packet : Captured) (time : Result ℕ Fault) → time ≢ Err faults.Memory → by_time since until start packet time ≢ Err faults.Memory
-by-other since until start packet (Err fault) not is = (let same : fault ≡ faults.Memory = cc in not cc)
-by-other since until start packet (Ok time) not is = cc
+by-other : (since until : Option Moment) (start : Option ℕ) (at : ℕ) (packet : Captured) (time : Result ℕ Fault) → time ≢ Err faults.Memory → by_time since until start at packet time ≢ Err faults.Memory
+by-other since until start at packet (Err fault) not is = (let same : fault ≡ faults.Memory = cc in not cc)
+by-other since until start at packet (Ok time) not is = grind (arith)
 
 read-other : (window : Window) (start : Option ℕ) (at : ℕ) (packet : Captured) → read_by window start at packet ≢ Err faults.Memory
 read-other windows.Whole start at packet is = cc
 read-other (windows.Between since until) start at packet is =
-    by-other since until start packet (time_asked at packet.moment) (asked-other at packet.moment) is
+    by-other since until start at packet (time_asked at packet.moment) (asked-other at packet.moment) is
 
 linked : (before : Before) (at interface number : ℕ) (moment : Option ℤ) (frame : List ℕ) (whole : ℕ) (link : Option Link)
     → holds_by before at interface number moment frame whole link ≢ Err faults.Memory

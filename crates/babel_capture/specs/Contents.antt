@@ -28,7 +28,7 @@ use Rattle.babel_capture.specs.Link.{link_of}
 use Rattle.babel_capture.specs.Numbers.{number_at}
 use Rattle.babel_capture.specs.Options.{Options, all_options}
 use Rattle.babel_capture.specs.Times.{moment_in, time_asked, time_in}
-use Rattle.babel_capture.specs.Window.{is_between}
+use Rattle.babel_capture.specs.Window.{is_empty, is_between}
 
 -- a captured packet: the number of its interface, and of its section's first one, the interface's
 -- link type, when it came in nanoseconds since the start of 1970, where its block has a time, the
@@ -77,17 +77,19 @@ context_after before (skips packet) = started_with before.window before packet.m
 context_after before nothing = before
 
 -- a packet that came then is read, or skipped; the first one came when this one did where none did
--- before
-abbrev pub by_time : Option Moment → Option Moment → Option ℕ → Captured → Result ℕ Fault
+-- before, and by that the window is one
+abbrev pub by_time : Option Moment → Option Moment → Option ℕ → ℕ → Captured → Result ℕ Fault
     → Result Content Fault
-by_time since until start packet (Err fault) = Err fault
-by_time since until start packet (Ok time) =
-    Ok (if is_between since until (unwrap_or start time) time then holds packet else skips packet)
+by_time since until start at packet (Err fault) = Err fault
+by_time since until start at packet (Ok time) =
+    let first : ℕ = unwrap_or start time in
+    if is_empty since until first then Err (faults.EmptyWindow at)
+    else Ok (if is_between since until first time then holds packet else skips packet)
 
 abbrev pub read_by : Window → Option ℕ → ℕ → Captured → Result Content Fault
 read_by windows.Whole start at packet = Ok (holds packet)
 read_by (windows.Between since until) start at packet =
-    by_time since until start packet (time_asked at packet.moment)
+    by_time since until start at packet (time_asked at packet.moment)
 
 -- a packet of an interface that was described, with a link type that is read; its time is counted
 -- as the interface's are

@@ -1,5 +1,5 @@
 -- Which packets of a capture are read, by when they came. It is this project's own.
-use Rattle.std.specs.Prelude.{ℕ, ◌+◌, ◌*◌, Bool, true, false, ◌&&◌, nat_le, Option, None}
+use Rattle.std.specs.Prelude.{ℕ, ◌+◌, ◌*◌, Bool, true, false, ◌&&◌, nat_le, nat_lt, Option, None}
 use Rattle.std.specs.Prelude.{Some}
 use Rattle.std.specs.Option.{option_map}
 use Rattle.babel_capture.specs.declared.window.Moment.{Moment}
@@ -43,3 +43,10 @@ is_until first time (Some moment) = nat_le time (moment_from first moment)
 
 abbrev pub is_between : Option Moment → Option Moment → ℕ → ℕ → Bool
 is_between since until first time = is_since first time since && is_until first time until
+
+-- the one moment is later than the other, so that no packet can come between them
+abbrev pub is_empty : Option Moment → Option Moment → ℕ → Bool
+is_empty None until first = false
+is_empty (Some since) None first = false
+is_empty (Some since) (Some until) first =
+    nat_lt (moment_from first until) (moment_from first since)

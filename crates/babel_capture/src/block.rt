@@ -23,7 +23,7 @@ use crate::options::read_options;
 use crate::order::Order;
 use crate::seen::Seen;
 use crate::time::Time;
-use crate::window::{Window, is_between};
+use crate::window::{Window, is_empty, is_between};
 
 /// Types of blocks: draft-ietf-opsawg-pcapng, 4.2, 4.3, 4.4. The packet block is an old one, which
 /// the enhanced packet block replaced.
@@ -194,7 +194,8 @@ fn read_packet<'a>(
     read_by(before, at, packet)
 }
 
-/// A packet that is read, or skipped for its time.
+/// A packet that is read, or skipped for its time; a fault where none can be read by the first
+/// one's.
 fn read_by<'a>(before: &Context, at: u64, packet: Packet<'a>) -> Result<Block<'a>, Fault>
     ensures ok { IfOk result (λ block. read_by before.now.window before.now.start at (captured_of
         packet.entry) ≡ Ok (content_of block)) }
@@ -209,6 +210,9 @@ fn read_by<'a>(before: &Context, at: u64, packet: Packet<'a>) -> Result<Block<'a
         Err(fault) => return Err(fault),
     };
     let first = before.start().unwrap_or(time);
+    if is_empty(&since, &until, &first) {
+        return Err(Fault::EmptyWindow { at });
+    }
     if is_between(since, until, first, time) {
         Ok(Block::Packet(packet))
     } else {

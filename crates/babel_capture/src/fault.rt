@@ -53,6 +53,10 @@ pub enum Fault {
     /// Where a time is asked for, the packet in the block that begins here has none.
     #[error("packet without a time at {at}")]
     NoTime { at: u64 },
+    /// The packet in the block that begins here is the first, and by its time the first moment that
+    /// is read is later than the last.
+    #[error("empty window of times at {at}")]
+    EmptyWindow { at: u64 },
     /// An allocation was refused, or the octets of one sender are 2^64 or more.
     #[error("out of memory")]
     Memory,

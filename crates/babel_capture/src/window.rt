@@ -1,5 +1,5 @@
 ghost use Rattle.std.specs.Prelude.{◌≡◌};
-ghost use Rattle.babel_capture.specs.Window.{is_between, moment_from};
+ghost use Rattle.babel_capture.specs.Window.{is_empty, is_between, moment_from};
 
 use crate::time::Time;
 
@@ -41,6 +41,16 @@ impl Moment {
                 first.nanoseconds() + later
             }
         }
+    }
+}
+
+/// Whether the one moment is later than the other, of a capture whose first packet came at `first`.
+pub(crate) fn is_empty(since: &Option<Moment>, until: &Option<Moment>, first: &Time) -> bool
+    ensures { result ≡ is_empty since.now until.now first.now }
+{
+    match (since, until) {
+        (Some(since), Some(until)) => until.from(*first) < since.from(*first),
+        _ => false,
     }
 }
 

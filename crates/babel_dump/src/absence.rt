@@ -42,11 +42,6 @@ impl Absence {
             first: gathered.first_outside(),
         }
     }
-
-    /// Whether no packet can be between the two moments, since the first is later than the last.
-    pub fn is_backwards(&self) -> bool {
-        matches!((self.since, self.until), (Some(since), Some(until)) if since > until)
-    }
 }
 
 impl fmt::Display for Absence {

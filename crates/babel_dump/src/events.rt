@@ -310,8 +310,8 @@ impl Followed {
         if !self.capture.gathered().senders().is_empty() {
             return Ok(0);
         }
-        let absence = Absence::of(&self.capture, &events.window);
-        if events.sender.is_some() || absence.is_backwards() {
+        if events.sender.is_some() {
+            let absence = Absence::of(&self.capture, &events.window);
             return Err(EventsFault::Input(InputFault::NoPackets(absence)));
         }
         Ok(1)

@@ -56,6 +56,14 @@ impl InputFault {
             _ => 3,
         }
     }
+
+    /// Whether by the capture's first packet `--since` is later than `--until`.
+    pub fn is_empty_window(&self) -> bool {
+        matches!(
+            self,
+            InputFault::Capture(CaptureFault::EmptyWindow { .. })
+        )
+    }
 }
 
 impl From<Fault> for InputFault {
