@@ -12,7 +12,7 @@ use Rattle.babel_capture.specs.declared.wanted.Wanted.TheVariants as wanteds
 use Rattle.babel_capture.specs.declared.fault.Fault.{Fault}
 use Rattle.babel_capture.specs.declared.fault.Fault.TheVariants as faults
 use Rattle.babel_capture.specs.declared.lack.Lack.{Lack}
-use Rattle.babel_capture.specs.declared.noted.Noted.{Noted}
+use Rattle.babel_capture.specs.declared.sink.Record.{Record}
 use Rattle.babel_capture.specs.declared.place.Place.{Place}
 use Rattle.babel_capture.specs.declared.tallies.Origin.{Origin}
 use Rattle.babel_capture.specs.Blocks.{Sighting, sight_in}
@@ -22,8 +22,9 @@ use Rattle.babel_capture.specs.Counting.{counted, counted_at, counted_with, shor
 use Rattle.babel_capture.specs.Findings.{CarriedIs, Found, LackIs, PayloadIs, passed, untold, left, refused, lacked, found, Finds}
 use Rattle.babel_capture.specs.Lack.{lack_fault}
 use Rattle.babel_capture.specs.Sight.{Carried, Sight, carries, datagram, lacking, not_link_local, other, other_port, too_short}
-use Rattle.babel_capture.specs.Gathering.{AreMade, BlockNeedsMemory, PacketNeedsMemory, IsTaken, Gathering, IsGathered, IsRefusedPacket, octets_found, dump_of, dump_with, missed_in, noted_of, nothing_noted, origin_noted, origin_found}
+use Rattle.babel_capture.specs.Gathering.{AreMade, AreTaken, BlockNeedsMemory, PacketNeedsMemory, IsTaken, Gathering, IsGathered, IsRefusedPacket, missed_in, octets_found, origin_found, dump_of, dump_with}
 use Rattle.babel_capture.specs.Dumps.{Dumps, dumps_by, dumps_of, dumps_with}
+use Rattle.babel_capture.specs.Sinking.{AreTold, GatherMore, IsPacketOf, IsTold}
 use Rattle.babel_capture.specs.Tallies.{Senders, IsOneTooMany, senders_with, senders_of, tallied}
 use Rattle.babel_capture.specs.Times.{time_of}
 use Rattle.babel_capture.specs.Updates.{interval_in}
@@ -50,7 +51,7 @@ dump-push : (wanted : Wanted) (made : List Made) (dump : List ℕ) (one : Made) 
 dump-push wanteds.Everyone made dump one is = is
 dump-push wanteds.Each made dump one is = is
 dump-push (wanteds.Sender sender place ends) made dump one is = octets-push made dump one is
-dump-push (wanteds.InTurn sender place) made dump one is = octets-push made dump one is
+dump-push (wanteds.InTurn sender place) made dump one is = is
 
 dumps-push : (wanted : Wanted) (made : List Made) (one : Made) → dumps_of wanted (made ++ one ∷ []) ≡ dumps_with wanted (dumps_of wanted made) one.number (time_of one.came) one.what
 dumps-push wanted made one = fold-append (λ (d : Dumps) (m : Made). dumps_with wanted d m.number (time_of m.came) m.what) [] made (one ∷ [])
@@ -62,13 +63,14 @@ pub gathered-push : (before : List Sighting) (next : Sighting) (old new : Gather
     → new.dump ≡ dump_with old.wanted old.dump (octets_found what) → new.dumps ≡ dumps_with old.wanted old.dumps next.number (time_of next.came) what
     → new.report ≡ counted (counted_at old.report next.came) next.link what
     → new.senders ≡ senders_with old.senders (time_of next.came) what → length new.senders ≤ 65536 → IsTaken what
-    → IsGathered before old → next.number ≡ old.report.packets + 1 → Finds old.wanted next.what what → IsGathered (before ++ next ∷ []) new
+    → (was : IsGathered before old) → next.number ≡ old.report.packets + 1 → Finds old.wanted next.what what
+    → (now : IsGathered (before ++ next ∷ []) new) × (now.made ≡ was.made ++ made_of next what ∷ [])
 gathered-push before next old new what same dump dumps report senders few takes gathered number finds =
     let one : Made = made_of next what in
     let is_senders : new.senders ≡ senders_of (gathered.made ++ one ∷ []) =
     senders ∙ ap (λ (t : Senders). senders_with t (time_of next.came) what) gathered.senders ∙ sym (senders-push gathered.made one) in
     let is_number : one.number ≡ length gathered.made + 1 = number ∙ ap (λ c. c.packets + 1) gathered.report in
-    record {
+    (record {
       made = gathered.made ++ one ∷ [];
       taken = record {
         are_made = subst (λ (w : Wanted). AreMade w (before ++ next ∷ []) (gathered.made ++ one ∷ [])) (sym same)
@@ -81,21 +83,21 @@ gathered-push before next old new what same dump dumps report senders few takes 
           (dumps ∙ ap (λ (d : Dumps). dumps_with old.wanted d next.number (time_of next.came) what) gathered.dumps ∙ sym (dumps-push old.wanted gathered.made one));
       report = report ∙ ap (λ (c : Counts). counted (counted_at c next.came) next.link what) gathered.report ∙ sym (counts-push gathered.made one is_number);
       senders = is_senders;
-    }
+    }, refl)
 
 -- octets that were taken out stand before what is added
 pub dump-after : (wanted : Wanted) (taken dump octets : List ℕ) → taken ++ dump_with wanted dump octets ≡ dump_with wanted (taken ++ dump) octets
 dump-after wanteds.Everyone taken dump octets = refl
 dump-after wanteds.Each taken dump octets = refl
 dump-after (wanteds.Sender sender place ends) taken dump octets = sym (append_assoc taken dump octets)
-dump-after (wanteds.InTurn sender place) taken dump octets = sym (append_assoc taken dump octets)
+dump-after (wanteds.InTurn sender place) taken dump octets = refl
 
 -- what is no packet leaves the dump
 pub dump-stays : (wanted : Wanted) (dump : List ℕ) → dump ≡ dump_with wanted dump []
 dump-stays wanteds.Everyone dump = refl
 dump-stays wanteds.Each dump = refl
 dump-stays (wanteds.Sender sender place ends) dump = sym (append-nil dump)
-dump-stays (wanteds.InTurn sender place) dump = sym (append-nil dump)
+dump-stays (wanteds.InTurn sender place) dump = refl
 
 dumps-stay : (wanted : Wanted) (dumps : Dumps) (number : ℕ) (time : Option ℕ) (what : Found) → dumps_by dumps number time what ≡ dumps → dumps ≡ dumps_with wanted dumps number time what
 dumps-stay wanteds.Everyone dumps number time what same = refl
@@ -103,47 +105,59 @@ dumps-stay wanteds.Each dumps number time what same = sym same
 dumps-stay (wanteds.Sender sender place ends) dumps number time what same = refl
 dumps-stay (wanteds.InTurn sender place) dumps number time what same = refl
 
-pub on-ok4 : {T E : Type 0} {P Q R S U : Type 0} (r : Result T E) → (P → Q → R → S → U) → OnOk r P → OnOk r Q → OnOk r R → OnOk r S → OnOk r U
-on-ok4 (Ok x) goes one two three four = goes one two three four
-on-ok4 (Err e) goes one two three four = tt
-
-pub if-err-all : {T E : Type 0} {P : E → Type 0} (r : Result T E) → ((e : E) → P e) → IfErr r P
-if-err-all (Ok x) is = tt
-if-err-all (Err e) is = is e
-
-pub on-ok : {T E : Type 0} {P Q : Type 0} (r : Result T E) → (P → Q) → OnOk r P → OnOk r Q
-on-ok (Ok x) goes is = goes is
-on-ok (Err e) goes is = tt
-
 -- the senders of packets that were gathered, and the same ones after a packet of which none is found
 few_kept : (before : List Sighting) (old new : Gathering) → new.senders ≡ old.senders → IsGathered before old → length new.senders ≤ 65536
 few_kept before old new same gathered = subst (λ (s : Senders). length s ≤ 65536) (sym (same ∙ gathered.senders)) gathered.taken.few
 
--- this is noted of what is seen
-abbrev pub IsNotedOf : Wanted → Sight → Noted → Type 0
-IsNotedOf wanted sight noted = (what : Found) × Finds wanted sight what × (noted ≡ noted_of wanted what)
+-- what holds no packet changes nothing
+pub no-more : (old new : Gathering) → new.wanted ≡ old.wanted → new.dump ≡ old.dump → new.dumps ≡ old.dumps → new.report ≡ old.report → new.senders ≡ old.senders
+    → (more : List Made) × (more ≡ []) × GatherMore old new [] more
+no-more old new wanted dump dumps report senders = ([], refl, (λ taken before was. (record {
+  made = was.made;
+  taken = subst (λ (w : Wanted). AreTaken w (before ++ []) was.made) (sym wanted) (subst (λ (s : List Sighting). AreTaken old.wanted s was.made) (sym (append-nil before)) was.taken);
+  dump = ap (λ (d : List ℕ). taken ++ d) dump ∙ was.dump ∙ ap (λ (w : Wanted). dump_of w was.made) (sym wanted);
+  dumps = dumps ∙ was.dumps ∙ ap (λ (w : Wanted). dumps_of w was.made) (sym wanted);
+  report = report ∙ was.report;
+  senders = senders ∙ was.senders;
+}, sym (append-nil was.made))))
+
+-- where nothing is found, no more is told than that there is a packet
+pub told-plain : (next : Sighting) (what : Found) (told : Record) → told.number ≡ next.number → told.time ≡ time_of next.came → (told.packet ≡ None) × (told.missed ≡ None)
+    → origin_found what ≡ None → octets_found what ≡ [] → missed_in what ≡ None → IsTold (made_of next what) told
+told-plain next what told number time (none, not_missed) origin octets missed = record {
+  number = number;
+  time = time;
+  packet = subst (IsPacketOf what) (sym none) (origin, octets);
+  missed = not_missed ∙ sym missed;
+}
+
+-- what is told of a packet more, of which this is made
+pub told-one : (next : Sighting) (old new : Gathering) (what : Found) (told : Record) → IsTold (made_of next what) told
+    → GatherMore old new (next ∷ []) (made_of next what ∷ []) → (more : List Made) × AreTold (Some told) more × GatherMore old new (next ∷ []) more
+told-one next old new what told is_told goes = (made_of next what ∷ [], (made_of next what, refl, is_told), goes)
 
 -- the same as the code meets them
 module _ (before : List Sighting) (next : Sighting) (old new : Gathering) (finding : Found) where
-  abbrev Goes : Type 0
-  Goes = IsGathered before old → next.number ≡ old.report.packets + 1 → Finds old.wanted next.what finding → IsGathered (before ++ next ∷ []) new
+  abbrev Goes : Found → Type 0
+  Goes what = (was : IsGathered before old) → next.number ≡ old.report.packets + 1 → Finds old.wanted next.what finding
+      → (now : IsGathered (before ++ next ∷ []) new) × (now.made ≡ was.made ++ made_of next what ∷ [])
 
   pub passed-push : finding ≡ passed → new.wanted ≡ old.wanted → new.dump ≡ old.dump → new.dumps ≡ old.dumps → new.report ≡ counted_with (counted_at old.report next.came) None
-      → new.senders ≡ old.senders → Goes
+      → new.senders ≡ old.senders → Goes passed
   passed-push is same dump dumps report senders gathered number finds =
       gathered-push before next old new passed same (dump ∙ dump-stays old.wanted old.dump) (dumps ∙ dumps-stay old.wanted old.dumps next.number (time_of next.came) passed refl) report senders
       (few_kept before old new senders gathered) tt gathered number
       (subst (Finds old.wanted next.what) is finds)
 
   pub short-push : finding ≡ untold → new.wanted ≡ old.wanted → new.dump ≡ old.dump → new.dumps ≡ old.dumps → new.report ≡ short_counted (counted_at old.report next.came)
-      → new.senders ≡ old.senders → Goes
+      → new.senders ≡ old.senders → Goes untold
   short-push is same dump dumps report senders gathered number finds =
       gathered-push before next old new untold same (dump ∙ dump-stays old.wanted old.dump) (dumps ∙ dumps-stay old.wanted old.dumps next.number (time_of next.came) untold refl) report senders
       (few_kept before old new senders gathered) tt gathered number
       (subst (Finds old.wanted next.what) is finds)
 
   pub left-push : (reason : Reason) (missed : Option Origin) → finding ≡ left reason missed → new.wanted ≡ old.wanted → new.dump ≡ old.dump → new.dumps ≡ old.dumps
-      → new.report ≡ counted_with (counted_at old.report next.came) (Some reason) → new.senders ≡ old.senders → Goes
+      → new.report ≡ counted_with (counted_at old.report next.came) (Some reason) → new.senders ≡ old.senders → Goes (left reason missed)
   left-push reason missed is same dump dumps report senders gathered number finds =
       gathered-push before next old new (left reason missed) same (dump ∙ dump-stays old.wanted old.dump)
       (dumps ∙ dumps-stay old.wanted old.dumps next.number (time_of next.came) (left reason missed) refl) report senders
@@ -153,7 +167,7 @@ module _ (before : List Sighting) (next : Sighting) (old new : Gathering) (findi
   pub found-push : (place : Place) (sender : Address) (packet : List ℕ) (has_trailer : Bool) → finding ≡ found place sender packet has_trailer → new.wanted ≡ old.wanted → new.dump ≡ dump_with old.wanted old.dump packet
       → new.dumps ≡ dumps_with old.wanted old.dumps next.number (time_of next.came) (found place sender packet has_trailer)
       → new.report ≡ packet_counted (counted_at old.report next.came) next.link (interval_in packet) has_trailer
-      → new.senders ≡ tallied old.senders (record { place = place; sender = sender }) (time_of next.came) packet has_trailer → length new.senders ≤ 65536 → Goes
+      → new.senders ≡ tallied old.senders (record { place = place; sender = sender }) (time_of next.came) packet has_trailer → length new.senders ≤ 65536 → Goes (found place sender packet has_trailer)
   found-push place sender packet has_trailer is same dump dumps report senders few gathered number finds =
       gathered-push before next old new (found place sender packet has_trailer) same dump dumps report senders few tt gathered number
       (subst (Finds old.wanted next.what) is finds)
@@ -161,7 +175,7 @@ module _ (before : List Sighting) (next : Sighting) (old new : Gathering) (findi
   -- where the dump of each is wanted
   pub lacked-push : (place : Place) (sender : Address) (lack : Lack) → finding ≡ lacked place sender lack → old.wanted ≡ wanteds.Each → new.wanted ≡ old.wanted → new.dump ≡ old.dump
       → new.dumps ≡ dumps_by old.dumps next.number (time_of next.came) (lacked place sender lack) → new.report ≡ counted_with (counted_at old.report next.came) None
-      → new.senders ≡ old.senders → Goes
+      → new.senders ≡ old.senders → Goes (lacked place sender lack)
   lacked-push place sender lack is each same dump dumps report senders gathered number finds =
       let what = lacked place sender lack in
       gathered-push before next old new what same (dump ∙ dump-stays old.wanted old.dump)
@@ -204,43 +218,21 @@ pub lack-refused : (wanted : Wanted) (senders : Senders) (at : ℕ) (packet : Ca
 lack-refused wanted senders at packet lack fault finding is told finds = inr (inl (lack, told, subst (Finds wanted (sight_in packet)) is finds))
 
 -- the sender of a packet that was found is one too many
-pub too-many-refused : {T : Type 0} (r : Result T Fault) (wanted : Wanted) (here senders : Senders) (at : ℕ) (packet : Captured) (origin : Origin) (octets : List ℕ) (has_trailer : Bool) (finding : Found)
+pub too-many-refused : (fault : Fault) (wanted : Wanted) (here senders : Senders) (at : ℕ) (packet : Captured) (origin : Origin) (octets : List ℕ) (has_trailer : Bool) (finding : Found)
     → here ≡ senders → finding ≡ found origin.place origin.sender octets has_trailer → Finds wanted (sight_in packet) finding
-    → IfErr r (λ fault. (fault ≡ faults.Memory) ⊎ ((fault ≡ faults.TooManySenders at) × IsOneTooMany here origin))
-    → IfErr r (λ fault. (fault ≡ faults.Memory) ⊎ IsRefusedPacket wanted senders at packet fault)
-too-many-refused (Ok x) wanted here senders at packet origin octets has_trailer finding same is finds err = tt
-too-many-refused (Err fault) wanted here senders at packet origin octets has_trailer finding same is finds (inl memory) = inl memory
-too-many-refused (Err fault) wanted here senders at packet origin octets has_trailer finding same is finds (inr (told, many)) =
+    → (fault ≡ faults.Memory) ⊎ ((fault ≡ faults.TooManySenders at) × IsOneTooMany here origin) → (fault ≡ faults.Memory) ⊎ IsRefusedPacket wanted senders at packet fault
+too-many-refused fault wanted here senders at packet origin octets has_trailer finding same is finds (inl memory) = inl memory
+too-many-refused fault wanted here senders at packet origin octets has_trailer finding same is finds (inr (told, many)) =
     inr (inr (told, (origin, octets, has_trailer, subst (Finds wanted (sight_in packet)) is finds, subst (λ (s : Senders). IsOneTooMany s origin) same many)))
 
 -- memory is needed for the packet that was found
-pub found-needs : {T : Type 0} (r : Result T Fault) (wanted before : Wanted) (here senders : Senders) (packet : Captured) (origin : Origin) (octets : List ℕ) (has_trailer : Bool) (finding : Found)
+pub found-needs : (wanted before : Wanted) (here senders : Senders) (packet : Captured) (origin : Origin) (octets : List ℕ) (has_trailer : Bool) (finding : Found)
     → wanted ≡ before → here ≡ senders → finding ≡ found origin.place origin.sender octets has_trailer → Finds before (sight_in packet) finding
-    → IfErr r (λ fault. fault ≡ faults.Memory → PacketNeedsMemory wanted here origin octets has_trailer) → IfErr r (λ fault. fault ≡ faults.Memory → BlockNeedsMemory before senders (holds packet))
-found-needs (Ok x) wanted before here senders packet origin octets has_trailer finding same are is finds needs = tt
-found-needs (Err fault) wanted before here senders packet origin octets has_trailer finding same are is finds needs = λ memory. inl (
+    → PacketNeedsMemory wanted here origin octets has_trailer → BlockNeedsMemory before senders (holds packet)
+found-needs wanted before here senders packet origin octets has_trailer finding same are is finds needs = inl (
   origin,
   octets,
   has_trailer,
   subst (Finds before (sight_in packet)) is finds,
-  subst (λ (w : Wanted). PacketNeedsMemory w senders origin octets has_trailer) same (subst (λ (s : Senders). PacketNeedsMemory wanted s origin octets has_trailer) are (needs memory)),
+  subst (λ (w : Wanted). PacketNeedsMemory w senders origin octets has_trailer) same (subst (λ (s : Senders). PacketNeedsMemory wanted s origin octets has_trailer) are needs),
 )
-
--- what was noted
-none-added : (wanted : Wanted) (what : Found) → origin_found what ≡ None → None ≡ origin_noted wanted what
-none-added wanteds.Everyone what none = refl
-none-added wanteds.Each what none = refl
-none-added (wanteds.Sender sender place true) what none = sym none
-none-added (wanteds.Sender sender place false) what none = refl
-none-added (wanteds.InTurn sender place) what none = sym none
-
-pub no-origin : (wanted : Wanted) (what : Found) → origin_found what ≡ None → record nothing_noted { missed = missed_in what } ≡ noted_of wanted what
-no-origin wanted what none = ap (λ (o : Option Origin). record { origin = o; missed = missed_in what }) (none-added wanted what none)
-
-pub noted-one : (wanted : Wanted) (sight : Sight) (finding what : Found) (noted : Noted) → finding ≡ what → Finds wanted sight finding → noted ≡ noted_of wanted what → IsNotedOf wanted sight noted
-noted-one wanted sight finding what noted is finds noted_so = (what, subst (Finds wanted sight) is finds, noted_so)
-
-pub noted-ok : {E : Type 0} (r : Result Noted E) (wanted : Wanted) (sight : Sight) (finding what : Found) (noted : Noted) → finding ≡ what → Finds wanted sight finding
-    → noted ≡ noted_of wanted what → IfOk r (λ told. told ≡ noted) → IfOk r (λ told. IsNotedOf wanted sight told)
-noted-ok (Ok told) wanted sight finding what noted is finds so same = noted-one wanted sight finding what told is finds (same ∙ so)
-noted-ok (Err fault) wanted sight finding what noted is finds so same = tt

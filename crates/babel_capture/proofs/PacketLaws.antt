@@ -55,7 +55,7 @@ in_carried wanted place sender not_link_local what is = nothing_found (octets_fo
 in_carried wanted place sender (lacking lack) what is = in_lack wanted place sender lack what is
 in_carried wanted place sender (carries payload) what is = in_payload place sender payload what is
 
-in_sight : (wanted : Wanted) (sight : Sight) (what : Found) → Finds wanted sight what → ArePackets (octets_found what)
+pub in_sight : (wanted : Wanted) (sight : Sight) (what : Found) → Finds wanted sight what → ArePackets (octets_found what)
 in_sight wanted other what is = nothing_found (octets_found what) (ap octets_found is)
 in_sight wanted too_short what is = nothing_found (octets_found what) (ap octets_found is)
 in_sight wanted (datagram place sender carried) what (inl (is_wanted, is)) = in_carried wanted place sender carried what is
@@ -74,7 +74,7 @@ in_dump : (wanted : Wanted) (sightings : List Sighting) (made : List Made) → A
 in_dump wanteds.Everyone sightings made are = nothing_found [] refl
 in_dump wanteds.Each sightings made are = nothing_found [] refl
 in_dump (wanteds.Sender sender place ends) sightings made are = in_made (wanteds.Sender sender place ends) sightings made are
-in_dump (wanteds.InTurn sender place) sightings made are = in_made (wanteds.InTurn sender place) sightings made are
+in_dump (wanteds.InTurn sender place) sightings made are = nothing_found [] refl
 
 pub dump_packets : (limit : Extent) (octets : List ℕ) (gathering : Gathering) → IsRead limit octets gathering → ArePackets gathering.dump
 dump_packets limit octets gathering read =

@@ -5,21 +5,20 @@ use Rattle.std.proofs.lemmas.List.{append-nil, length-append, take-append-drop}
 use Rattle.std.proofs.Math.Seq.{take-add}
 use Rattle.std.proofs.lemmas.List.Concat.{flat_map-append}
 use Rattle.babel_capture.specs.declared.fault.Fault.{Fault}
-use Rattle.babel_capture.specs.declared.packet_end.PacketEnd.{PacketEnd}
-use Rattle.babel_capture.specs.declared.noted.Noted.{Noted}
+use Rattle.babel_capture.specs.declared.sink.Record.{Record}
 use Rattle.babel_capture.specs.declared.wanted.Wanted.{Wanted}
 use Rattle.babel_capture.specs.Blocks.{names_of, BlockAt, BeginsBlock, HasHeader, header_of, IsBlock, AreBlocks, Sighting, start, context_behind, octets_of, sightings_in, sightings_behind}
 use Rattle.babel_capture.specs.Blocks.{sightings_of}
 use Rattle.babel_capture.specs.Contents.{Content, block_said, context_after, names_in}
 use Rattle.babel_capture.specs.Context.{Before}
 use Rattle.babel_capture.specs.Counts.{Made, Counts}
-use Rattle.babel_capture.specs.Findings.{is_in_turn}
-use Rattle.babel_capture.specs.Gathering.{AreMade, AreTaken, BlockNeedsMemory, Gathering, IsGathered, NotedIs, with_taken}
+use Rattle.babel_capture.specs.Gathering.{AreMade, AreTaken, BlockNeedsMemory, Gathering, IsGathered, with_taken}
 use Rattle.babel_capture.specs.Lengths.{block_len}
-use Rattle.babel_capture.specs.Reading.{Account, EachHasEnd, Progress, LeadTo, BlockFails, HeaderFails, NeedsMemory, NeedsMemoryAt, StopsAt, Stops}
+use Rattle.babel_capture.specs.Reading.{Account, Progress, LeadTo, BlockFails, HeaderFails, NeedsMemory, NeedsMemoryAt, StopsAt, Stops}
 use Rattle.babel_capture.specs.Tallies.{Senders, senders_of}
-use Rattle.babel_capture.specs.PacketEnds.{AreEnds, is_packet, time_told}
-use Rattle.babel_capture.proofs.EndLaws.{ends-after, ends-gone, noted, noted-each}
+use Rattle.babel_capture.specs.PacketEnds.{AreEnds}
+use Rattle.babel_capture.specs.Sinking.{AreTold, GatherMore, IsTold, LeadMore, Sinks}
+use Rattle.babel_capture.proofs.EndLaws.{ends-after, ends-gone, noted_told}
 use Rattle.babel_capture.proofs.NumberLaws.{rest_is}
 use Rattle.babel_capture.specs.Window.{Extent}
 
@@ -84,25 +83,21 @@ lead-none limit progress context place gathered names dump ends = record {
   names = names;
 }
 
-pub lead-push : (account : Account) (read block : List ℕ) (old new : Progress) (content : Content) (note : Noted) → IsBlock old.context old.at block
+pub lead-push : (block : List ℕ) (old new : Progress) (content : Content) (told : Option Record) (more : List Made) → IsBlock old.context old.at block
     → block_said old.context old.at block ≡ Ok content
-    → new.context ≡ context_after old.context content → new.at ≡ old.at + length block
-    → ((taken : List ℕ) (before : List Sighting) → IsGathered before (with_taken taken old.gathering)
-    → IsGathered (before ++ sightings_in (old.gathering.report.packets + 1) old.at content) (with_taken taken new.gathering))
+    → new.context ≡ context_after old.context content → new.at ≡ old.at + length block → AreTold told more
+    → GatherMore old.gathering new.gathering (sightings_in (old.gathering.report.packets + 1) old.at content) more
     → new.gathering.names ≡ old.gathering.names ++ names_in content → new.gathering.wanted ≡ old.gathering.wanted
-    → NotedIs new.gathering.wanted content note
-    → new.ends ≡ noted (is_packet content && is_in_turn new.gathering.wanted)
-    (record { end = length new.gathering.dump; number = new.gathering.report.packets; time = time_told content; origin = note.origin; missed = note.missed }) old.ends
-    → LeadTo account read old → LeadTo account (read ++ block) new
-lead-push account read block old new content note is_block said context place gathers names wanted added ends lead =
+    → new.ends ≡ noted_told new.gathering.wanted (length new.gathering.dump) told old.ends → LeadMore old new block more
+lead-push block old new content told more is_block said context place is_told gathers names wanted ends account read lead =
     let b : BlockAt = record { at = old.at; octets = block; content = content } in
     let count : old.gathering.report.packets ≡ length (sightings_of lead.blocks) = packets-are (sightings_of lead.blocks) (with_taken account.taken old.gathering) lead.gathered in
     let number : old.gathering.report.packets + 1 ≡ 0 + length (sightings_of lead.blocks) + 1 = omega (arith, count) in
-    let gathered = gathers account.taken (sightings_of lead.blocks) lead.gathered in
-    let sightings = sightings_of lead.blocks ++ sightings_in (old.gathering.report.packets + 1) old.at content in
-    let same : sightings ≡ sightings_of (lead.blocks ++ b ∷ []) =
+    let both = gathers account.taken (sightings_of lead.blocks) lead.gathered in
+    let gathered = both.0 in
+    let same : sightings_of lead.blocks ++ sightings_in (old.gathering.report.packets + 1) old.at content ≡ sightings_of (lead.blocks ++ b ∷ []) =
     ap (λ (n : ℕ). sightings_of lead.blocks ++ sightings_in n old.at content) number ∙ sym (sightings-push 0 lead.blocks b) in
-    record {
+    (record {
       blocks = lead.blocks ++ b ∷ [];
       whole = ap (λ (t : List ℕ). t ++ block) lead.whole ∙ sym (octets-push lead.blocks b);
       are_blocks = blocks-push (start account.limit) 0 lead.blocks b lead.are_blocks (omega (arith, lead.place, ap length lead.whole))
@@ -119,23 +114,10 @@ lead-push account read block old new content note is_block said context place ga
         senders = gathered.senders;
       };
       ends = subst (AreEnds new.gathering.wanted account.taken gathered.made) (sym ends)
-          (ends-after new.gathering.wanted account.taken new.gathering.dump (old.gathering.report.packets + 1) new.gathering.report.packets old.at content note
-          (sightings_of lead.blocks) lead.gathered.made gathered.made old.ends (omega (arith, count)) (packets-are sightings (with_taken account.taken new.gathering) gathered)
-          (subst (λ (w : Wanted). AreMade w (sightings_of lead.blocks) lead.gathered.made) (sym wanted) lead.gathered.taken.are_made) gathered.taken.are_made
-          added gathered.dump
+          (ends-after new.gathering.wanted account.taken new.gathering.dump lead.gathered.made more gathered.made told old.ends is_told both.1 gathered.dump
           (subst (λ (w : Wanted). AreEnds w account.taken lead.gathered.made old.ends) (sym wanted) lead.ends));
       names = names ∙ ap (λ (ns : List (List ℕ)). ns ++ names_in content) lead.names ∙ sym (names-push lead.blocks b);
-    }
-
--- and in turn each packet that is read has an end
-pub turns-on : (a b c : Progress) → b.gathering.wanted ≡ a.gathering.wanted → EachHasEnd a b → EachHasEnd b c → EachHasEnd a c
-turns-on a b c wanted one two in_turn =
-    omega (arith, one in_turn, two (subst (λ (w : Wanted). IsTrue (is_in_turn w)) (sym wanted) in_turn))
-
-pub turns-push : (old new : Progress) (content : Content) (end : PacketEnd) → new.ends ≡ noted (is_packet content && is_in_turn old.gathering.wanted) end old.ends
-    → NotedIs old.gathering.wanted content (record { origin = end.origin; missed = end.missed }) → new.gathering.report.packets ≡ old.gathering.report.packets + (if is_packet content then 1 else 0) → EachHasEnd old new
-turns-push old new content end ends is counted in_turn =
-    omega (arith, counted, ap length ends, noted-each old.gathering.wanted content end old.ends is in_turn)
+    }, both.1)
 
 -- ---- what stops
 
@@ -192,10 +174,43 @@ pub taken-more : (before : Before) (at used : ℕ) (octets block : List ℕ) →
 taken-more before at used octets block begins =
     ap (λ (t : List ℕ). take used octets ++ t) (begins.front ∙ ap (take (length block)) (rest_is used octets)) ∙ sym (take-add used (length block) octets)
 
-pub lead-more : (account : Account) (read : List ℕ) (before : Before) (at used : ℕ) (octets block : List ℕ) (new : Progress) → BeginsBlock before at (rest_of used octets) block
-    → LeadTo account ((read ++ take used octets) ++ block) new → LeadTo account (read ++ take (used + length block) octets) new
-lead-more account read before at used octets block new begins lead =
-    subst (λ (t : List ℕ). LeadTo account t new) (append_assoc read (take used octets) block ∙ ap (λ (t : List ℕ). read ++ t) (taken-more before at used octets block begins)) lead
+-- what comes after one another
+pub sinks-both : {S : Type 0} (has : S → S → List Made → Type 0) (old next new : S) (P Q R : List Made → Type 0) → ((one two : List Made) → P one → Q two → R (one ++ two)) → Sinks has old next P
+    → Sinks has next new Q → Sinks has old new R
+sinks-both has old next new P Q R joins one two = record {
+  more = one.more ++ two.more;
+  took = λ start made has_so. subst (has start new) (append_assoc made one.more two.more) (two.took start (made ++ one.more) (one.took start made has_so));
+  are_read = joins one.more two.more one.are_read two.are_read;
+}
+
+-- where there are no packets
+pub sinks-none : {S : Type 0} (has : S → S → List Made → Type 0) (sink : S) (P : List Made → Type 0) → P [] → Sinks has sink sink P
+sinks-none has sink P holds = record {
+  more = [];
+  took = λ start made has_so. subst (has start sink) (sym (append-nil made)) has_so;
+  are_read = holds;
+}
+
+-- or one, which it was told
+pub sinks-told : {S : Type 0} (has : S → S → List Made → Type 0) (old new : S) (P : List Made → Type 0) (told : Record) (more : List Made) → AreTold (Some told) more
+    → ((start : S) (made : List Made) (one : Made) → IsTold one told → has start old made → has start new (made ++ one ∷ [])) → P more → Sinks has old new P
+sinks-told has old new P told more (one, is_one, is_told) took holds = record {
+  more = more;
+  took = λ start made has_so. subst (λ (m : List Made). has start new (made ++ m)) (sym is_one) (took start made one is_told has_so);
+  are_read = holds;
+}
+
+pub lead-none-more : (progress : Progress) → LeadMore progress progress [] []
+lead-none-more progress account read lead =
+    subst (λ (t : List ℕ). (now : LeadTo account t progress) × (now.gathered.made ≡ lead.gathered.made ++ [])) (sym (append-nil read)) (lead, sym (append-nil lead.gathered.made))
+
+pub lead-both : (old next new : Progress) (front back octets : List ℕ) → front ++ back ≡ octets → (one two : List Made) → LeadMore old next front one → LeadMore next new back two
+    → LeadMore old new octets (one ++ two)
+lead-both old next new front back octets whole one two goes goes_on account read lead =
+    let first = goes account read lead in
+    let second = goes_on account (read ++ front) first.0 in
+    subst (λ (t : List ℕ). (now : LeadTo account t new) × (now.gathered.made ≡ lead.gathered.made ++ (one ++ two))) (append_assoc read front back ∙ ap (λ (t : List ℕ). read ++ t) whole)
+    (second.0, second.1 ∙ ap (λ (m : List Made). m ++ two) first.1 ∙ append_assoc lead.gathered.made one two)
 
 pub header-stops : (account : Account) (wanted : Wanted) (read octets : List ℕ) (used : ℕ) (now : Progress) (fault : Fault) → now.gathering.wanted ≡ wanted
     → HeaderFails now.context now.at (rest_of used octets) fault

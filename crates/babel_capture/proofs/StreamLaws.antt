@@ -11,9 +11,12 @@ use Rattle.babel_capture.specs.Context.{Before}
 use Rattle.babel_capture.specs.Gathering.{with_taken}
 use Rattle.babel_capture.specs.Lengths.{header_len, block_len}
 use Rattle.babel_capture.specs.Reading.{Account, Progress, LeadTo, HasStarted, HasTaken, IsPending, NeedsMemory, Stops, StopsAt, without_dump}
+use Rattle.babel_capture.specs.Counts.{Made}
+use Rattle.babel_capture.specs.Sinking.{FeedMore, LeadMore, Sinks}
 use Rattle.babel_capture.specs.Tallies.{Senders, senders_of}
 use Rattle.babel_capture.proofs.EndLaws.{ends-gone}
 use Rattle.babel_capture.proofs.OneCapture.{some_header}
+use Rattle.babel_capture.proofs.ReadingLaws.{sinks-none}
 use Rattle.babel_capture.specs.Window.{Extent}
 
 -- ---- what is pending
@@ -61,8 +64,8 @@ module _ (account : Account) (old : Progress) (pending fed piece : List ℕ) (to
   size-now = omega (arith, taken.kept.1, length-append taken.rest piece)
 
   end-more : (new : Progress) → new ≡ record old { passed = old.passed + length piece } → length pending + (old.passed + length piece) ≤ old.context.limit - old.at
-      → HasTaken account new pending (fed ++ piece)
-  end-more new is few = subst (λ (p : Progress). HasTaken account p pending (fed ++ piece)) (sym is) (record {
+      → (now : HasTaken account new pending (fed ++ piece)) × (now.leads.gathered.made ≡ taken.leads.gathered.made ++ [])
+  end-more new is few = subst (λ (p : Progress). (now : HasTaken account p pending (fed ++ piece)) × (now.leads.gathered.made ≡ taken.leads.gathered.made ++ [])) (sym is) (record {
     read = taken.read;
     rest = taken.rest ++ piece;
     whole = whole-now;
@@ -78,7 +81,7 @@ module _ (account : Account) (old : Progress) (pending fed piece : List ℕ) (to
     };
     partial = inr (inr (end-now, omega (arith, few, size-now)));
     kept = (inr (end-now, told), size-now);
-  })
+  }, sym (append-nil taken.leads.gathered.made))
 
   end-stops : (fault : Fault) → fault ≡ faults.TooLong old.at → old.context.limit - old.at < length pending + (old.passed + length piece)
       → Stops account.limit old.gathering.wanted (fed ++ piece) fault
@@ -95,17 +98,27 @@ module _ (account : Account) (old : Progress) (pending fed piece : List ℕ) (to
         (taken.leads.place ∙ ap length taken.leads.whole) (end-now, omega (arith, past, size-now), told_so))));
   }
 
-pub taken-next : (account : Account) (fed piece pending all left : List ℕ) (used : ℕ) (old new : Progress) → ¬ IsEnd old.context old.at pending → new.passed ≡ old.passed → all ≡ pending ++ piece → left ≡ drop used all
-    → ((account : Account) (read : List ℕ) → LeadTo account read old → LeadTo account (read ++ take used all) new) → IsPartial new.context new.at (drop used all)
-    → HasTaken account old pending fed → HasTaken account new left (fed ++ piece)
-taken-next account fed piece pending all left used old new not passed is_all is_left took partial taken = record {
-  read = taken.read ++ take used all;
-  rest = left;
-  whole = ap (λ (t : List ℕ). t ++ piece) (fed-is account old pending fed not taken) ∙ append_assoc taken.read pending piece ∙ ap (λ (t : List ℕ). taken.read ++ t) (sym is_all ∙ sym (take-append-drop used all))
-      ∙ sym (append_assoc taken.read (take used all) (drop used all)) ∙ ap (λ (t : List ℕ). (taken.read ++ take used all) ++ t) (sym is_left);
-  leads = took account taken.read taken.leads;
-  partial = subst (λ (t : List ℕ). IsPartial new.context new.at t) (sym is_left) partial;
-  kept = (inl refl, (let same : pending ≡ taken.rest = kept-all old taken.rest pending taken.kept not in omega (arith, passed, taken.kept.1, ap length same)));
+pub feed-next : (piece pending all left : List ℕ) (used : ℕ) (old new : Progress) (more : List Made) → ¬ IsEnd old.context old.at pending → new.passed ≡ old.passed → all ≡ pending ++ piece → left ≡ drop used all
+    → LeadMore old new (take used all) more → IsPartial new.context new.at (drop used all) → FeedMore old pending new left piece more
+feed-next piece pending all left used old new more not passed is_all is_left took partial account fed taken =
+    let led = took account taken.read taken.leads in
+    (record {
+      read = taken.read ++ take used all;
+      rest = left;
+      whole = ap (λ (t : List ℕ). t ++ piece) (fed-is account old pending fed not taken) ∙ append_assoc taken.read pending piece ∙ ap (λ (t : List ℕ). taken.read ++ t) (sym is_all ∙ sym (take-append-drop used all))
+          ∙ sym (append_assoc taken.read (take used all) (drop used all)) ∙ ap (λ (t : List ℕ). (taken.read ++ take used all) ++ t) (sym is_left);
+      leads = led.0;
+      partial = subst (λ (t : List ℕ). IsPartial new.context new.at t) (sym is_left) partial;
+      kept = (inl refl, (let same : pending ≡ taken.rest = kept-all old taken.rest pending taken.kept not in omega (arith, passed, taken.kept.1, ap length same)));
+    }, led.1)
+
+pub sinks-next : {S : Type 0} (has : S → S → List Made → Type 0) (before after : S) (piece pending all left : List ℕ) (used : ℕ) (old new : Progress) → ¬ IsEnd old.context old.at pending → new.passed ≡ old.passed
+    → all ≡ pending ++ piece → left ≡ drop used all → Sinks has before after (LeadMore old new (take used all)) → IsPartial new.context new.at (drop used all)
+    → Sinks has before after (FeedMore old pending new left piece)
+sinks-next has before after piece pending all left used old new not passed is_all is_left sinks partial = record {
+  more = sinks.more;
+  took = sinks.took;
+  are_read = feed-next piece pending all left used old new sinks.more not passed is_all is_left sinks.are_read partial;
 }
 
 -- ---- memory
@@ -167,6 +180,11 @@ stops-more limit wanted octets more fault stops = record {
 abbrev pub Takes : Progress → List ℕ → Progress → List ℕ → List ℕ → Type 0
 Takes old before new after piece = (account : Account) (fed : List ℕ) → HasTaken account old before fed → HasTaken account new after (fed ++ piece)
 
+-- they do, where a sink takes their packets
+pub takes-sunk : {S : Type 0} (has : S → S → List Made → Type 0) (before after : S) (old new : Progress) (pending left piece : List ℕ) → Sinks has before after (FeedMore old pending new left piece)
+    → Takes old pending new left piece
+takes-sunk has before after old new pending left piece sinks account fed taken = (sinks.are_read account fed taken).0
+
 abbrev pub Fails : Progress → List ℕ → List ℕ → Fault → Type 0
 Fails old before piece fault = (fault ≡ faults.Memory) ⊎ ((account : Account) (fed : List ℕ) → HasTaken account old before fed → Stops account.limit old.gathering.wanted (fed ++ piece) fault)
 
@@ -180,12 +198,13 @@ fails-here old pending piece all fault not is (inr stops) = inr (λ account fed 
     (stops account taken.read taken.leads))
 
 -- octets after the end are passed over, or go past the limit
-pub passed-over : {A : Type 0} (r : Result A Fault) (old new : Progress) (pending kept piece : List ℕ) → IsEnd old.context old.at pending → kept ≡ pending
+pub passed-over : {A S : Type 0} (has : S → S → List Made → Type 0) (sink : S) (r : Result A Fault) (old new : Progress) (pending kept piece : List ℕ) → IsEnd old.context old.at pending → kept ≡ pending
     → OnOk r ((new ≡ record old { passed = old.passed + length piece }) × (length kept + (old.passed + length piece) ≤ old.context.limit - old.at))
-    → OnOk r (Takes old pending new pending piece)
-passed-over (Ok value) old new pending kept piece told same (is, few) =
-    λ account fed taken. end-more account old pending fed piece told taken new is (subst (λ (t : List ℕ). length t + (old.passed + length piece) ≤ old.context.limit - old.at) same few)
-passed-over (Err fault) old new pending kept piece told same is = tt
+    → OnOk r (Sinks has sink sink (FeedMore old pending new pending piece))
+passed-over has sink (Ok value) old new pending kept piece told same (is, few) =
+    sinks-none has sink (FeedMore old pending new pending piece)
+    (λ account fed taken. end-more account old pending fed piece told taken new is (subst (λ (t : List ℕ). length t + (old.passed + length piece) ≤ old.context.limit - old.at) same few))
+passed-over has sink (Err fault) old new pending kept piece told same is = tt
 
 pub not-passed : {A : Type 0} (r : Result A Fault) (old : Progress) (pending kept piece : List ℕ) → IsEnd old.context old.at pending → kept ≡ pending
     → IfErr r (λ fault. (fault ≡ faults.TooLong old.at) × (old.context.limit - old.at < length kept + (old.passed + length piece)))
@@ -198,8 +217,13 @@ module _ (front back piece : List ℕ) (whole : front ++ back ≡ piece) where
   behind : (fed : List ℕ) → (fed ++ front) ++ back ≡ fed ++ piece
   behind fed = append_assoc fed front back ∙ ap (λ (t : List ℕ). fed ++ t) whole
 
-  pub takes-both : (old next new : Progress) (before between after : List ℕ) → Takes old before next between front → Takes next between new after back → Takes old before new after piece
-  takes-both old next new before between after one two account fed taken = subst (λ (t : List ℕ). HasTaken account new after t) (behind fed) (two account (fed ++ front) (one account fed taken))
+  pub feed-both : (old next new : Progress) (before between after : List ℕ) (one two : List Made) → FeedMore old before next between front one → FeedMore next between new after back two
+      → FeedMore old before new after piece (one ++ two)
+  feed-both old next new before between after one two goes goes_on account fed taken =
+      let first = goes account fed taken in
+      let second = goes_on account (fed ++ front) first.0 in
+      subst (λ (t : List ℕ). (now : HasTaken account new after t) × (now.leads.gathered.made ≡ taken.leads.gathered.made ++ (one ++ two))) (behind fed)
+      (second.0, second.1 ∙ ap (λ (m : List Made). m ++ two) first.1 ∙ append_assoc taken.leads.gathered.made one two)
 
   pub fails-first : (old : Progress) (before : List ℕ) (fault : Fault) → Fails old before front fault → Fails old before piece fault
   fails-first old before fault (inl memory) = inl memory
@@ -361,3 +385,12 @@ pub failed-next : (state : State) (fault : Fault) (piece : List ℕ) → state.f
 failed-next state fault piece is (inl memory) not fed more read = absurd (not memory)
 failed-next state fault piece is (inr stops) not fed more read =
     inl (stops-more state.limit state.progress.gathering.wanted (fed ++ piece) more fault (stops (account_of state []) fed (subst (λ (f : Option Fault). HasGivenTo state [] f fed) is read)))
+
+-- ---- a piece more, without a fault
+
+pub given-more : {S : Type 0} (has : S → S → List Made → Type 0) (before after : S) (old new : State) (piece : List ℕ) → old.fault ≡ None → new.fault ≡ None → new.limit ≡ old.limit
+    → Sinks has before after (FeedMore old.progress old.pending new.progress new.pending piece) → (taken fed : List ℕ) → HasGiven old taken fed → HasGiven new taken (fed ++ piece)
+given-more has before after old new piece sound sound_too limit sinks taken fed given =
+    subst (λ (f : Option Fault). HasGivenTo new taken f (fed ++ piece)) (sym sound_too)
+    (subst (λ (l : Extent). HasTaken (record { limit = l; taken = taken }) new.progress new.pending (fed ++ piece)) (sym limit)
+    (sinks.are_read (account_of old taken) fed (subst (λ (f : Option Fault). HasGivenTo old taken f fed) sound given)).0)

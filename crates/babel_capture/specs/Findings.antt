@@ -1,6 +1,6 @@
 -- What is made of the packets of a capture. It is this project's own, but for what a Babel packet
 -- is: RFC 8966, 4.2.
-use Rattle.std.specs.Prelude.{◌≡◌, ◌≢◌, ℕ, ◌<◌, Bool, true, false, List, length, slice_index}
+use Rattle.std.specs.Prelude.{◌≡◌, ◌≢◌, ℕ, ◌<◌, Bool, List, length, slice_index}
 use Rattle.std.specs.Prelude.{Option, Some, None, ◌⊎◌, nat_lt}
 use Rattle.babel_prefix.specs.Address.{Address}
 use Rattle.babel_tlv.specs.Framing.{framed}
@@ -51,13 +51,6 @@ IsWanted wanteds.Each sender place = Unit {0}
 IsWanted (wanteds.Sender wanted None ends) sender place = sender ≡ wanted
 IsWanted (wanteds.Sender wanted (Some there) ends) sender place = (sender ≡ wanted) × (place ≡ there)
 IsWanted (wanteds.InTurn wanted there) sender place = IsOrAny wanted sender × IsOrAny there place
-
--- packets are told as they come
-abbrev pub is_in_turn : Wanted → Bool
-is_in_turn wanteds.Everyone = false
-is_in_turn wanteds.Each = false
-is_in_turn (wanteds.Sender sender place ends) = false
-is_in_turn (wanteds.InTurn sender place) = true
 
 -- one claim or the other, as this holds or not
 abbrev pub Either : Type 0 → Type 0 → Type 0 → Type 0

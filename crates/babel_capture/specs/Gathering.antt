@@ -1,13 +1,14 @@
 -- What is gathered of the packets of a capture.
 use Rattle.std.specs.Prelude.{◌≡◌, ◌≤◌, ℕ, List, [], ◌∷◌, ◌++◌, ◌⊎◌, length, slice_get}
-use Rattle.std.specs.Prelude.{Bool, IsTrue, Option, None, Some, true, false}
+use Rattle.std.specs.Prelude.{Bool, Option, None, Some}
 use Rattle.std.specs.List.{flat_map}
 use Rattle.std.specs.Option.{unwrap_or}
 use Rattle.babel_capture.specs.declared.fault.Fault.{Fault}
 use Rattle.babel_capture.specs.declared.fault.Fault.TheVariants as faults
 use Rattle.babel_capture.specs.declared.lack.Lack.{Lack}
-use Rattle.babel_capture.specs.declared.noted.Missed.{Missed}
-use Rattle.babel_capture.specs.declared.noted.Noted.{Noted}
+use Rattle.babel_capture.specs.declared.missed.Missed.{Missed}
+use Rattle.babel_capture.specs.declared.sink.BabelPacket.{BabelPacket}
+use Rattle.babel_capture.specs.declared.sink.Record.{Record}
 use Rattle.babel_capture.specs.declared.tallies.Origin.{Origin}
 use Rattle.babel_capture.specs.declared.wanted.Wanted.{Wanted}
 use Rattle.babel_capture.specs.declared.wanted.Wanted.TheVariants as wanteds
@@ -17,7 +18,6 @@ use Rattle.babel_capture.specs.Contents.{skips, nothing}
 use Rattle.babel_capture.specs.Counts.{Counts, Made, counts_of}
 use Rattle.babel_capture.specs.Dumps.{Dumps, dumps_of}
 use Rattle.babel_capture.specs.Findings.{Found, passed, untold, left, refused, lacked, found, Finds}
-use Rattle.babel_capture.specs.Findings.{is_in_turn}
 use Rattle.babel_capture.specs.Lack.{lack_fault}
 use Rattle.babel_capture.specs.Tallies.{CountNeedsMemory, IsOneTooMany, Senders, senders_of}
 use Rattle.babel_capture.specs.Tallies.{tally_of}
@@ -63,45 +63,35 @@ origin_found (refused lack) = None
 origin_found (lacked place sender lack) = None
 origin_found (found place sender packet has_trailer) = Some (record { place = place; sender = sender })
 
--- the one dump that is wanted, of a sender or in turn: packets, end to end
+-- the one dump that is wanted, of a sender: packets, end to end
 abbrev pub dump_of : Wanted → List Made → List ℕ
 dump_of wanteds.Everyone made = []
 dump_of wanteds.Each made = []
 dump_of (wanteds.Sender sender place ends) made = flat_map (λ one. octets_found one.what) made
-dump_of (wanteds.InTurn sender place) made = flat_map (λ one. octets_found one.what) made
+dump_of (wanteds.InTurn sender place) made = []
 
 -- the dump with these octets, if one is wanted
 abbrev pub dump_with : Wanted → List ℕ → List ℕ → List ℕ
 dump_with wanteds.Everyone dump octets = dump
 dump_with wanteds.Each dump octets = dump
 dump_with (wanteds.Sender sender place ends) dump octets = dump ++ octets
-dump_with (wanteds.InTurn sender place) dump octets = dump ++ octets
-
--- whose packet is added to it, where its end is noted
-abbrev pub origin_noted : Wanted → Found → Option Origin
-origin_noted wanteds.Everyone what = None
-origin_noted wanteds.Each what = None
-origin_noted (wanteds.Sender sender place true) what = origin_found what
-origin_noted (wanteds.Sender sender place false) what = None
-origin_noted (wanteds.InTurn sender place) what = origin_found what
+dump_with (wanteds.InTurn sender place) dump octets = dump
 
 -- the datagram that is missed
 abbrev pub missed_in : Found → Option Missed
 missed_in (left reason (Some origin)) = Some (record { origin = origin; reason = reason })
 missed_in what = None
 
--- what is noted of a packet
-abbrev pub nothing_noted : Noted
-nothing_noted = record { origin = None; missed = None }
+-- where a Babel packet is told of a block, it was found there
+abbrev pub HoldsFound : Wanted → Content → Option BabelPacket → Type 0
+HoldsFound wanted content None = Unit {0}
+HoldsFound wanted (holds packet) (Some told) =
+    (has_trailer : Bool) × Finds wanted (sight_in packet)
+    (found told.origin.place told.origin.sender told.octets.now has_trailer)
+HoldsFound wanted content (Some told) = ⊥
 
-abbrev pub noted_of : Wanted → Found → Noted
-noted_of wanted what = record { origin = origin_noted wanted what; missed = missed_in what }
-
--- this is noted of what the block says
-abbrev pub NotedIs : Wanted → Content → Noted → Type 0
-NotedIs wanted (holds packet) noted =
-    (what : Found) × Finds wanted (sight_in packet) what × (noted ≡ noted_of wanted what)
-NotedIs wanted content noted = noted ≡ nothing_noted
+abbrev pub HoldsPacket : Wanted → Content → Record → Type 0
+HoldsPacket wanted content told = HoldsFound wanted content told.packet
 
 -- what was gathered so far, and the names of the interfaces, which are empty where they have none
 pub record Gathering : Type 0 where
@@ -151,10 +141,11 @@ PacketNeedsMemory wanteds.Everyone senders origin packet has_trailer =
     CountNeedsMemory (tally_of senders origin) packet has_trailer
 PacketNeedsMemory wanteds.Each senders origin packet has_trailer = Unit {0}
 PacketNeedsMemory (wanteds.Sender sender place ends) senders origin packet has_trailer = Unit {0}
-PacketNeedsMemory (wanteds.InTurn sender place) senders origin packet has_trailer = Unit {0}
+PacketNeedsMemory (wanteds.InTurn sender place) senders origin packet has_trailer =
+    CountNeedsMemory (tally_of senders origin) packet has_trailer
 
 -- and for a block: it describes an interface, or holds such a packet, or what a dump lacks, of
--- each, or is told in turn
+-- each
 abbrev pub BlockNeedsMemory : Wanted → Senders → Content → Type 0
 BlockNeedsMemory wanted senders (file order interface) = Unit {0}
 BlockNeedsMemory wanted senders (section order) = ⊥
@@ -165,6 +156,5 @@ BlockNeedsMemory wanted senders (holds packet) =
     × PacketNeedsMemory wanted senders origin octets has_trailer)
     ⊎ ((origin : Origin) × (lack : Lack)
     × Finds wanted (sight_in packet) (lacked origin.place origin.sender lack))
-    ⊎ IsTrue (is_in_turn wanted)
-BlockNeedsMemory wanted senders (skips packet) = IsTrue (is_in_turn wanted)
+BlockNeedsMemory wanted senders (skips packet) = ⊥
 BlockNeedsMemory wanted senders nothing = ⊥

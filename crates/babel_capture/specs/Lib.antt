@@ -37,6 +37,7 @@ pub mod Reading
 pub mod Sections
 pub mod Senders
 pub mod Sight
+pub mod Sinking
 pub mod Tallies
 pub mod Times
 pub mod Timing

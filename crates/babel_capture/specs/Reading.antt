@@ -5,9 +5,10 @@ use Rattle.babel_capture.specs.declared.fault.Fault.{Fault}
 use Rattle.babel_capture.specs.declared.fault.Fault.TheVariants as faults
 use Rattle.babel_capture.specs.declared.layout.Layout.{Layout}
 use Rattle.babel_capture.specs.declared.layout.Layout.TheVariants as layouts
-use Rattle.babel_capture.specs.declared.noted.Missed.{Missed}
 use Rattle.babel_capture.specs.declared.packet_end.PacketEnd.{PacketEnd}
-use Rattle.babel_capture.specs.declared.tallies.Origin.{Origin}
+use Rattle.babel_capture.specs.declared.sink.BabelPacket.{BabelPacket}
+use Rattle.babel_capture.specs.declared.sink.Record.{Record}
+use Rattle.std.specs.Option.{option_map}
 use Rattle.babel_capture.specs.declared.wanted.Wanted.{Wanted}
 use Rattle.babel_capture.specs.Blocks.{BlockAt, HasHeader, IsEnd, IsPartial, header_of, BeginsBlock}
 use Rattle.babel_capture.specs.Blocks.{AreBlocks, start, context_behind, names_of, octets_of}
@@ -15,11 +16,10 @@ use Rattle.babel_capture.specs.Blocks.{sightings_of}
 use Rattle.babel_capture.specs.Contents.{Content, block_said}
 use Rattle.babel_capture.specs.Context.{Before}
 use Rattle.babel_capture.specs.Counts.{Made}
-use Rattle.babel_capture.specs.Findings.{is_in_turn}
 use Rattle.babel_capture.specs.Gathering.{AreTaken, BlockNeedsMemory, Gathering, IsGathered}
 use Rattle.babel_capture.specs.Gathering.{IsRefused, with_taken}
 use Rattle.babel_capture.specs.Lengths.{block_len}
-use Rattle.babel_capture.specs.PacketEnds.{AreEnds, is_noted, is_packet, time_told}
+use Rattle.babel_capture.specs.PacketEnds.{AreEnds, are_noted, end_at}
 use Rattle.babel_capture.specs.Tallies.{Senders, senders_of}
 use Rattle.babel_capture.specs.Window.{Extent}
 
@@ -38,24 +38,14 @@ abbrev pub without_dump : Progress → Progress
 without_dump progress =
     record progress { gathering = record progress.gathering { dump = [] }; ends = [] }
 
--- its ends, with that of a block that adds a packet of this origin to the dump, or none, and of
--- which this datagram is missed
-abbrev pub with_end : Progress → Content → Option Origin → Option Missed → List PacketEnd
-with_end progress content origin missed =
-    if is_noted (is_packet content && is_in_turn progress.gathering.wanted) origin
-    then progress.ends ++ record {
-      end = length progress.gathering.dump;
-      number = progress.gathering.report.packets;
-      time = time_told content;
-      origin = origin;
-      missed = missed;
-    } ∷ [] else progress.ends
-
--- in turn, each packet of the capture that was read in between has an end
-abbrev pub EachHasEnd : (old new : Progress) → Type 0
-EachHasEnd old new = IsTrue (is_in_turn old.gathering.wanted)
-    → length new.ends + old.gathering.report.packets
-    ≡ length old.ends + new.gathering.report.packets
+-- its ends, with that of the packet that was added to the dump last, if they are noted
+abbrev pub with_end : Progress → Record → List PacketEnd
+with_end progress told =
+    if are_noted progress.gathering.wanted
+    then progress.ends
+    ++ end_at (length progress.gathering.dump) told.number told.time
+    (option_map (λ (packet : BabelPacket). packet.origin) told.packet)
+    else progress.ends
 
 -- how much is read, and what was taken out of the dump until now
 pub record Account : Type 0 where

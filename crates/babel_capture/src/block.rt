@@ -9,7 +9,6 @@ ghost use Rattle.babel_capture.specs.Contents.{packet_said, packet_stamp, pcapng
 ghost use Rattle.babel_capture.specs.Contents.{record_said, record_stamp, section_said};
 ghost use Rattle.babel_capture.specs.Contents.{simple_said, typed_said, versioned_said};
 ghost use Rattle.babel_capture.specs.Times.{time_asked, time_in};
-ghost use Rattle.babel_capture.specs.PacketEnds.{is_packet, time_told};
 ghost use Rattle.babel_capture.specs.Sight.{sight_of};
 
 use crate::clock::{Clock, Resolution, Stamp};
@@ -130,25 +129,6 @@ pub enum Block<'a> {
     Skipped(Packet<'a>),
     /// A block of another type, which is ignored.
     Other,
-}
-
-impl Block<'_> {
-    /// Whether it says a captured packet, skipped or not.
-    pub fn is_packet(&self) -> bool
-        ensures { result ≡ is_packet (content_of self.now) }
-    {
-        matches!(self, Block::Packet(_) | Block::Skipped(_))
-    }
-
-    /// When the packet came that it says, where it says one that is not skipped.
-    pub fn time(&self) -> Option<Time>
-        ensures { result ≡ time_told (content_of self.now) }
-    {
-        match self {
-            Block::Packet(packet) => packet.time(),
-            _ => None,
-        }
-    }
 }
 
 /// A block of the pcapng file that says its length again at its end.

@@ -3,13 +3,15 @@ ghost use Rattle.std.specs.Prelude.{IfSome, OnOk};
 ghost use Rattle.babel_capture.specs.Capture.{CaptureFault, HasGiven, HasRead, IsRead, IsReadToCut};
 ghost use Rattle.babel_capture.specs.Capture.{moment_read};
 ghost use Rattle.babel_capture.specs.Gathering.{with_taken};
-ghost use Rattle.babel_capture.specs.Reading.{EachHasEnd, NeedsMemory, without_dump};
+ghost use Rattle.babel_capture.specs.Reading.{NeedsMemory, without_dump};
+ghost use Rattle.babel_capture.specs.Sinking.{FeedMore, Sinks};
 ghost use Rattle.babel_capture.specs.Window.{all_times};
 
 use crate::fault::Fault;
 use crate::gathered::Gathered;
 use crate::packet_end::PacketEnd;
 use crate::reader::Reader;
+use crate::sink::Sink;
 use crate::stream::Stream;
 use crate::time::Time;
 use crate::wanted::Wanted;
@@ -80,10 +82,10 @@ impl Capture {
     }
 
     /// Takes the next octets of the capture. A fault is answered as soon as the octets so far have
-    /// it, whatever comes after them; after any fault every later call answers that fault. Of the
-    /// piece only octets of a block that is not whole in it are copied, so that the memory taken
-    /// goes with the largest block.
-    pub fn feed(&mut self, piece: &[u8]) -> Result<(), Fault>
+    /// it, whatever comes after them; after any fault every later call answers that fault. Each
+    /// packet before that is told to the sink, in order. Of the piece only octets of a block that is
+    /// not whole in it are copied, so that the memory taken goes with the largest block.
+    pub fn feed<S: Sink>(&mut self, piece: &[u8], sink: &mut S) -> Result<(), Fault>
         // The reader stands where the octets that it was fed before, and these, lead it, whatever
         // was taken out of its dump.
         ensures fed { (fed : List ℕ) → HasRead self.old fed → HasRead self.new (fed ++ piece.now) }
@@ -111,13 +113,15 @@ impl Capture {
             self.old.progress.gathering.wanted fed piece.now)) }
         ensures stays { IfSome self.old.fault (λ fault. result ≡ Err fault) }
 
-        // In turn, each packet of the capture that was read has an end.
-        ensures turns { OnOk result (EachHasEnd self.old.progress self.new.progress) }
+        // The sink took the packets that are read besides.
+        ensures sunk { OnOk result (Sinks S.has sink.old sink.new
+            (FeedMore self.old.progress self.old.pending self.new.progress self.new.pending
+            piece.now)) }
     {
         if let Some(fault) = self.fault {
             return Err(fault);
         }
-        match self.stream.take(piece) {
+        match self.stream.take(piece, sink) {
             Ok(()) => Ok(()),
             Err(fault) => {
                 self.fault = Some(fault);
@@ -134,8 +138,7 @@ impl Capture {
     }
 
     /// Where each packet of the dump ends, of those that were not taken out, and which packet of
-    /// the capture it came from, where that is noted: for one sender where `Wanted` asks for it,
-    /// and in turn.
+    /// the capture it came from, where `Wanted` asks for it.
     pub fn ends(&self) -> &[PacketEnd]
         ensures { result.now ≡ self.now.progress.ends }
     {

@@ -1,15 +1,17 @@
 ghost use Rattle.std.specs.Prelude.{◌≡◌, ℕ, ◌+◌, ◌^◌, ◌<◌, ◌≤◌, ◌++◌, ◌∷◌, [], ◌⊎◌, List, length};
-ghost use Rattle.std.specs.Prelude.{OnOk, IfOk, IfErr, None, Some, if◌then◌else◌};
+ghost use Rattle.std.specs.Prelude.{OnOk, IfOk, IfErr, IfSome, None, Some};
 ghost use Rattle.std.specs.Map.{keys_of};
 ghost use Rattle.babel_capture.specs.Blocks.{Sighting, sighting_of, sightings_in};
+ghost use Rattle.babel_capture.specs.Counts.{Made};
 ghost use Rattle.babel_capture.specs.Contents.{captured_of, content_of, holds, names_in};
-ghost use Rattle.babel_capture.specs.Gathering.{BlockNeedsMemory, IsGathered, IsRefused, NotedIs};
+ghost use Rattle.babel_capture.specs.Gathering.{BlockNeedsMemory, HoldsPacket, IsGathered};
+ghost use Rattle.babel_capture.specs.Gathering.{IsRefused};
 ghost use Rattle.babel_capture.specs.Findings.{found};
 ghost use Rattle.babel_capture.specs.Dumps.{dump_added, dump_at, dumps_with, timed_of};
 ghost use Rattle.babel_capture.specs.Gathering.{PacketNeedsMemory, dump_with, name_of};
-ghost use Rattle.babel_capture.specs.Gathering.{noted_of, nothing_noted, with_taken};
-ghost use Rattle.babel_capture.specs.PacketEnds.{is_packet};
+ghost use Rattle.babel_capture.specs.Gathering.{with_taken};
 ghost use Rattle.babel_capture.specs.Sight.{other};
+ghost use Rattle.babel_capture.specs.Sinking.{AreTold, GatherMore};
 ghost use Rattle.babel_capture.specs.Tallies.{IsOneTooMany, tallied};
 ghost use Rattle.babel_capture.specs.Times.{skipped};
 ghost use Rattle.babel_capture.specs.Updates.{interval_in, updates_in};
@@ -19,9 +21,10 @@ use crate::dumps::{Dumps, LackAt, TimedPacket};
 use crate::fault::Fault;
 use crate::finding::Finding;
 use crate::lack::Lack;
-use crate::noted::Noted;
+use crate::missed::Missed;
 use crate::outside::Outside;
 use crate::report::Report;
+use crate::sink::{BabelPacket, Record};
 use crate::tallies::{Origin, Tallies, Tally};
 use crate::time::Time;
 use crate::updates::{Updates, updates_in};
@@ -158,44 +161,47 @@ impl Gathered {
         self.outside.first()
     }
 
-    /// Takes the packet in the block at this offset: what is noted of it.
-    fn take_packet(&mut self, at: u64, packet: &Packet<'_>) -> Result<Noted, Fault>
+    /// Takes the packet in the block at this offset: what is told of it.
+    fn take_packet<'a>(&mut self, at: u64, packet: &Packet<'a>) -> Result<Record<'a>, Fault>
         requires { self.old.report.packets + 1 < 2 ^ 64 }
         ensures wanted { self.new.wanted ≡ self.old.wanted }
         ensures names { self.new.names ≡ self.old.names }
         ensures report { self.new.report.packets ≤ self.old.report.packets + 1 }
-        ensures ok { OnOk result ((taken : List ℕ) (before : List Sighting)
-            → IsGathered before (with_taken taken self.old)
-            → IsGathered (before ++ sighting_of (self.old.report.packets + 1) at
-            (captured_of packet.now) ∷ []) (with_taken taken self.new)) }
+        ensures ok { IfOk result (λ told. (more : List Made) × AreTold (Some told) more
+            × GatherMore self.old self.new
+            (sighting_of (self.old.report.packets + 1) at (captured_of packet.now) ∷ []) more) }
+        ensures found { IfOk result (λ told. HoldsPacket self.old.wanted
+            (holds (captured_of packet.now)) told) }
         ensures err { IfErr result (λ fault. (fault ≡ Fault.Memory)
             ⊎ IsRefused self.old.wanted self.old.senders at
             (holds (captured_of packet.now)) fault) }
         ensures memory { IfErr result (λ fault. fault ≡ Fault.Memory → BlockNeedsMemory
             self.old.wanted self.old.senders (holds (captured_of packet.now))) }
-        ensures noted { IfOk result (λ noted. NotedIs self.old.wanted
-            (holds (captured_of packet.now)) noted) }
-        ensures counted { OnOk result
-            (self.new.report.packets ≡ self.old.report.packets + 1) }
     {
         let seen = packet.look();
         let section = packet.babel_section(&seen);
         let came = packet.time();
         let told = came;
         self.report.take_time(told);
+        let number = self.report.packets() + 1;
         match self.wanted.finding(&seen) {
             Finding::Passed => {
                 self.outside.pass(&self.wanted, packet, &seen);
                 self.report.count(section, None);
-                Ok(Noted::nothing())
+                Ok(Record::plain(number, packet.time()))
             }
             Finding::Short => {
                 self.report.count_short(section);
-                Ok(Noted::nothing())
+                Ok(Record::plain(number, packet.time()))
             }
             Finding::Left { reason, missed } => {
                 self.report.count(section, Some(reason));
-                Ok(Noted::left(reason, missed))
+                Ok(Record {
+                    number,
+                    time: packet.time(),
+                    packet: None,
+                    missed: Missed::of(reason, missed),
+                })
             }
             Finding::Refused(lack) => Err(lack.fault(at)),
             Finding::Lacking {
@@ -204,7 +210,8 @@ impl Gathered {
                 lack,
             } => {
                 self.report.count(section, None);
-                self.add_lack(Origin { place, sender }, lack)
+                self.add_lack(Origin { place, sender }, lack)?;
+                Ok(Record::plain(number, packet.time()))
             }
             Finding::Packet {
                 place,
@@ -216,63 +223,77 @@ impl Gathered {
                 self.report
                     .count_packet(section, packet.link, updates.interval, has_trailer);
                 let origin = Origin { place, sender };
-                self.add(at, origin, came, octets, &updates, has_trailer)
+                self.add(at, &origin, came, octets, &updates, has_trailer)?;
+                Ok(Record {
+                    number,
+                    time: packet.time(),
+                    packet: Some(BabelPacket { origin, octets }),
+                    missed: None,
+                })
             }
         }
     }
 
-    /// Takes the packet that the block at this offset says, if it says one: what is noted of it.
-    pub fn take_said(&mut self, at: u64, said: &Block<'_>) -> Result<Noted, Fault>
+    /// Takes what the block at this offset says: what is told of its packet, if it says one.
+    pub fn take_said<'a>(
+        &mut self,
+        at: u64,
+        said: &Block<'a>,
+    ) -> Result<Option<Record<'a>>, Fault>
         requires { self.old.report.packets + 1 < 2 ^ 64 }
         ensures wanted { self.new.wanted ≡ self.old.wanted }
         ensures names { OnOk result (self.new.names
             ≡ self.old.names ++ names_in (content_of said.now)) }
         ensures report { self.new.report.packets ≤ self.old.report.packets + 1 }
-        ensures ok { OnOk result ((taken : List ℕ) (before : List Sighting)
-            → IsGathered before (with_taken taken self.old)
-            → IsGathered (before ++ sightings_in (self.old.report.packets + 1) at
-            (content_of said.now)) (with_taken taken self.new)) }
+        ensures ok { IfOk result (λ told. (more : List Made) × AreTold told more
+            × GatherMore self.old self.new
+            (sightings_in (self.old.report.packets + 1) at (content_of said.now)) more) }
+        ensures found { IfOk result (λ told. IfSome told (λ told. HoldsPacket self.old.wanted
+            (content_of said.now) told)) }
         ensures err { IfErr result (λ fault. (fault ≡ Fault.Memory)
             ⊎ IsRefused self.old.wanted self.old.senders at (content_of said.now) fault) }
         ensures memory { IfErr result (λ fault. fault ≡ Fault.Memory → BlockNeedsMemory
             self.old.wanted self.old.senders (content_of said.now)) }
-        ensures noted { IfOk result
-            (λ noted. NotedIs self.old.wanted (content_of said.now) noted) }
-        ensures counted { OnOk result (self.new.report.packets
-            ≡ self.old.report.packets + (if is_packet (content_of said.now) then 1 else 0)) }
     {
         match said {
-            Block::Packet(packet) => self.take_packet(at, packet),
-            Block::Skipped(packet) => {
-                self.skip(packet);
-                Ok(Noted::nothing())
+            Block::Packet(packet) => match self.take_packet(at, packet) {
+                Ok(record) => Ok(Some(record)),
+                Err(fault) => Err(fault),
+            },
+            Block::Skipped(packet) => Ok(Some(self.skip(packet))),
+            Block::File { .. } => {
+                self.add_name(&[])?;
+                Ok(None)
             }
-            Block::File { .. } => self.add_name(&[]),
-            Block::Interface { name, .. } => self.add_name(name),
-            Block::Section(_) | Block::Other => Ok(Noted::nothing()),
+            Block::Interface { name, .. } => {
+                self.add_name(name)?;
+                Ok(None)
+            }
+            Block::Section(_) | Block::Other => Ok(None),
         }
     }
 
     /// Skips a packet: it is one of the capture, and no more.
-    fn skip(&mut self, packet: &Packet<'_>)
+    fn skip<'a>(&mut self, packet: &Packet<'a>) -> Record<'a>
         requires { self.old.report.packets + 1 < 2 ^ 64 }
         ensures others { (self.new.wanted ≡ self.old.wanted) × (self.new.names ≡ self.old.names)
             × (self.new.dump ≡ self.old.dump)
             × (self.new.report.packets ≡ self.old.report.packets + 1) }
-        ensures skipped { (taken : List ℕ) (before : List Sighting) (next : Sighting)
+        ensures nothing { result.packet ≡ None }
+        ensures skipped { (next : Sighting)
             → next.number ≡ self.old.report.packets + 1 → next.what ≡ other → next.came ≡ skipped
-            → IsGathered before (with_taken taken self.old)
-            → IsGathered (before ++ next ∷ []) (with_taken taken self.new) }
+            → (more : List Made) × AreTold (Some result) more
+            × GatherMore self.old self.new (next ∷ []) more }
     {
         self.outside.pass_skipped(&self.wanted, packet);
         self.report.count(None, None);
+        Record::plain(self.report.packets(), None)
     }
 
     /// Keeps the name of an interface, which adds nothing to the dump.
-    fn add_name(&mut self, name: &[u8]) -> Result<Noted, Fault>
+    fn add_name(&mut self, name: &[u8]) -> Result<(), Fault>
         ensures wanted { self.new.wanted ≡ self.old.wanted }
         ensures names { OnOk result (self.new.names ≡ self.old.names ++ name.now ∷ []) }
-        ensures noted { IfOk result (λ noted. noted ≡ nothing_noted) }
         ensures dump { self.new.dump ≡ self.old.dump }
         ensures dumps { self.new.dumps ≡ self.old.dumps }
         ensures report { self.new.report ≡ self.old.report }
@@ -282,14 +303,14 @@ impl Gathered {
         let mut kept = Vec::new(self.alloc);
         kept.extend_from_slice(name)?;
         match self.names.push(kept) {
-            Ok(()) => Ok(Noted::nothing()),
+            Ok(()) => Ok(()),
             Err(_) => Err(Fault::Memory),
         }
     }
 
     /// Notes what the datagram in the packet that was counted last lacks, for its sender's dump:
     /// nothing is added to the one dump.
-    fn add_lack(&mut self, origin: Origin, lack: Lack) -> Result<Noted, Fault>
+    fn add_lack(&mut self, origin: Origin, lack: Lack) -> Result<(), Fault>
         ensures wanted { self.new.wanted ≡ self.old.wanted }
         ensures names { self.new.names ≡ self.old.names }
         ensures dump { self.new.dump ≡ self.old.dump }
@@ -297,26 +318,24 @@ impl Gathered {
         ensures senders { self.new.senders ≡ self.old.senders }
         ensures dumps { OnOk result (self.new.dumps ≡ dump_added self.old.dumps origin []
             (Some (record { packet = self.old.report.packets; lack = lack }))) }
-        ensures noted { IfOk result (λ noted. noted ≡ nothing_noted) }
         ensures err { IfErr result (λ fault. fault ≡ Fault.Memory) }
     {
         let packet = self.report.packets();
         self.dumps
-            .add(&origin, None, Some(LackAt { packet, lack }))?;
-        Ok(Noted::nothing())
+            .add(&origin, None, Some(LackAt { packet, lack }))
     }
 
     /// Counts a packet for its sender, and whether octets come after its body, and adds it to a
-    /// dump, if one is wanted: what is noted of it.
+    /// dump, if one is wanted.
     fn add(
         &mut self,
         at: u64,
-        origin: Origin,
+        origin: &Origin,
         time: Option<Time>,
         packet: &[u8],
         updates: &Updates,
         has_trailer: bool,
-    ) -> Result<Noted, Fault>
+    ) -> Result<(), Fault>
         requires count { updates.now.count ≡ updates_in packet.now }
         requires interval { updates.now.interval ≡ interval_in packet.now }
         ensures wanted { self.new.wanted ≡ self.old.wanted }
@@ -326,37 +345,29 @@ impl Gathered {
             ≡ dump_with self.old.wanted self.old.dump packet.now) }
         ensures dumps { OnOk result (self.new.dumps ≡ dumps_with self.old.wanted self.old.dumps
             self.old.report.packets time
-            (found origin.place origin.sender packet.now has_trailer)) }
+            (found origin.now.place origin.now.sender packet.now has_trailer)) }
         ensures senders { OnOk result (self.new.senders
-            ≡ tallied self.old.senders origin time packet.now has_trailer) }
-        ensures noted { IfOk result (λ noted. noted ≡ noted_of self.old.wanted
-            (found origin.place origin.sender packet.now has_trailer)) }
+            ≡ tallied self.old.senders origin.now time packet.now has_trailer) }
         ensures few { OnOk result (length self.new.senders ≤ 65536) }
         ensures err { IfErr result (λ fault. (fault ≡ Fault.Memory)
-            ⊎ ((fault ≡ Fault.TooManySenders at) × IsOneTooMany self.old.senders origin)) }
+            ⊎ ((fault ≡ Fault.TooManySenders at) × IsOneTooMany self.old.senders origin.now)) }
         ensures memory { IfErr result (λ fault. fault ≡ Fault.Memory
-            → PacketNeedsMemory self.old.wanted self.old.senders origin packet.now has_trailer) }
+            → PacketNeedsMemory self.old.wanted self.old.senders origin.now packet.now has_trailer) }
     {
         let came = time;
         self.senders
-            .add(at, origin, time, packet, updates, has_trailer)?;
-        let is_noted = match self.wanted {
-            Wanted::Everyone => return Ok(Noted::nothing()),
+            .add(at, *origin, time, packet, updates, has_trailer)?;
+        match self.wanted {
+            Wanted::Everyone | Wanted::InTurn { .. } => {}
             Wanted::Each => {
                 let mut octets = Vec::new(self.alloc);
                 octets.extend_from_slice(packet)?;
                 let time = came.unwrap_or(Time::first());
                 self.dumps
-                    .add(&origin, Some(TimedPacket { time, octets }), None)?;
-                return Ok(Noted::nothing());
+                    .add(origin, Some(TimedPacket { time, octets }), None)?;
             }
-            Wanted::Sender { ends, .. } => ends,
-            Wanted::InTurn { .. } => true,
-        };
-        self.dump.extend_from_slice(packet)?;
-        Ok(Noted {
-            origin: if is_noted { Some(origin) } else { None },
-            missed: None,
-        })
+            Wanted::Sender { .. } => self.dump.extend_from_slice(packet)?,
+        }
+        Ok(())
     }
 }

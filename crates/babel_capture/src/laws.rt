@@ -2,7 +2,8 @@
 ghost use Rattle.std.specs.Prelude.{◌≡◌, ◌≢◌, ℕ, ◌+◌, ◌<◌, ◌≤◌, ◌++◌, ◌⊎◌, List, [], length, take};
 ghost use Rattle.babel_capture.specs.Capture.{CaptureFault, IsRead};
 ghost use Rattle.babel_capture.specs.EachDump.{EachIsOwn, LackingIsNone};
-ghost use Rattle.babel_capture.specs.Gathering.{Gathering};
+ghost use Rattle.babel_capture.specs.Findings.{Finds, Found};
+ghost use Rattle.babel_capture.specs.Gathering.{Gathering, octets_found};
 ghost use Rattle.babel_capture.specs.OneCapture.{CaptureIsOne, CutCaptureIsOne};
 ghost use Rattle.babel_capture.specs.OneFault.{CutIsTheFault, FaultIsOne, ReadHasNoFault};
 ghost use Rattle.babel_capture.specs.NotedEnds.{EndsChangeNothing};
@@ -30,7 +31,7 @@ ghost use Rattle.babel_capture.specs.LinkHeaders.{HasEtherType, HasFamily, IsHea
 ghost use Rattle.babel_capture.specs.LinkHeaders.{IsOtherFamily, IsOtherType};
 ghost use Rattle.byteorder.specs.Endian.{big_bytes, little_bytes};
 ghost use Rattle.babel_prefix.specs.Address.{Address};
-ghost use Rattle.babel_capture.specs.Sight.{Carried, carries, datagram, lacking, other};
+ghost use Rattle.babel_capture.specs.Sight.{Carried, Sight, carries, datagram, lacking, other};
 ghost use Rattle.babel_capture.specs.declared.link.Link.{Link as LinkType};
 ghost use Rattle.babel_capture.specs.declared.lack.Lack.TheVariants.{Snapped};
 ghost use Rattle.babel_capture.specs.declared.place.Place.{Place};
@@ -116,6 +117,12 @@ pub fn pcapng_is_read()
         (packets : List Captured) → IsSection order head → Hold order 0 [] blocks packets
         → length (pcapng_octets order head blocks) ≤ limit
         → IsReadAs (all_times limit) (pcapng_octets order head blocks) packets }
+{}
+
+/// What is found in a packet of a capture is a whole Babel packet, if anything is.
+pub fn found_is_a_packet()
+    ensures { (wanted : Wanted) (sight : Sight) (what : Found) → Finds wanted sight what
+        → ArePackets (octets_found what) }
 {}
 
 /// The dump of a capture is whole Babel packets, end to end.

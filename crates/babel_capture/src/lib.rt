@@ -2,8 +2,8 @@
 //! draft-ietf-opsawg-pcapng): who sent Babel datagrams, and the dump of one sender, or of each.
 //!
 //! A `Capture` is read in pieces of any size. It tells its blocks, and each captured packet to the
-//! layer of frames, which looks into one frame and takes no memory. This crate knows nothing of
-//! files and streams, nor of what the TLVs of a packet say.
+//! layer of frames, which looks into one frame and takes no memory; and then, where it lies, to a
+//! `Sink`. This crate knows nothing of files and streams, nor of what the TLVs of a packet say.
 #![tactic(auto)]
 
 mod block;
@@ -26,7 +26,7 @@ pub mod laws;
 mod layout;
 mod length;
 mod link;
-mod noted;
+mod missed;
 mod options;
 mod order;
 mod outside;
@@ -38,6 +38,7 @@ mod reason;
 mod report;
 mod sections;
 mod seen;
+mod sink;
 mod stream;
 mod tallies;
 mod time;
@@ -56,12 +57,13 @@ pub use gathered::Gathered;
 pub use headers::MAX_EXTENSION_HEADERS;
 pub use lack::Lack;
 pub use link::Link;
-pub use noted::Missed;
+pub use missed::Missed;
 pub use packet_end::PacketEnd;
 pub use place::{MAX_TAGS, Place, Vlans};
 pub use reason::Reason;
 pub use report::Report;
 pub use seen::Seen;
+pub use sink::{BabelPacket, NoSink, Record, Sink};
 pub use tallies::{MAX_SENDERS, Origin, Tally};
 pub use time::Time;
 pub use timing::Timing;

@@ -1,24 +1,23 @@
 ghost use Rattle.std.specs.Prelude.{◌≡◌, ◌↔◌, IsTrue, ◌≤◌, ◌<◌, ◌+◌, ◌-◌, ◌^◌, ◌++◌, ◌⊎◌, ℕ, List};
 ghost use Rattle.std.specs.Prelude.{[], length, take, drop, OnOk, IfOk, IfErr, IfSome, IfNone, Err};
-ghost use Rattle.std.specs.Prelude.{Ok, ◌&&◌};
+ghost use Rattle.std.specs.Prelude.{Ok, None, true, ◌≢◌};
+ghost use Rattle.babel_capture.specs.PacketEnds.{are_noted};
 ghost use Rattle.babel_capture.specs.Blocks.{BeginsBlock, IsBlock, IsEnd, IsPartial};
 ghost use Rattle.babel_capture.specs.Blocks.{start};
 ghost use Rattle.babel_capture.specs.Contents.{Content, block_said, content_of};
-ghost use Rattle.babel_capture.specs.Findings.{is_in_turn};
 ghost use Rattle.babel_capture.specs.Gathering.{BlockNeedsMemory};
-ghost use Rattle.babel_capture.specs.PacketEnds.{is_noted, is_packet};
-ghost use Rattle.babel_capture.specs.Reading.{Account, BlockFails, EachHasEnd, HasStarted};
+ghost use Rattle.babel_capture.specs.Reading.{Account, BlockFails, HasStarted};
 ghost use Rattle.babel_capture.specs.Reading.{HeaderFails, LeadTo};
 ghost use Rattle.babel_capture.specs.Reading.{NeedsMemory, Stops, with_end, without_dump};
+ghost use Rattle.babel_capture.specs.Sinking.{LeadMore, Sinks};
 
-use crate::block::{Block, read_block};
+use crate::block::read_block;
 use crate::context::Context;
 use crate::fault::Fault;
 use crate::gathered::Gathered;
 use crate::layout::Layout;
-use crate::noted::Missed;
 use crate::packet_end::PacketEnd;
-use crate::tallies::Origin;
+use crate::sink::{Record, Sink};
 use crate::time::Time;
 use crate::wanted::Wanted;
 use crate::window::Window;
@@ -83,77 +82,61 @@ impl Reader {
         self.at
     }
 
-    /// Takes a whole block.
+    /// Takes a whole block, and tells its packet, if it says one, to the sink.
     #[tactic(auto, using(crate::proofs::MemoryLaws::said_other))]
-    fn take_block(&mut self, block: &[u8]) -> Result<(), Fault>
+    fn take_block<S: Sink>(&mut self, block: &[u8], sink: &mut S) -> Result<(), Fault>
         requires is_block { IsBlock self.old.context self.old.at block.now }
         requires some { 12 ≤ length block.now }
         requires room { length block.now ≤ self.old.context.limit - self.old.at }
         requires fits { self.old.at + length block.now < 2 ^ 64 }
         ensures wanted { self.new.gathering.wanted ≡ self.old.gathering.wanted }
         ensures passed { self.new.passed ≡ self.old.passed }
-        ensures ok { OnOk result ((account : Account) (read : List ℕ)
-            → LeadTo account read self.old → LeadTo account (read ++ block.now) self.new) }
+        ensures ok { OnOk result (Sinks S.has sink.old sink.new
+            (LeadMore self.old self.new block.now)) }
         ensures err { IfErr result (λ fault. (fault ≡ Fault.Memory)
             ⊎ BlockFails self.old.gathering.wanted self.old.gathering.senders self.old.context
             self.old.at block.now fault) }
         ensures memory { IfErr result (λ fault. fault ≡ Fault.Memory → (content : Content)
             × (block_said self.old.context self.old.at block.now ≡ Ok content)
             × BlockNeedsMemory self.old.gathering.wanted self.old.gathering.senders content) }
-        ensures turns { OnOk result (EachHasEnd self.old self.new) }
     {
         let said = read_block(&self.context, self.at, block)?;
         let at = self.at;
         self.at += block.len() as u64;
-        let noted = self.gathered.take_said(at, &said)?;
-        self.note_end(&said, noted.origin, noted.missed)?;
         self.context.take(&said)?;
-        Ok(())
+        match self.gathered.take_said(at, &said) {
+            Ok(Some(told)) => {
+                self.note_end(&told)?;
+                sink.take(&told);
+                Ok(())
+            }
+            Ok(None) => Ok(()),
+            Err(fault) => Err(fault),
+        }
     }
 
-    /// Notes where the dump ends, if the block that was taken last added a packet of this origin to
-    /// it, or says one that is told in turn.
-    fn note_end(
-        &mut self,
-        said: &Block<'_>,
-        origin: Option<Origin>,
-        missed: Option<Missed>,
-    ) -> Result<(), Fault>
+    /// Notes where the dump ends, if that is noted and this packet, which was taken last, was added
+    /// to it.
+    fn note_end(&mut self, told: &Record<'_>) -> Result<(), Fault>
         ensures others { (self.new.context ≡ self.old.context)
             × (self.new.gathering ≡ self.old.gathering) × (self.new.at ≡ self.old.at)
             × (self.new.passed ≡ self.old.passed) }
-        ensures ends { OnOk result
-            (self.new.ends ≡ with_end self.old (content_of said.now) origin missed) }
+        ensures ends { OnOk result (self.new.ends ≡ with_end self.old told.now) }
         ensures err { IfErr result (λ fault. (fault ≡ Fault.Memory)
-            × IsTrue (is_noted (is_packet (content_of said.now)
-            && is_in_turn self.old.gathering.wanted) origin)) }
+            × (are_noted self.old.gathering.wanted ≡ true) × (told.now.packet ≢ None)) }
     {
-        let added = origin;
-        if !self.is_noted(said, added) {
+        if told.packet.is_none() || !self.gathered.wanted().are_noted() {
             return Ok(());
         }
-        let end = self.gathered.dump().len();
-        let number = self.gathered.report().packets();
-        let time = said.time();
-        let packet = PacketEnd {
-            end,
-            number,
-            time,
-            origin,
-            missed,
+        let end = PacketEnd {
+            end: self.gathered.dump().len(),
+            number: told.number,
+            time: told.time,
         };
-        match self.ends.push(packet) {
+        match self.ends.push(end) {
             Ok(()) => Ok(()),
             Err(_) => Err(Fault::Memory),
         }
-    }
-
-    /// Whether the end of what the block added to the dump is noted.
-    fn is_noted(&self, said: &Block<'_>, origin: Option<Origin>) -> bool
-        ensures { result ≡ is_noted (is_packet (content_of said.now)
-            && is_in_turn self.now.gathering.wanted) origin }
-    {
-        origin.is_some() || (said.is_packet() && self.gathered.wanted().is_in_turn())
     }
 
     /// The whole block that the octets begin with; `None` if they are less than a block.
@@ -208,14 +191,14 @@ impl Reader {
         }
     }
 
-    /// Takes the whole blocks that the octets begin with: how many octets they are.
-    pub fn take_blocks(&mut self, octets: &[u8]) -> Result<usize, Fault>
+    /// Takes the whole blocks that the octets begin with, and tells their packets to the sink: how
+    /// many octets they are.
+    pub fn take_blocks<S: Sink>(&mut self, octets: &[u8], sink: &mut S) -> Result<usize, Fault>
         ensures wanted { self.new.gathering.wanted ≡ self.old.gathering.wanted }
         ensures passed { self.new.passed ≡ self.old.passed }
         ensures used { IfOk result (λ used. used ≤ length octets.now) }
-        ensures took { IfOk result (λ used. (account : Account) (read : List ℕ)
-            → LeadTo account read self.old
-            → LeadTo account (read ++ take used octets.now) self.new) }
+        ensures took { IfOk result (λ used. Sinks S.has sink.old sink.new
+            (LeadMore self.old self.new (take used octets.now))) }
         ensures partial { IfOk result (λ used. IsPartial self.new.context self.new.at
             (drop used octets.now)) }
         ensures stops { IfErr result (λ fault. (fault ≡ Fault.Memory)
@@ -225,11 +208,10 @@ impl Reader {
             → (account : Account) (read : List ℕ)
             → LeadTo account read self.old
             → NeedsMemory account.limit self.old.gathering.wanted read octets.now) }
-        ensures turns { OnOk result (EachHasEnd self.old self.new) }
     {
         let mut used = 0;
         while let Some(block) = self.first_block(&octets[used..])? {
-            self.take_block(block)?;
+            self.take_block(block, sink)?;
             used += block.len();
         }
         Ok(used)

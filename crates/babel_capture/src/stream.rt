@@ -2,11 +2,13 @@ ghost use Rattle.std.specs.Prelude.{◌≡◌, ◌≢◌, ◌≤◌, ◌++◌, �
 ghost use Rattle.std.specs.Prelude.{OnOk, IfOk, IfErr};
 ghost use Rattle.babel_capture.specs.Capture.{CaptureFault, IsRead, IsReadToCut};
 ghost use Rattle.babel_capture.specs.Gathering.{with_taken};
-ghost use Rattle.babel_capture.specs.Reading.{Account, EachHasEnd, HasTaken, NeedsMemory, Stops};
+ghost use Rattle.babel_capture.specs.Reading.{Account, HasTaken, NeedsMemory, Stops};
+ghost use Rattle.babel_capture.specs.Sinking.{FeedMore, Sinks};
 
 use crate::fault::Fault;
 use crate::gathered::Gathered;
 use crate::reader::Reader;
+use crate::sink::Sink;
 use crate::wanted::Wanted;
 use crate::window::Window;
 use std::alloc::Global;
@@ -35,11 +37,11 @@ fn remove_front(octets: &mut Vec<u8>, used: usize)
 impl Stream {
     /// Takes the next octets. They are copied only as far as they complete the block that is
     /// pending, and where they begin one that is not whole: the others are read where they lie.
-    pub fn take(&mut self, piece: &[u8]) -> Result<(), Fault>
+    pub fn take<S: Sink>(&mut self, piece: &[u8], sink: &mut S) -> Result<(), Fault>
         ensures wanted { self.new.reader.gathering.wanted ≡ self.old.reader.gathering.wanted }
-        ensures ok { OnOk result ((account : Account) (fed : List ℕ)
-            → HasTaken account self.old.reader self.old.pending.items fed
-            → HasTaken account self.new.reader self.new.pending.items (fed ++ piece.now)) }
+        ensures ok { OnOk result (Sinks S.has sink.old sink.new
+            (FeedMore self.old.reader self.old.pending.items self.new.reader
+            self.new.pending.items piece.now)) }
         ensures err { IfErr result (λ fault. (fault ≡ Fault.Memory)
             ⊎ ((account : Account) (fed : List ℕ)
             → HasTaken account self.old.reader self.old.pending.items fed
@@ -48,31 +50,29 @@ impl Stream {
             → (self.old.pending.items ≢ []) ⊎ ((account : Account) (fed : List ℕ)
             → HasTaken account self.old.reader self.old.pending.items fed
             → NeedsMemory account.limit self.old.reader.gathering.wanted fed piece.now)) }
-        ensures turns { OnOk result (EachHasEnd self.old.reader self.new.reader) }
     {
         if self.pending.is_empty() {
-            return self.take_in_place(piece);
+            return self.take_in_place(piece, sink);
         }
         let (header, rest) = piece.split_at(self.lacking_of(piece));
-        self.take_behind(header)?;
-        self.take_past_header(rest)
+        self.take_behind(header, sink)?;
+        self.take_past_header(rest, sink)
     }
 
     /// Takes octets where the header of the block that is pending is whole, if one is.
-    fn take_past_header(&mut self, piece: &[u8]) -> Result<(), Fault>
+    fn take_past_header<S: Sink>(&mut self, piece: &[u8], sink: &mut S) -> Result<(), Fault>
         ensures wanted { self.new.reader.gathering.wanted ≡ self.old.reader.gathering.wanted }
-        ensures ok { OnOk result ((account : Account) (fed : List ℕ)
-            → HasTaken account self.old.reader self.old.pending.items fed
-            → HasTaken account self.new.reader self.new.pending.items (fed ++ piece.now)) }
+        ensures ok { OnOk result (Sinks S.has sink.old sink.new
+            (FeedMore self.old.reader self.old.pending.items self.new.reader
+            self.new.pending.items piece.now)) }
         ensures err { IfErr result (λ fault. (fault ≡ Fault.Memory)
             ⊎ ((account : Account) (fed : List ℕ)
             → HasTaken account self.old.reader self.old.pending.items fed
             → Stops account.limit self.old.reader.gathering.wanted (fed ++ piece.now) fault)) }
-        ensures turns { OnOk result (EachHasEnd self.old.reader self.new.reader) }
     {
         let (block, rest) = piece.split_at(self.lacking_of(piece));
-        self.take_behind(block)?;
-        self.take_in_place(rest)
+        self.take_behind(block, sink)?;
+        self.take_in_place(rest, sink)
     }
 
     /// How many of these octets complete the header of the block that is pending, or, if that is
@@ -85,32 +85,31 @@ impl Stream {
 
     /// Takes octets that come after those of the block that is pending. Those after the end of what
     /// is read are passed over.
-    fn take_behind(&mut self, piece: &[u8]) -> Result<(), Fault>
+    fn take_behind<S: Sink>(&mut self, piece: &[u8], sink: &mut S) -> Result<(), Fault>
         ensures wanted { self.new.reader.gathering.wanted ≡ self.old.reader.gathering.wanted }
-        ensures ok { OnOk result ((account : Account) (fed : List ℕ)
-            → HasTaken account self.old.reader self.old.pending.items fed
-            → HasTaken account self.new.reader self.new.pending.items (fed ++ piece.now)) }
+        ensures ok { OnOk result (Sinks S.has sink.old sink.new
+            (FeedMore self.old.reader self.old.pending.items self.new.reader
+            self.new.pending.items piece.now)) }
         ensures err { IfErr result (λ fault. (fault ≡ Fault.Memory)
             ⊎ ((account : Account) (fed : List ℕ)
             → HasTaken account self.old.reader self.old.pending.items fed
             → Stops account.limit self.old.reader.gathering.wanted (fed ++ piece.now) fault)) }
-        ensures turns { OnOk result (EachHasEnd self.old.reader self.new.reader) }
     {
         if self.reader.is_end(&self.pending) {
             return self.reader.pass_over(&self.pending, piece);
         }
         self.pending.extend_from_slice(piece)?;
-        let used = self.reader.take_blocks(&self.pending)?;
+        let used = self.reader.take_blocks(&self.pending, sink)?;
         remove_front(&mut self.pending, used);
         Ok(())
     }
 
     /// Takes octets, where they lie if no block is pending.
-    fn take_in_place(&mut self, piece: &[u8]) -> Result<(), Fault>
+    fn take_in_place<S: Sink>(&mut self, piece: &[u8], sink: &mut S) -> Result<(), Fault>
         ensures wanted { self.new.reader.gathering.wanted ≡ self.old.reader.gathering.wanted }
-        ensures ok { OnOk result ((account : Account) (fed : List ℕ)
-            → HasTaken account self.old.reader self.old.pending.items fed
-            → HasTaken account self.new.reader self.new.pending.items (fed ++ piece.now)) }
+        ensures ok { OnOk result (Sinks S.has sink.old sink.new
+            (FeedMore self.old.reader self.old.pending.items self.new.reader
+            self.new.pending.items piece.now)) }
         ensures err { IfErr result (λ fault. (fault ≡ Fault.Memory)
             ⊎ ((account : Account) (fed : List ℕ)
             → HasTaken account self.old.reader self.old.pending.items fed
@@ -119,12 +118,11 @@ impl Stream {
             → (self.old.pending.items ≢ []) ⊎ ((account : Account) (fed : List ℕ)
             → HasTaken account self.old.reader self.old.pending.items fed
             → NeedsMemory account.limit self.old.reader.gathering.wanted fed piece.now)) }
-        ensures turns { OnOk result (EachHasEnd self.old.reader self.new.reader) }
     {
         if !self.pending.is_empty() {
-            return self.take_behind(piece);
+            return self.take_behind(piece, sink);
         }
-        let used = self.reader.take_blocks(piece)?;
+        let used = self.reader.take_blocks(piece, sink)?;
         let (_blocks, left) = piece.split_at(used);
         if left.is_empty() {
             return Ok(());

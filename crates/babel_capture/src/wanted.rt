@@ -1,5 +1,6 @@
 ghost use Rattle.std.specs.Prelude.{◌≡◌, ◌↔◌, IsTrue};
-ghost use Rattle.babel_capture.specs.Findings.{IsWanted, is_in_turn};
+ghost use Rattle.babel_capture.specs.Findings.{IsWanted};
+ghost use Rattle.babel_capture.specs.PacketEnds.{are_noted};
 
 use crate::place::Place;
 use crate::seen::Seen;
@@ -19,8 +20,8 @@ pub enum Wanted {
         place: Option<Place>,
         ends: bool,
     },
-    /// Those of each sender, or of one where it is named, at each place or at one, in one dump, as
-    /// they come.
+    /// Those of each sender, or of one where it is named, at each place or at one, which a sink
+    /// takes as they come.
     InTurn {
         sender: Option<Addr>,
         place: Option<Place>,
@@ -72,10 +73,13 @@ impl Wanted {
         }
     }
 
-    /// Whether packets are told as they come, those too that are none of the dump's.
-    pub fn is_in_turn(&self) -> bool
-        ensures { result ≡ is_in_turn self.now }
+    /// Whether the end of each packet in the dump is noted.
+    pub fn are_noted(&self) -> bool
+        ensures { result ≡ are_noted self.now }
     {
-        matches!(self, Wanted::InTurn { .. })
+        match self {
+            Wanted::Sender { ends, .. } => *ends,
+            _ => false,
+        }
     }
 }

@@ -4,13 +4,11 @@ use Rattle.std.specs.Prelude.{Result, Ok, Err, OnOk}
 use Rattle.std.specs.declared.cmp.Ordering.{Ordering}
 use Rattle.babel_capture.specs.declared.fault.Fault.{Fault}
 use Rattle.babel_capture.specs.declared.tallies.Origin.{Origin}
-use Rattle.babel_capture.specs.declared.wanted.Wanted.{Wanted}
 use Rattle.babel_capture.specs.Blocks.{AreBlocks, BlockAt, octets_of, sightings_of, start}
 use Rattle.babel_capture.specs.Capture.{HasGivenTo, HasRead, State, account_of}
 use Rattle.babel_capture.specs.Context.{Before}
 use Rattle.babel_capture.specs.Counts.{Made}
 use Rattle.babel_capture.specs.Gathering.{AreMade}
-use Rattle.babel_capture.specs.PacketEnds.{ends_of}
 use Rattle.babel_capture.specs.Reading.{HasTaken}
 use Rattle.babel_capture.specs.Window.{Extent}
 use Rattle.babel_capture.proofs.OneCapture.{some_header}
@@ -86,38 +84,30 @@ no_blocks before at (block ∷ blocks) (here, is, said, are) none =
 
 pub record IsUnread (events : Events) (state : State) : Type 0 where
   pub read : HasTaken (record { limit = followed_extent events; taken = [] }) state.progress state.pending []
-  pub ends : state.progress.ends ≡ []
   pub made : read.leads.gathered.made ≡ []
 
-unread : (events : Events) (state : State) → state.progress.gathering.wanted ≡ followed_by events
-    → HasTaken (record { limit = followed_extent events; taken = [] }) state.progress state.pending [] → IsUnread events state
-unread events state wanted is =
+unread : (events : Events) (state : State) → HasTaken (record { limit = followed_extent events; taken = [] }) state.progress state.pending [] → IsUnread events state
+unread events state is =
     let blocks : is.leads.blocks ≡ [] =
     no_blocks (start (followed_extent events)) 0 is.leads.blocks is.leads.are_blocks (sym is.leads.whole ∙ (no_parts is.read is.rest (sym is.whole)).0) in
     let made : is.leads.gathered.made ≡ [] =
     subst (λ (bs : List BlockAt). AreMade state.progress.gathering.wanted (sightings_of bs) is.leads.gathered.made) blocks is.leads.gathered.taken.are_made in
-    let ends = is.leads.ends in
-    let kept : ends.kept ≡ [] = (no_parts ends.gone ends.kept (sym ends.whole ∙ made)).1 in
-    record {
-      read = is;
-      ends = ends.are_ends ∙ ap (ends_of state.progress.gathering.wanted) kept ∙ ap (λ (w : Wanted). ends_of w []) wanted;
-      made = made;
-    }
+    record { read = is; made = made }
 
 pub followed_none : (events : Events) (followed : Followed) → HasRead followed.capture [] → followed.capture.limit ≡ followed_extent events
-    → followed.capture.progress.gathering.wanted ≡ followed_by events → followed.capture.fault ≡ None → HasHeard events [] [] followed.hearing
-    → followed.told.items ≡ [] → IsFollowed events [] [] followed
-followed_none events followed read limit wanted fault heard told =
+    → followed.capture.progress.gathering.wanted ≡ followed_by events → followed.capture.fault ≡ None → followed.follower.events.now ≡ events → HasHeard events [] [] followed.follower.hearing
+    → followed.follower.told.items ≡ [] → followed.follower.fault ≡ None → IsFollowed events [] [] followed
+followed_none events followed read limit wanted fault events_are heard told sound =
     let taken : HasTaken (account_of followed.capture []) followed.capture.progress followed.capture.pending [] = subst (λ (f : Option Fault). HasGivenTo followed.capture [] f []) fault read in
-    let begun = unread events followed.capture wanted
+    let begun = unread events followed.capture
     (subst (λ (e : Extent). HasTaken (record { limit = e; taken = [] }) followed.capture.progress followed.capture.pending []) limit taken) in
     record {
-      taken = [];
       read = begun.read;
       no_fault = fault;
       limit = limit;
       wanted = wanted;
-      ends = begun.ends;
-      has_heard = subst (λ (t : List (Telling Speaker)). HasHeard events begun.read.leads.gathered.made t followed.hearing) (sym told)
-          (subst (λ (m : List Made). HasHeard events m [] followed.hearing) (sym begun.made) heard);
+      events_are = events_are;
+      sound = sound;
+      has_heard = subst (λ (t : List (Telling Speaker)). HasHeard events begun.read.leads.gathered.made t followed.follower.hearing) (sym told)
+          (subst (λ (m : List Made). HasHeard events m [] followed.follower.hearing) (sym begun.made) heard);
     }

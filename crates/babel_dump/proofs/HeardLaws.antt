@@ -38,7 +38,7 @@ module _ (followed : Followed) (all : List (Origin × List ℕ × Counts)) where
       sym (append-nil (map heard_told heard)) ∙ ap (λ (l : List (Origin × Tally)). map heard_told heard ++ map (sender_heard followed) l) (sym none) ∙ before
 
 -- what is answered of each sender is its name and its report
-pub heard_senders : (events : Events) (made : List Made) (followed : Followed) → ((speaker : Speaker) → IsHeardOf events made followed.hearing.teller.heard.entries speaker)
+pub heard_senders : (events : Events) (made : List Made) (followed : Followed) → ((speaker : Speaker) → IsHeardOf events made followed.follower.hearing.teller.heard.entries speaker)
     → (heard : List HeardSender) (entries : List (Origin × Tally)) → map heard_told heard ≡ map (sender_heard followed) entries
     → (map (λ (h : HeardSender). h.origin) heard ≡ keys_of entries) × AllByRecursion (IsHeardSender events made followed.capture.progress.gathering) heard
 heard_senders events made followed of [] [] are = (refl, tt)
@@ -49,7 +49,7 @@ heard_senders events made followed of (one ∷ heard) (entry ∷ entries) are =
     let later : map heard_told heard ≡ map (sender_heard followed) entries = cc in
     let origin : one.origin ≡ entry.0 = ap (λ (t : Origin × List ℕ × Counts). t.0) here in
     let gathering : Gathering = followed.capture.progress.gathering in
-    let reports : Origin → Counts = λ o. report_of speaker_cmp followed.hearing.teller.heard.entries (speaker_at o) in
+    let reports : Origin → Counts = λ o. report_of speaker_cmp followed.follower.hearing.teller.heard.entries (speaker_at o) in
     let on = heard_senders events made followed of heard entries later in (
       ap (λ (o : Origin). o ∷ map (λ (h : HeardSender). h.origin) heard) origin ∙ ap (λ (l : List Origin). entry.0 ∷ l) on.0,
       (

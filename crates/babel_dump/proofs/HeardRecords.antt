@@ -17,7 +17,7 @@ use Rattle.std.proofs.lemmas.List.Concat.{flat_map-append}
 use Rattle.std.proofs.lemmas.List.Elements.{filter-append, filter_more}
 use Rattle.std.proofs.lemmas.List.Folds.{list_any-append}
 use Rattle.babel_prefix.proofs.Insertion.{equal_of, lookup-insert}
-use Rattle.babel_capture.specs.declared.noted.Missed.{Missed}
+use Rattle.babel_capture.specs.declared.missed.Missed.{Missed}
 use Rattle.babel_capture.specs.declared.tallies.Origin.{Origin}
 use Rattle.babel_capture.specs.Counts.{Made}
 use Rattle.babel_capture.specs.Gathering.{missed_in}

@@ -14,8 +14,8 @@ use Rattle.babel_capture.specs.Contents.{block_said, context_after}
 use Rattle.babel_capture.specs.Context.{Before}
 use Rattle.babel_capture.specs.Counts.{Made}
 use Rattle.babel_capture.specs.Findings.{Found, passed, untold, left, refused, lacked, found, Finds, PayloadIs, CarriedIs, LackIs}
-use Rattle.babel_capture.specs.Gathering.{AreMade, octets_found}
-use Rattle.babel_capture.specs.PacketEnds.{end_found, ends_from}
+use Rattle.babel_capture.specs.Gathering.{AreMade, octets_found, origin_found}
+use Rattle.babel_capture.specs.PacketEnds.{end_at, ends_from}
 use Rattle.babel_capture.specs.Sight.{Sight, Carried, other, too_short, datagram, other_port, not_link_local, lacking, carries}
 use Rattle.babel_capture.specs.Times.{Came, time_of}
 use Rattle.babel_capture.proofs.OneCapture.{block_one, content_or_none, finds_one, one_block, partial_none}
@@ -107,19 +107,19 @@ AreEndsAt at (packet ∷ packets) ends =
     (one : PacketEnd) × (later : List PacketEnd) × (ends ≡ one ∷ later) × (one.end ≡ at + length packet.1) × (one.time ≡ packet.0) × AreEndsAt (at + length packet.1) packets later
 
 one_ends : (at number : ℕ) (came : Came) (what : Found) (packets : Packets) (ends : List PacketEnd) → AreEndsAt (at + length (octets_found what)) packets ends
-    → AreEndsAt at (packet_in came what ++ packets) (end_found false at number (time_of came) what ++ ends)
+    → AreEndsAt at (packet_in came what ++ packets) (end_at (at + length (octets_found what)) number (time_of came) (origin_found what) ++ ends)
 one_ends at number came passed packets ends are = subst (λ (n : ℕ). AreEndsAt n packets ends) (omega arith) are
 one_ends at number came untold packets ends are = subst (λ (n : ℕ). AreEndsAt n packets ends) (omega arith) are
 one_ends at number came (left reason missed) packets ends are = subst (λ (n : ℕ). AreEndsAt n packets ends) (omega arith) are
 one_ends at number came (refused lack) packets ends are = subst (λ (n : ℕ). AreEndsAt n packets ends) (omega arith) are
 one_ends at number came (lacked place sender lack) packets ends are = subst (λ (n : ℕ). AreEndsAt n packets ends) (omega arith) are
 one_ends at number came (found place sender packet has_trailer) packets ends are =
-    (record { end = at + length packet; number = number; time = time_of came; origin = Some (record { place = place; sender = sender }); missed = None }, ends, refl, refl, refl, are)
+    (record { end = at + length packet; number = number; time = time_of came }, ends, refl, refl, refl, are)
 
-pub made_ends : (at : ℕ) (made : List Made) → AreEndsAt at (packets_in made) (ends_from false at made)
+pub made_ends : (at : ℕ) (made : List Made) → AreEndsAt at (packets_in made) (ends_from at made)
 made_ends at [] = refl
 made_ends at (one ∷ made) =
-    one_ends at one.number one.came one.what (packets_in made) (ends_from false (at + length (octets_found one.what)) made) (made_ends (at + length (octets_found one.what)) made)
+    one_ends at one.number one.came one.what (packets_in made) (ends_from (at + length (octets_found one.what)) made) (made_ends (at + length (octets_found one.what)) made)
 
 abbrev pub last_end : ℕ → List PacketEnd → ℕ
 last_end at ends = fold (λ n packet. packet.end) at ends
@@ -171,7 +171,7 @@ all_ends at (packet ∷ packets) gone (one, rest, is, end, time_is, are) =
 
 -- ---- more of a capture has more records
 
-pub blocks_begin : (before : Before) (at : ℕ) (blocks others : List BlockAt) (rest behind : List ℕ) → AreBlocks before at blocks → AreBlocks before at others
+blocks_begin : (before : Before) (at : ℕ) (blocks others : List BlockAt) (rest behind : List ℕ) → AreBlocks before at blocks → AreBlocks before at others
     → octets_of blocks ++ rest ≡ octets_of others ++ behind → IsPartial (context_behind before others) (at + length (octets_of others)) behind
     → (more : List BlockAt) × (others ≡ blocks ++ more)
 blocks_begin before at [] others rest behind are are_too same partial = (others, refl)
@@ -192,7 +192,7 @@ blocks_begin before at (one ∷ blocks) (another ∷ others) rest behind (here, 
     (subst (λ (n : ℕ). IsPartial (context_behind (context_after before another.content) others) n behind) (omega (arith, length-append another.octets (octets_of others), place)) partial)) in
     (on.0, ap (λ (b : BlockAt). b ∷ others) (sym block) ∙ ap (λ (bs : List BlockAt). one ∷ bs) on.1)
 
-pub sightings_begin : (count : ℕ) (blocks more : List BlockAt) → (later : List Sighting) × (sightings_behind count (blocks ++ more) ≡ sightings_behind count blocks ++ later)
+sightings_begin : (count : ℕ) (blocks more : List BlockAt) → (later : List Sighting) × (sightings_behind count (blocks ++ more) ≡ sightings_behind count blocks ++ later)
 sightings_begin count [] more = (sightings_behind count more, refl)
 sightings_begin count (block ∷ blocks) more =
     let here : List Sighting = sightings_in (count + 1) block.at block.content in

@@ -9,7 +9,8 @@ use Rattle.babel_capture.specs.Capture.{moment_read as moment_of}
 use Rattle.babel_capture.specs.Context.{Before}
 use Rattle.babel_capture.specs.Counts.{Made}
 use Rattle.babel_capture.specs.Gathering.{Gathering, with_taken}
-use Rattle.babel_capture.specs.Reading.{EachHasEnd, HasTaken}
+use Rattle.babel_capture.specs.Reading.{HasTaken}
+use Rattle.babel_capture.specs.Sinking.{FeedMore, Sinks}
 use Rattle.babel_capture.specs.Window.{Extent, moment_up_to}
 use Rattle.babel_timeline.specs.declared.teller.Teller.{Teller}
 use Rattle.babel_timeline.specs.declared.telling.Telling.{Telling}
@@ -17,7 +18,7 @@ use Rattle.babel_timeline.specs.Rows.{AllLast, Rows}
 use Rattle.babel_dump.specs.CaptureRun.{IsOutcomeOf}
 use Rattle.babel_dump.specs.CaptureText.{senders_status}
 use Rattle.babel_dump.specs.EventsRun.{HaveTold, Step, WroteLines, followed_by, followed_extent, made_in, moment_read, told_in, unlost, written_in}
-use Rattle.babel_dump.specs.Followed.{AreToHear, Ends, EndsAt, EndsBy, HasHeard, IsFollowed, Suits, unlost_by}
+use Rattle.babel_dump.specs.Followed.{Ends, EndsAt, EndsBy, Follows, HasHeard, IsFollowed, Suits, unlost_by}
 use Rattle.babel_dump.specs.HeardSenders.{heard_told, sender_heard}
 use Rattle.babel_dump.specs.Run.{Output}
 use Rattle.babel_dump.specs.Speakers.{speaker_cmp}
@@ -25,11 +26,12 @@ use Rattle.babel_dump.specs.declared.events.Followed.{Followed}
 use Rattle.babel_dump.specs.declared.events_job.Events.{Events}
 use Rattle.babel_dump.specs.declared.events_outcome.EventsOutcome.{EventsOutcome}
 use Rattle.babel_dump.specs.declared.speaker.Speaker.{Speaker}
+use Rattle.babel_dump.specs.declared.follower.Follower.{Follower}
 use Rattle.babel_dump.specs.declared.hearing.Hearing.{Hearing}
 use Rattle.babel_dump.proofs.EventsRuns.{told_so, told_until}
 use Rattle.babel_dump.proofs.HeardLaws.{heard_senders}
 use Rattle.babel_dump.proofs.HeardRecords.{unlost_is}
-use Rattle.babel_dump.proofs.FollowLaws.{kept_last, same_made}
+use Rattle.babel_dump.proofs.FollowLaws.{same_made}
 
 abbrev Tellings : Type 0
 Tellings = List (Telling Speaker)
@@ -42,87 +44,61 @@ given_of state extent taken fed none limit read =
     subst (λ (f : Option Fault). HasGivenTo state taken f fed) (sym none)
     (subst (λ (e : Extent). HasTaken (record { limit = e; taken = taken }) state.progress state.pending fed) (sym limit) read)
 
-taken_of : (state : State) (extent : Extent) (taken fed : List ℕ) → state.fault ≡ None → state.limit ≡ extent
-    → HasGiven state taken fed → HasTaken (record { limit = extent; taken = taken }) state.progress state.pending fed
-taken_of state extent taken fed none limit given =
-    subst (λ (e : Extent). HasTaken (record { limit = e; taken = taken }) state.progress state.pending fed) limit
-    (subst (λ (f : Option Fault). HasGivenTo state taken f fed) none given)
-
 -- ---- more of it
 
--- what the capture says of more octets that it was fed
-pub record Fed (old new : State) (more : List ℕ) : Type 0 where
-  pub given : (taken fed : List ℕ) → HasGiven old taken fed → HasGiven new taken (fed ++ more)
-  pub limit : new.limit ≡ old.limit
-  pub wanted : new.progress.gathering.wanted ≡ old.progress.gathering.wanted
-  pub none : new.fault ≡ None
-  pub each : EachHasEnd old.progress new.progress
-
-pub to_hear : (events : Events) (fed more : List ℕ) (told : Tellings) (old new : Followed) → IsFollowed events fed told old → Fed old.capture new.capture more
-    → new.hearing ≡ old.hearing → new.told ≡ old.told → AreToHear events (fed ++ more) (told ++ new.told.items) new
-to_hear events fed more told old new is feeds hearing same =
-    let limit : new.capture.limit ≡ followed_extent events = feeds.limit ∙ is.limit in
-    let wanted : new.capture.progress.gathering.wanted ≡ followed_by events = feeds.wanted ∙ is.wanted in
-    let read = taken_of new.capture (followed_extent events) is.taken (fed ++ more) feeds.none limit
-    (feeds.given is.taken fed (given_of old.capture (followed_extent events) is.taken fed is.no_fault is.limit is.read)) in
-    let kept = kept_last events is.taken fed more old.capture.progress new.capture.progress old.capture.pending new.capture.pending is.read read is.wanted wanted is.ends feeds.each in
-    record {
-      taken = is.taken;
-      read = read;
-      no_fault = feeds.none;
-      limit = limit;
-      wanted = wanted;
-      gone = is.read.leads.gathered.made;
-      kept = kept.kept;
-      whole = kept.whole;
-      taken_is = kept.taken_is;
-      ends = kept.ends_is;
-      has_heard = subst (HasHeard events is.read.leads.gathered.made (told ++ new.told.items)) (sym hearing)
-          (subst (λ (v : Tellings). HasHeard events is.read.leads.gathered.made (told ++ v) old.hearing) (ap (λ v. v.items) (sym same)) is.has_heard);
-    }
-
--- ---- once lines were written
+-- no records
+follows_none : (follower : Follower) → Follows follower follower []
+follows_none follower =
+    (refl, λ sound. (sound, λ before written heard. subst (λ (m : List Made). HasHeard follower.events.now m (written ++ follower.told.items) follower.hearing) (sym (append-nil before)) heard))
 
 -- how far a capture was followed, where this is all that was told
 record IsFollowedBy (events : Events) (fed : List ℕ) (all : Tellings) (capture : State) (hearing : Hearing) : Type 0 where
-  taken : List ℕ
-  read : HasTaken (record { limit = followed_extent events; taken = taken }) capture.progress capture.pending fed
+  read : HasTaken (record { limit = followed_extent events; taken = [] }) capture.progress capture.pending fed
   no_fault : capture.fault ≡ None
   limit : capture.limit ≡ followed_extent events
   wanted : capture.progress.gathering.wanted ≡ followed_by events
-  ends : capture.progress.ends ≡ []
   has_heard : HasHeard events read.leads.gathered.made all hearing
 
-pub written : (events : Events) (fed : List ℕ) (told : Tellings) (old new : Followed) → IsFollowed events fed told old → new.capture ≡ old.capture → new.hearing ≡ old.hearing → new.told.items ≡ []
-    → IsFollowed events fed (told ++ old.told.items) new
-written events fed told old new is capture hearing none = from (subst (λ (v : Tellings). IsFollowedBy events fed v new.capture new.hearing) all
-    (subst (IsFollowedBy events fed (told ++ old.told.items) new.capture) (sym hearing)
-    (subst (λ (s : State). IsFollowedBy events fed (told ++ old.told.items) s old.hearing) (sym capture) by)))
-  where
-    by : IsFollowedBy events fed (told ++ old.told.items) old.capture old.hearing
-    by = record {
-      taken = is.taken;
-      read = is.read;
-      no_fault = is.no_fault;
-      limit = is.limit;
-      wanted = is.wanted;
-      ends = is.ends;
-      has_heard = is.has_heard;
-    }
+-- a follower took the records of a piece more, and what they told was written
+module _ (events : Events) (fed piece : List ℕ) (told : Tellings) (old : Followed) (is : IsFollowed events fed told old) (capture : State) (follower : Follower) where
+  followed_by_more : capture.limit ≡ old.capture.limit → capture.progress.gathering.wanted ≡ old.capture.progress.gathering.wanted → capture.fault ≡ None
+      → Sinks Follows old.follower follower (FeedMore old.capture.progress old.capture.pending capture.progress capture.pending piece) → follower.fault ≡ None
+      → (follower.events.now ≡ events) × IsFollowedBy events (fed ++ piece) (told ++ follower.told.items) capture follower.hearing
+  followed_by_more limit wanted none sinks sound =
+      let follows = sinks.took old.follower [] (follows_none old.follower) in
+      let read = sinks.are_read (record { limit = followed_extent events; taken = [] }) fed is.read in
+      let made = is.read.leads.gathered.made in
+      let here = old.follower.events.now in
+      let was = subst (λ (e : Events). HasHeard e made (told ++ old.follower.told.items) old.follower.hearing) (sym is.events_are) is.has_heard in
+      let heard = subst (λ (e : Events). HasHeard e (made ++ sinks.more) (told ++ follower.told.items) follower.hearing) is.events_are ((follows.1 sound).1 made told was) in
+      (follows.0 ∙ is.events_are, record {
+        read = read.0;
+        no_fault = none;
+        limit = limit ∙ is.limit;
+        wanted = wanted ∙ is.wanted;
+        has_heard = subst (λ (m : List Made). HasHeard events m (told ++ follower.told.items) follower.hearing) (sym read.1) heard;
+      })
 
-    all : told ++ old.told.items ≡ (told ++ old.told.items) ++ new.told.items
-    all = sym (append-nil (told ++ old.told.items)) ∙ ap (λ (v : Tellings). (told ++ old.told.items) ++ v) (sym none)
-
-    from : IsFollowedBy events fed ((told ++ old.told.items) ++ new.told.items) new.capture new.hearing → IsFollowed events fed (told ++ old.told.items) new
-    from of = record {
-      taken = of.taken;
-      read = of.read;
-      no_fault = of.no_fault;
-      limit = of.limit;
-      wanted = of.wanted;
-      ends = of.ends;
-      has_heard = of.has_heard;
-    }
+  pub followed_on : (new : Followed) → capture.limit ≡ old.capture.limit → capture.progress.gathering.wanted ≡ old.capture.progress.gathering.wanted → capture.fault ≡ None
+      → Sinks Follows old.follower follower (FeedMore old.capture.progress old.capture.pending capture.progress capture.pending piece) → follower.fault ≡ None
+      → new.capture ≡ capture → new.follower.events.now ≡ follower.events.now → new.follower.hearing ≡ follower.hearing → new.follower.fault ≡ follower.fault → new.follower.told.items ≡ []
+      → IsFollowed events (fed ++ piece) (told ++ follower.told.items) new
+  followed_on new limit wanted none sinks sound same_capture same_events same_hearing same_fault written =
+      let all = told ++ follower.told.items in
+      let by = followed_by_more limit wanted none sinks sound in
+      let whole : all ≡ all ++ new.follower.told.items = sym (append-nil all) ∙ ap (λ (v : Tellings). all ++ v) (sym written) in
+      let now = subst (λ (v : Tellings). IsFollowedBy events (fed ++ piece) v new.capture new.follower.hearing) whole
+      (subst (IsFollowedBy events (fed ++ piece) all new.capture) (sym same_hearing)
+      (subst (λ (s : State). IsFollowedBy events (fed ++ piece) all s follower.hearing) (sym same_capture) by.1)) in
+      record {
+        read = now.read;
+        no_fault = now.no_fault;
+        limit = now.limit;
+        wanted = now.wanted;
+        events_are = same_events ∙ by.0;
+        sound = same_fault ∙ sound;
+        has_heard = now.has_heard;
+      }
 
 -- ---- its end
 
@@ -135,22 +111,22 @@ record HasEnded (events : Events) (made : List Made) (moment : Option ℕ) (step
   written_is : written ≡ written_in [] steps ++ unlost (made_in steps) ended
 
 ended_by_then : (events : Events) (made : List Made) (told : Tellings) (moment : Option ℕ) (old new : Followed) → EndsAt events moment old new
-    → (was : HasHeard events made (told ++ old.told.items) old.hearing) → HasEnded events (made_in was.steps) moment was.steps (told ++ new.told.items)
-ended_by_then events made told None old new (hearing, same) was = record {
+    → (was : HasHeard events made (told ++ old.follower.told.items) old.follower.hearing) → HasEnded events (made_in was.steps) moment was.steps (told ++ new.follower.told.items)
+ended_by_then events made told None old new same was = record {
   ended = [];
-  rows = old.hearing.teller.timeline.rows;
-  have_told = subst (λ (t : Tellings). HaveTold events None (made_in was.steps) t old.hearing.teller.timeline.rows) (sym (append-nil (told_in was.steps))) was.have_told;
+  rows = old.follower.hearing.teller.timeline.rows;
+  have_told = subst (λ (t : Tellings). HaveTold events None (made_in was.steps) t old.follower.hearing.teller.timeline.rows) (sym (append-nil (told_in was.steps))) was.have_told;
   all_last = tt;
-  written_is = ap (λ v. told ++ v.items) same ∙ was.written_is ∙ sym (append-nil (written_in [] was.steps));
+  written_is = ap (λ (f : Follower). told ++ f.told.items) same ∙ was.written_is ∙ sym (append-nil (written_in [] was.steps));
 }
 ended_by_then events made told (Some moment) old new ends was = record {
   ended = ends.ended;
-  rows = new.hearing.teller.timeline.rows;
-  have_told = told_until events (made_in was.steps) moment old.hearing.teller.timeline.rows new.hearing.teller.timeline.rows (told_in was.steps) ends.ended ends.tells was.have_told;
+  rows = new.follower.hearing.teller.timeline.rows;
+  have_told = told_until events (made_in was.steps) moment old.follower.hearing.teller.timeline.rows new.follower.hearing.teller.timeline.rows (told_in was.steps) ends.ended ends.tells was.have_told;
   all_last = ends.last;
-  written_is = ap (λ (t : Tellings). told ++ t) ends.written ∙ sym (append_assoc told old.told.items (unlost_by old.hearing.lost ends.ended))
-      ∙ ap (λ (t : Tellings). t ++ unlost_by old.hearing.lost ends.ended) was.written_is
-      ∙ ap (λ (t : Tellings). written_in [] was.steps ++ t) (unlost_is events made (told ++ old.told.items) old.hearing was ends.ended);
+  written_is = ap (λ (t : Tellings). told ++ t) ends.written ∙ sym (append_assoc told old.follower.told.items (unlost_by old.follower.hearing.lost ends.ended))
+      ∙ ap (λ (t : Tellings). t ++ unlost_by old.follower.hearing.lost ends.ended) was.written_is
+      ∙ ap (λ (t : Tellings). written_in [] was.steps ++ t) (unlost_is events made (told ++ old.follower.told.items) old.follower.hearing was ends.ended);
 }
 
 -- the moment is none where a record has no time
@@ -161,21 +137,21 @@ when_timed false moment timed = refl
 pub ending : (events : Events) (fed : List ℕ) (told : Tellings) (writer : Output) (old new : Followed) (status : ℕ) (cut : Option ℕ) (answer : EventsOutcome)
     → (is : IsFollowed events fed told old)
     → ((taken octets : List ℕ) → HasGiven old.capture taken octets → IsReadToCut old.capture.limit octets (with_taken taken old.capture.progress.gathering) cut)
-    → (events.accept_cut ≡ false → cut ≡ None) → EndsAt events (moment_of old.capture) old new → WroteLines events new.told.items writer
+    → (events.accept_cut ≡ false → cut ≡ None) → EndsAt events (moment_of old.capture) old new → WroteLines events new.follower.told.items writer
     → status ≡ senders_status old.capture.progress.gathering.senders → IsOutcomeOf answer.outcome status old.capture.progress.gathering.report cut
     → map heard_told answer.senders.items ≡ map (sender_heard old) old.capture.progress.gathering.senders
     → Ends events fed told writer answer
 ending events fed told writer old new status cut answer is read accepted ends wrote status_is outcome_is senders =
-    by (same_made extent is.taken fed old.capture.progress old.capture.pending cut is.read given)
+    by (same_made extent [] fed old.capture.progress old.capture.pending cut is.read given)
   where
     extent : Extent
     extent = followed_extent events
 
     gathering : Gathering
-    gathering = with_taken is.taken old.capture.progress.gathering
+    gathering = with_taken [] old.capture.progress.gathering
 
     given : IsReadToCut extent fed gathering cut
-    given = subst (λ (e : Extent). IsReadToCut e fed gathering cut) is.limit (read is.taken fed (given_of old.capture extent is.taken fed is.no_fault is.limit is.read))
+    given = subst (λ (e : Extent). IsReadToCut e fed gathering cut) is.limit (read [] fed (given_of old.capture extent [] fed is.no_fault is.limit is.read))
 
     untimed : Bool
     untimed = old.capture.progress.gathering.report.timing.has_untimed
@@ -189,7 +165,7 @@ ending events fed told writer old new status cut answer is read accepted ends wr
         ∙ ap (λ (b : Before). if untimed then None else moment_up_to events.window b.start old.capture.progress.gathering.report.timing.latest)
         (is.read.leads.context ∙ ap (context_behind (start extent)) (sym blocks))
 
-    was : HasHeard events is.read.leads.gathered.made (told ++ old.told.items) old.hearing
+    was : HasHeard events is.read.leads.gathered.made (told ++ old.follower.told.items) old.follower.hearing
     was = is.has_heard
 
     by : (given.is_read.blocks ≡ is.read.leads.blocks) × (given.is_read.gathered.made ≡ is.read.leads.gathered.made) → Ends events fed told writer answer
@@ -198,7 +174,7 @@ ending events fed told writer old new status cut answer is read accepted ends wr
         (subst (λ (m : Option ℕ). EndsAt events m old new) (same_moment blocks) ends) was in
         let heard = heard_senders events (made_in was.steps) old was.heard answer.senders.items old.capture.progress.gathering.senders senders in
         record {
-          more = new.told.items;
+          more = new.follower.told.items;
           tells = record {
             gathering = gathering;
             cut = cut;
@@ -233,7 +209,7 @@ last_so cmp order events teller suits moment rows last =
     subst (λ (f : Option ℕ). AllLast speaker_cmp f moment rows) suits.factor (subst (λ (k : Speaker → Speaker → Ordering). AllLast k teller.timeline.factor moment rows) order last)
 
 pub ends_by : {T E : Type 0} (result : Result T E) (events : Events) (moment : Option ℕ) (time : ℕ) → moment ≡ Some time → (old new : Followed)
-    → OnOk result (EndsBy events time old.hearing.teller.timeline.rows new.hearing.teller.timeline.rows old.hearing.lost old.told.items new.told.items)
+    → OnOk result (EndsBy events time old.follower.hearing.teller.timeline.rows new.follower.hearing.teller.timeline.rows old.follower.hearing.lost old.follower.told.items new.follower.told.items)
     → OnOk result (EndsAt events moment old new)
 ends_by (Ok done) events moment time is old new ends = subst (λ (m : Option ℕ). EndsAt events m old new) (sym is) ends
 ends_by (Err fault) events moment time is old new ends = tt

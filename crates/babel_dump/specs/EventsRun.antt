@@ -8,7 +8,7 @@ use Rattle.std.specs.List.{AllByRecursion, filter, flat_map, list_any}
 use Rattle.std.specs.Map.{keys_of}
 use Rattle.std.specs.Option.{is_some, option_map}
 use Rattle.babel_prefix.specs.Address.{Address}
-use Rattle.babel_capture.specs.declared.noted.Missed.{Missed}
+use Rattle.babel_capture.specs.declared.missed.Missed.{Missed}
 use Rattle.babel_capture.specs.declared.place.Place.{Place}
 use Rattle.babel_capture.specs.declared.tallies.Origin.{Origin}
 use Rattle.babel_capture.specs.declared.wanted.Wanted.{Wanted}

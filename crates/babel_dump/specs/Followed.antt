@@ -4,8 +4,7 @@ use Rattle.std.specs.Prelude.{length}
 use Rattle.std.specs.BTreeSet.{BTreeSet, contains}
 use Rattle.std.specs.List.{filter, flat_map}
 use Rattle.babel_capture.specs.Counts.{Made}
-use Rattle.babel_capture.specs.Gathering.{Gathering, dump_of, name_of}
-use Rattle.babel_capture.specs.PacketEnds.{ends_of}
+use Rattle.babel_capture.specs.Gathering.{Gathering, name_of}
 use Rattle.babel_capture.specs.Reading.{HasTaken}
 use Rattle.babel_capture.specs.declared.tallies.Origin.{Origin}
 use Rattle.babel_timeline.specs.Hearing.{CountsPacket, octets_heard, report_of}
@@ -25,6 +24,7 @@ use Rattle.babel_dump.specs.Run.{Output}
 use Rattle.babel_dump.specs.Speakers.{speaker_cmp}
 use Rattle.babel_dump.specs.declared.events.Followed.{Followed}
 use Rattle.babel_dump.specs.declared.events_job.Events.{Events}
+use Rattle.babel_dump.specs.declared.follower.Follower.{Follower}
 use Rattle.babel_dump.specs.declared.hearing.Hearing.{Hearing}
 use Rattle.babel_dump.specs.declared.events_outcome.EventsOutcome.{EventsOutcome}
 use Rattle.babel_dump.specs.declared.speaker.Speaker.{Speaker}
@@ -56,40 +56,31 @@ pub record HasHeard (events : Events) (made : List Made) (written : List (Tellin
   pub heard : (speaker : Speaker)
       → IsHeardOf events (made_in steps) hearing.teller.heard.entries speaker
 
+-- these records made the second of the first: of what they told this is to be written besides
+abbrev pub Follows : Follower → Follower → List Made → Type 0
+Follows start now made =
+    (now.events.now ≡ start.events.now) × (now.fault ≡ None → (start.fault ≡ None)
+    × ((before : List Made) (written : List (Telling Speaker))
+    → HasHeard start.events.now before (written ++ start.told.items) start.hearing
+    → HasHeard start.events.now (before ++ made) (written ++ now.told.items) now.hearing))
+
 -- of what is told now, that of senders that are not lost
 abbrev pub unlost_by : BTreeSet Speaker → List (Telling Speaker) → List (Telling Speaker)
 unlost_by lost told = filter (λ one. not (contains speaker_cmp lost (speaker_of one))) told
-
--- of the capture these octets were read, the records before those that it keeps were heard, and
--- of what they told this is to be written
-pub record AreToHear (events : Events) (fed : List ℕ) (written : List (Telling Speaker))
-    (followed : Followed) : Type 0 where
-  pub taken : List ℕ
-  pub read : HasTaken (record { limit = followed_extent events; taken = taken })
-      followed.capture.progress followed.capture.pending fed
-  pub no_fault : followed.capture.fault ≡ None
-  pub limit : followed.capture.limit ≡ followed_extent events
-  pub wanted : followed.capture.progress.gathering.wanted ≡ followed_by events
-  pub gone : List Made
-  pub kept : List Made
-  pub whole : read.leads.gathered.made ≡ gone ++ kept
-  pub taken_is : taken ≡ dump_of (followed_by events) gone
-  pub ends : followed.capture.progress.ends ≡ ends_of (followed_by events) kept
-  pub has_heard : HasHeard events gone written followed.hearing
 
 -- of the capture these octets were read, all of its records that are whole were heard, and this was
 -- written before what is told and not written yet
 pub record IsFollowed (events : Events) (fed : List ℕ) (written : List (Telling Speaker))
     (followed : Followed) : Type 0 where
-  pub taken : List ℕ
-  pub read : HasTaken (record { limit = followed_extent events; taken = taken })
+  pub read : HasTaken (record { limit = followed_extent events; taken = [] })
       followed.capture.progress followed.capture.pending fed
   pub no_fault : followed.capture.fault ≡ None
   pub limit : followed.capture.limit ≡ followed_extent events
   pub wanted : followed.capture.progress.gathering.wanted ≡ followed_by events
-  pub ends : followed.capture.progress.ends ≡ []
-  pub has_heard : HasHeard events read.leads.gathered.made (written ++ followed.told.items)
-      followed.hearing
+  pub events_are : followed.follower.events.now ≡ events
+  pub sound : followed.follower.fault ≡ None
+  pub has_heard : HasHeard events read.leads.gathered.made (written ++ followed.follower.told.items)
+      followed.follower.hearing
 
 -- the line of what is told, with the name of its interface
 abbrev pub named_event : Events → Gathering → Telling Speaker → List ℕ
@@ -120,10 +111,11 @@ pub record EndsBy (events : Events) (moment : ℕ) (rows after : Rows Speaker)
 
 -- the same where there is a moment, and nothing where there is none
 abbrev pub EndsAt : Events → Option ℕ → (old new : Followed) → Type 0
-EndsAt events None old new = (new.hearing ≡ old.hearing) × (new.told ≡ old.told)
+EndsAt events None old new = new.follower ≡ old.follower
 EndsAt events (Some moment) old new =
-    EndsBy events moment old.hearing.teller.timeline.rows new.hearing.teller.timeline.rows
-    old.hearing.lost old.told.items new.told.items
+    EndsBy events moment old.follower.hearing.teller.timeline.rows
+    new.follower.hearing.teller.timeline.rows old.follower.hearing.lost old.follower.told.items
+    new.follower.told.items
 
 -- These octets are all of a capture that was followed so far. The writer took the lines of what is
 -- told besides, up to the moment that it was read to.

@@ -17,7 +17,7 @@ abbrev pub heard_of : Followed → Origin → Origin × List ℕ × Counts
 heard_of followed origin = (
   origin,
   name_of followed.capture.progress.gathering origin.place.interface,
-  report_of speaker_cmp followed.hearing.teller.heard.entries
+  report_of speaker_cmp followed.follower.hearing.teller.heard.entries
       (record { sender = origin.sender; place = origin.place }),
 )
 

@@ -12,7 +12,7 @@ use crate::byte_in::ByteIn;
 use crate::capture_reading::CaptureReading;
 use crate::input_fault::InputFault;
 use crate::left_out::first_left_out;
-use babel_capture::{Capture, Fault, Wanted};
+use babel_capture::{Capture, Fault, NoSink, Wanted};
 use std::alloc::Global;
 
 /// How many octets one read asks for.
@@ -136,7 +136,7 @@ pub(crate) fn feed_all<R: ByteIn>(
     'reads: for _ in 0..u64::from(reading.limit) + LONGEST_HEADER {
         match reader.read(&mut piece) {
             Ok(0) => return Ok(()),
-            Ok(n) => capture.feed(&piece[..n])?,
+            Ok(n) => capture.feed(&piece[..n], &mut NoSink)?,
             Err(_) => return Err(InputFault::Read),
         }
     }

@@ -20,7 +20,7 @@ use crate::input_fault::InputFault;
 use crate::interfaces::interfaces_of;
 use crate::left_out::{LeftOutDatagram, first_left_out};
 use crate::reading::Reading;
-use babel_capture::{Capture, Fault, PacketEnd, Report, Time};
+use babel_capture::{Capture, Fault, NoSink, PacketEnd, Report, Time};
 use babel_tlv::Fault as DumpFault;
 use std::alloc::Global;
 use std::io;
@@ -175,7 +175,7 @@ impl<R: Read + Drop> Source<R> {
             }
             Ok(n) => {
                 self.capture.take_dump();
-                match self.capture.feed(&piece[..n]) {
+                match self.capture.feed(&piece[..n], &mut NoSink) {
                     Ok(()) => true,
                     Err(fault) => {
                         self.end = Some(Err(InputFault::Capture(fault)));

@@ -9,7 +9,7 @@ ghost use Rattle.babel_timeline.specs.declared.telling.Telling.{Telling as Telli
 ghost use Rattle.babel_dump.specs.CaptureText.{senders_status};
 ghost use Rattle.babel_dump.specs.Device.{HasRoomToCount, HasRoomToWrite};
 ghost use Rattle.babel_dump.specs.EventsRun.{TellsEvents, WroteLines};
-ghost use Rattle.babel_dump.specs.Followed.{AreToHear, Ends, EndsAt, Goes, HasFollowed, IsFollowed};
+ghost use Rattle.babel_dump.specs.Followed.{Ends, EndsAt, Goes, HasFollowed, IsFollowed};
 ghost use Rattle.babel_dump.specs.Followed.{Suits, named_event};
 ghost use Rattle.babel_dump.specs.HeardSenders.{heard_of, heard_told, sender_heard};
 ghost use Rattle.babel_dump.specs.Run.{output};
@@ -23,7 +23,7 @@ use crate::event_line::write_event;
 use crate::events_fault::EventsFault;
 use crate::events_job::Events;
 use crate::events_outcome::{EventsOutcome, HeardSender};
-use crate::hearing::Hearing;
+use crate::follower::Follower;
 use crate::input_fault::InputFault;
 use crate::notices::Notices;
 use crate::outcome::{Outcome, Reports};
@@ -43,12 +43,9 @@ const MOST: u64 = 1 << 62;
 
 /// A capture that is followed: how far it was read, and what its senders hold.
 #[derive(Drop)]
-struct Followed {
-    /// It keeps the packets that were read last, and were not heard yet.
+struct Followed<'a> {
     capture: Capture,
-    hearing: Hearing,
-    /// What was told and is not written yet.
-    told: Vec<Telling<Speaker>>,
+    follower: Follower<'a>,
     /// It is empty between two reads.
     buffer: Vec<u8>,
 }
@@ -78,11 +75,11 @@ pub fn run_events<R: ByteIn, W: ByteOut, N: Notices>(
     }
 }
 
-impl Followed {
+impl<'a> Followed<'a> {
     /// A capture of which nothing was read.
-    fn new(alloc: Global, events: &Events) -> Result<Followed, EventsFault>
+    fn new(alloc: Global, events: &'a Events) -> Result<Followed<'a>, EventsFault>
         ensures none { IfOk result (IsFollowed events.now [] []) }
-        ensures told { IfOk result (λ followed. followed.told.items ≡ []) }
+        ensures told { IfOk result (λ followed. followed.follower.told.items ≡ []) }
         ensures empty { IfOk result (λ followed. followed.buffer.items ≡ []) }
         ensures room { IfOk result (λ followed. 384 ≤ vec_capacity followed.buffer) }
     {
@@ -90,11 +87,10 @@ impl Followed {
         let (sender, place) = (events.sender, events.place);
         let wanted = Wanted::InTurn { sender, place };
         let capture = Capture::within(alloc, MOST, events.window, events.accept_cut, wanted);
-        let hearing = Hearing::new(alloc, events);
+        let follower = Follower::new(alloc, events);
         Ok(Followed {
             capture,
-            hearing,
-            told: Vec::new(alloc),
+            follower,
             buffer,
         })
     }
@@ -110,10 +106,10 @@ impl Followed {
         requires reader { HasRoomToCount (R.state reader.old) }
         requires writer { HasRoomToWrite (W.state writer.old) }
         requires none { IsFollowed events.now [] [] self.old }
-        requires told { self.old.told.items ≡ [] }
+        requires told { self.old.follower.told.items ≡ [] }
         requires empty { self.old.buffer.items ≡ [] }
         requires room { 384 ≤ vec_capacity self.old.buffer }
-        ensures told { OnOk result (self.new.told.items ≡ []) }
+        ensures told { OnOk result (self.new.follower.told.items ≡ []) }
         ensures empty { OnOk result (self.new.buffer.items ≡ []) }
         ensures room { OnOk result (384 ≤ vec_capacity self.new.buffer) }
         ensures failures { OnOk result ((W.state writer.new).failures
@@ -145,10 +141,10 @@ impl Followed {
     ) -> Result<(), EventsFault>
         requires few_failures { (W.state writer.old).failures < 2 ^ 64 - 1 }
         requires few_flushes { (W.state writer.old).flushes < 2 ^ 64 - 1 }
-        requires told { self.old.told.items ≡ [] }
+        requires told { self.old.follower.told.items ≡ [] }
         requires empty { self.old.buffer.items ≡ [] }
         requires room { 384 ≤ vec_capacity self.old.buffer }
-        ensures told { OnOk result (self.new.told.items ≡ []) }
+        ensures told { OnOk result (self.new.follower.told.items ≡ []) }
         ensures empty { OnOk result (self.new.buffer.items ≡ []) }
         ensures room { OnOk result (384 ≤ vec_capacity self.new.buffer) }
         ensures failures { OnOk result ((W.state writer.new).failures
@@ -159,29 +155,14 @@ impl Followed {
             → IsFollowed events.now fed told self.old → Goes events.now (fed ++ piece.now) told
             (output (W.state writer.old) (W.state writer.new)) self.new) }
     {
-        let fed = self.capture.feed(piece);
-        let heard = self.hear(events, notices);
+        let fed = self.capture.feed(piece, &mut self.follower);
+        self.follower.say_lost(self.capture.gathered(), notices);
         self.write(events, writer)?;
-        heard?;
+        self.follower.fault()?;
         match fed {
             Ok(()) => Ok(()),
             Err(fault) => Err(of_capture(fault)),
         }
-    }
-
-    /// Hears the packets that were read and not heard yet, in turn.
-    fn hear<N: Notices>(&mut self, events: &Events, notices: &mut N) -> Result<(), EventsFault>
-        ensures buffer { self.new.buffer ≡ self.old.buffer }
-        ensures heard { OnOk result ((fed : List ℕ) (told : List (TellingSaid SpeakerSaid))
-            → AreToHear events.now fed (told ++ self.old.told.items) self.old
-            → IsFollowed events.now fed told self.new) }
-    {
-        let (gathered, ends) = (self.capture.gathered(), self.capture.ends());
-        let told = &mut self.told;
-        self.hearing
-            .hear_records(events, gathered, ends, notices, told)?;
-        self.capture.take_dump();
-        Ok(())
     }
 
     /// Writes the lines of what was told, and flushes.
@@ -190,20 +171,24 @@ impl Followed {
         requires few_flushes { (W.state writer.old).flushes < 2 ^ 64 - 1 }
         requires empty { self.old.buffer.items ≡ [] }
         requires room { 384 ≤ vec_capacity self.old.buffer }
-        ensures same { (self.new.capture ≡ self.old.capture) × (self.new.hearing ≡ self.old.hearing) }
-        ensures told { OnOk result (self.new.told.items ≡ []) }
+        ensures same { (self.new.capture ≡ self.old.capture)
+            × (self.new.follower.events.now ≡ self.old.follower.events.now)
+            × (self.new.follower.hearing ≡ self.old.follower.hearing)
+            × (self.new.follower.fault ≡ self.old.follower.fault) }
+        ensures told { OnOk result (self.new.follower.told.items ≡ []) }
         ensures empty { OnOk result (self.new.buffer.items ≡ []) }
         ensures room { OnOk result (384 ≤ vec_capacity self.new.buffer) }
         ensures failures { OnOk result ((W.state writer.new).failures
             ≡ (W.state writer.old).failures) }
         ensures flushes { OnOk result ((W.state writer.new).flushes
             ≡ (W.state writer.old).flushes + 1) }
-        ensures lines { OnOk result (WroteLines events.now self.old.told.items
+        ensures lines { OnOk result (WroteLines events.now self.old.follower.told.items
             (output (W.state writer.old) (W.state writer.new))) }
     {
         let gathered = self.capture.gathered();
-        write_told(writer, events, gathered, &self.told, &mut self.buffer)?;
-        self.told.clear();
+        let told = &self.follower.told;
+        write_told(writer, events, gathered, told, &mut self.buffer)?;
+        self.follower.told.clear();
         write_text(writer, &self.buffer)?;
         self.buffer.clear();
         Ok(())
@@ -219,11 +204,11 @@ impl Followed {
     ) -> Result<EventsOutcome, EventsFault>
         requires few_failures { (W.state writer.old).failures < 2 ^ 64 - 1 }
         requires few_flushes { (W.state writer.old).flushes < 2 ^ 64 - 1 }
-        requires told { self.told.items ≡ [] }
+        requires told { self.follower.told.items ≡ [] }
         requires empty { self.buffer.items ≡ [] }
         requires room { 384 ≤ vec_capacity self.buffer }
         ensures { IfOk result (λ answer. (fed : List ℕ) (told : List (TellingSaid SpeakerSaid))
-            → IsFollowed events.now fed told self → Ends events.now fed told
+            → IsFollowed events.now fed told self.entry → Ends events.now fed told
             (output (W.state writer.old) (W.state writer.new)) answer) }
     {
         let cut = self.cut(events)?;
@@ -258,7 +243,7 @@ impl Followed {
         let Origin { place, sender } = origin;
         let mut name = Vec::new(alloc);
         name.extend_from_slice(self.capture.gathered().name(place.interface))?;
-        let report = self.hearing.report(Speaker { sender, place });
+        let report = self.follower.hearing.report(Speaker { sender, place });
         Ok(HeardSender {
             origin,
             name,
@@ -279,11 +264,14 @@ impl Followed {
     fn expire(&mut self, events: &Events) -> Result<(), AllocError>
         ensures same { (self.new.capture ≡ self.old.capture)
             × (self.new.buffer ≡ self.old.buffer) }
-        ensures ends { Suits events.now self.old.hearing.teller → OnOk result
+        ensures ends { Suits events.now self.old.follower.hearing.teller → OnOk result
             (EndsAt events.now (moment_read self.old.capture) self.old self.new) }
     {
         match self.capture.moment() {
-            Some(moment) => self.hearing.expire(events, moment, &mut self.told),
+            Some(moment) => {
+                let follower = &mut self.follower;
+                follower.hearing.expire(events, moment, &mut follower.told)
+            }
             None => Ok(()),
         }
     }

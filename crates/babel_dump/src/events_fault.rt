@@ -1,6 +1,7 @@
 ghost use Rattle.std.specs.Prelude.{◌≡◌};
 ghost use Rattle.babel_dump.specs.EventsStatus.{events_status};
 
+use crate::hearing::Unheard;
 use crate::input_fault::InputFault;
 use crate::place_word::NamedOrigin;
 use crate::write::WriteFailed;
@@ -50,6 +51,19 @@ impl From<AllocError> for EventsFault {
 
     fn from(_error: AllocError) -> EventsFault {
         EventsFault::Input(InputFault::Dump(Fault::Memory))
+    }
+}
+
+impl From<Unheard> for EventsFault {
+    fn from(fault: Unheard) -> EventsFault {
+        match fault {
+            Unheard::Memory => EventsFault::from(AllocError),
+            Unheard::Sender { origin, fault } => EventsFault::Sender {
+                origin,
+                name: None,
+                fault,
+            },
+        }
     }
 }
 

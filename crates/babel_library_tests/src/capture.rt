@@ -2,7 +2,7 @@
 //! packets are of examples/routers/babeld-basic-a.pcap, and what they give is of the dump beside
 //! it; the blocks round them are worked by hand from draft-ietf-opsawg-pcap and
 //! draft-ietf-opsawg-pcapng.
-use babel_capture::{Capture, Fault, Wanted};
+use babel_capture::{Capture, Fault, NoSink, Wanted};
 use babel_prefix::{Addr, Family};
 use std::alloc::Global;
 use std::test::Fail;
@@ -80,10 +80,10 @@ fn dump_of(
         ends: false,
     };
     let mut capture = Capture::new(alloc, 4_096, wanted);
-    capture.feed(first)?;
+    capture.feed(first, &mut NoSink)?;
     let mut dump = capture.take_dump();
     for piece in rest.chunks(step.max(1)) {
-        capture.feed(piece)?;
+        capture.feed(piece, &mut NoSink)?;
     }
     dump.extend_from_slice(capture.finish()?.dump())?;
     Ok(dump)

@@ -1,105 +1,70 @@
-use Rattle.std.proofs.Common.{◌≡◌, ℕ, List, ◌+◌, ◌++◌, length, arith, ap, sym, subst, ◌∙◌}
-use Rattle.std.specs.Prelude.{IsTrue, Ok, ◌&&◌}
-use Rattle.std.proofs.lemmas.Result.{err_from_is_err_and}
-use Rattle.babel_capture.specs.declared.packet_end.PacketEnd.{PacketEnd}
+use Rattle.std.proofs.Common.{◌≡◌, ◌+◌, List, ℕ, [], length, ap, refl, sym, subst, ◌∙◌, true}
+use Rattle.std.specs.Prelude.{Ok, Option, None, Some}
+use Rattle.babel_capture.specs.declared.sink.Record.{Record}
 use Rattle.babel_capture.specs.declared.wanted.Wanted.{Wanted}
 use Rattle.babel_capture.specs.Blocks.{IsBlock, Sighting, sightings_in}
-use Rattle.babel_capture.specs.Contents.{Content, block_said, content_of, context_after}
-use Rattle.babel_capture.specs.Context.{Before}
-use Rattle.babel_capture.specs.Findings.{is_in_turn}
-use Rattle.babel_capture.specs.Gathering.{BlockNeedsMemory, Gathering, IsGathered, NotedIs, with_taken}
-use Rattle.babel_capture.specs.PacketEnds.{is_noted, is_packet, time_told}
-use Rattle.babel_capture.specs.Reading.{Account, EachHasEnd, Progress, LeadTo}
+use Rattle.babel_capture.specs.Contents.{Content, block_said, content_of}
+use Rattle.babel_capture.specs.Counts.{Made}
+use Rattle.babel_capture.specs.Gathering.{BlockNeedsMemory, Gathering, HoldsPacket}
+use Rattle.babel_capture.specs.PacketEnds.{are_noted}
+use Rattle.babel_capture.specs.Reading.{Progress}
+use Rattle.babel_capture.specs.Sinking.{AreTold, GatherMore, LeadMore, Sinks}
 use Rattle.babel_capture.specs.contracts.reader.Reader.{the_view}
-use Rattle.babel_capture.proofs.EndLaws.{noted, noted-needs}
+use Rattle.babel_capture.proofs.EndLaws.{noted-needs, noted_told}
 use Rattle.babel_capture.proofs.MemoryLaws.{if-memory}
-use Rattle.babel_capture.proofs.ReadingLaws.{lead-push, turns-push}
+use Rattle.babel_capture.proofs.ReadingLaws.{lead-push, sinks-none, sinks-told, some_of}
 use Rattle.babel_capture.proofs.reader.Reader.take_block.Goals as goal
 
-pub overflow_add-self : goal.overflow_add-self
-overflow_add-self c =
-    omega (
-      arith,
-      c.requires.room,
-      c.requires.some,
-      c.self.invariant.0,
-      c.self.invariant.1,
-      c.requires.fits,
-      ap (λ (p : Progress). p.context.limit) c.self.view_is,
-      ap (λ (p : Progress). p.at) c.self.view_is,
-    )
+-- what is told of a block
+abbrev Gathers : (old new : Gathering) → List Sighting → Option Record → Type 0
+Gathers old new sightings told = (more : List Made) × AreTold told more × GatherMore old new sightings more
 
-pub take_said-requires : goal.take_said-requires
-take_said-requires c =
-    omega (
-      arith,
-      c.requires.room,
-      c.requires.some,
-      c.self.invariant.0,
-      c.self.invariant.1,
-      c.requires.fits,
-      ap (λ (p : Progress). p.context.limit) c.self.view_is,
-      ap (λ (p : Progress). p.at) c.self.view_is,
-    )
-
-pub returns-clause-ok : goal.returns-clause-ok
-returns-clause-ok c =
+pub returns-in_ok-note_end-in-Ok-Some-clause-ok : goal.returns-in_ok-note_end-in-Ok-Some-clause-ok
+returns-in_ok-note_end-in-Ok-Some-clause-ok g c =
     let old = the_view c.self.inside in
-    let new = the_view (record { context = c.take.new.self; gathered = c.self-2.inside.gathered; ends = c.self-2.inside.ends; at = c.self-2.inside.at; passed = c.self-2.inside.passed }) in
-    let said = c.in_ok-said.said in
-    let content = content_of said in
-    let number = old.gathering.report.packets + 1 in
-    let is_block = subst (λ (p : Progress). IsBlock p.context p.at c.args.block.now) (sym c.self.view_is) c.requires.is_block in
-    let others = c.note_end.ensures.others in
-    let context : new.context ≡ context_after old.context content =
-    c.in_ok-take.ensures.ok ∙ ap (λ (b : Before). context_after b content) (ap (λ (p : Progress). p.context) c.self-2.view_is ∙ others.0) in
-    let same : new.gathering ≡ c.take_said.new.self = ap (λ (p : Progress). p.gathering) c.self-2.view_is ∙ others.1 in
-    let gathers : (taken : List ℕ) (before : List Sighting) → IsGathered before (with_taken taken old.gathering)
-    → IsGathered (before ++ sightings_in number old.at content) (with_taken taken new.gathering) =
-    subst (λ (g : Gathering). (taken : List ℕ) (before : List Sighting) → IsGathered before (with_taken taken old.gathering)
-    → IsGathered (before ++ sightings_in number old.at content) (with_taken taken g))
-    (sym same) c.in_ok-noted.ensures.ok in
-    let note = c.in_ok-noted.noted in
-    let wanted : new.gathering.wanted ≡ old.gathering.wanted = ap (λ (g : Gathering). g.wanted) same ∙ c.take_said.ensures.wanted in
-    let added = subst (λ (w : Wanted). NotedIs w content note) (sym wanted) c.in_ok-noted.ensures.noted in
-    let ends = subst (λ (g : Gathering). new.ends ≡ noted (is_packet content && is_in_turn g.wanted)
-    (record { end = length g.dump; number = g.report.packets; time = time_told content; origin = note.origin; missed = note.missed }) old.ends) (sym same)
-    (ap (λ (p : Progress). p.ends) c.self-2.view_is ∙ c.in_ok-note_end.ensures.ends) in
-    subst (λ (p : Progress). (account : Account) (read : List ℕ) → LeadTo account read p → LeadTo account (read ++ c.args.block.now) new) c.self.view_is
-    (λ account read lead. lead-push account read c.args.block.now old new content note is_block c.in_ok-said.ensures.ok context (ap (λ (p : Progress). p.at) c.self-2.view_is ∙ others.2) gathers
-    (ap (λ (g : Gathering). g.names) same ∙ c.in_ok-noted.ensures.names) wanted added ends lead)
-
-pub returns-clause-turns : goal.returns-clause-turns
-returns-clause-turns c =
-    let old = the_view c.self.inside in
-    let new = the_view (record { context = c.take.new.self; gathered = c.self-2.inside.gathered; ends = c.self-2.inside.ends; at = c.self-2.inside.at; passed = c.self-2.inside.passed }) in
+    let new = c.note_end.new.self in
     let content = content_of c.in_ok-said.said in
-    let same : new.gathering ≡ c.take_said.new.self = ap (λ (p : Progress). p.gathering) c.self-2.view_is ∙ c.note_end.ensures.others.1 in
-    let end : PacketEnd =
-    record { end = length c.take_said.new.self.dump; number = c.take_said.new.self.report.packets; time = time_told content; origin = c.in_ok-noted.noted.origin; missed = c.in_ok-noted.noted.missed } in
-    let ends : new.ends ≡ noted (is_packet content && is_in_turn old.gathering.wanted) end old.ends =
-    ap (λ (p : Progress). p.ends) c.self-2.view_is ∙ c.in_ok-note_end.ensures.ends
-    ∙ ap (λ (w : Wanted). noted (is_packet content && is_in_turn w) end old.ends) c.take_said.ensures.wanted in
-    subst (λ (p : Progress). EachHasEnd p new) c.self.view_is
-    (turns-push old new content end ends c.in_ok-noted.ensures.noted (ap (λ (g : Gathering). g.report.packets) same ∙ c.in_ok-noted.ensures.counted))
+    let told = c.in-Ok-Some.told in
+    let gathers = subst (Gathers old.gathering c.take_said.new.self (sightings_in (old.gathering.report.packets + 1) old.at content)) c.in-Ok-Some.field-0-is c.in-Ok-Some.ensures.ok in
+    let others = c.note_end.ensures.others in
+    let is_block = subst (λ (p : Progress). IsBlock p.context p.at c.args.block.now) (sym c.self.view_is) c.requires.is_block in
+    let goes = subst (λ (t : Gathering). GatherMore old.gathering t (sightings_in (old.gathering.report.packets + 1) old.at content) gathers.0) (sym others.1) gathers.2 in
+    let ends = subst (λ (t : Gathering). new.ends ≡ noted_told t.wanted (length t.dump) (Some told) old.ends) (sym others.1) c.in_ok-note_end-in-Ok-Some.ensures.ends in
+    subst (λ (p : Progress). Sinks g.S.Sink.has c.args.sink.now c.take-in-Ok-Some.new.self (LeadMore p new c.args.block.now)) c.self.view_is
+    (sinks-told g.S.Sink.has c.args.sink.now c.take-in-Ok-Some.new.self (LeadMore old new c.args.block.now) told gathers.0 gathers.1 c.take-in-Ok-Some.ensures
+    (lead-push c.args.block.now old new content (Some told) gathers.0 is_block c.in_ok-said.ensures.ok (others.0 ∙ c.in_ok-take.ensures.ok) others.2 gathers.1 goes
+    (ap (λ (t : Gathering). t.names) others.1 ∙ c.in-Ok-Some.ensures.names) (ap (λ (t : Gathering). t.wanted) others.1 ∙ c.take_said.ensures.wanted) ends))
+
+pub returns-in-Ok-None-clause-ok : goal.returns-in-Ok-None-clause-ok
+returns-in-Ok-None-clause-ok g c =
+    let old = the_view c.self.inside in
+    let new = the_view (record { context = c.take.new.self; gathered = c.take_said.new.self; ends = c.self.inside.ends; at = c.self.inside.at + length c.args.block.now; passed = c.self.inside.passed }) in
+    let content = content_of c.in_ok-said.said in
+    let gathers = subst (Gathers old.gathering c.take_said.new.self (sightings_in (old.gathering.report.packets + 1) old.at content)) c.in-Ok-None.field-0-is c.in-Ok-None.ensures.ok in
+    let is_block = subst (λ (p : Progress). IsBlock p.context p.at c.args.block.now) (sym c.self.view_is) c.requires.is_block in
+    let lead = lead-push c.args.block.now old new content None gathers.0 is_block c.in_ok-said.ensures.ok c.in_ok-take.ensures.ok refl gathers.1 gathers.2 c.in-Ok-None.ensures.names
+    c.take_said.ensures.wanted refl in
+    subst (λ (p : Progress). Sinks g.S.Sink.has c.args.sink.now c.args.sink.now (LeadMore p new c.args.block.now)) c.self.view_is
+    (sinks-none g.S.Sink.has c.args.sink.now (LeadMore old new c.args.block.now) (subst (LeadMore old new c.args.block.now) gathers.1 lead))
 
 -- the block says what needs memory
 abbrev Needs : List ℕ → Progress → Type 0
 Needs block old = (content : Content) × (block_said old.context old.at block ≡ Ok content) × BlockNeedsMemory old.gathering.wanted old.gathering.senders content
 
-pub returns-in_err-noted-clause-memory : goal.returns-in_err-noted-clause-memory
-returns-in_err-noted-clause-memory c =
-    let exit = err_from_is_err_and c.from_residual-in_err-noted.result c.from_residual-in_err-noted.ensures.1 in
-    rw (exit.1, exit.2) (λ memory. subst (Needs c.args.block.now) c.self.view_is (content_of c.in_ok-said.said, c.in_ok-said.ensures.ok, c.in_err-noted.ensures.memory memory))
+pub returns-in-Err-clause-memory : goal.returns-in-Err-clause-memory
+returns-in-Err-clause-memory g c memory =
+    subst (Needs c.args.block.now) c.self.view_is (content_of c.in_ok-said.said, c.in_ok-said.ensures.ok, c.in-Err.ensures.memory memory)
 
-pub returns-in_err-note_end-clause-memory : goal.returns-in_err-note_end-clause-memory
-returns-in_err-note_end-clause-memory c =
+pub returns-in_err-note_end-in-Ok-Some-clause-memory : goal.returns-in_err-note_end-in-Ok-Some-clause-memory
+returns-in_err-note_end-in-Ok-Some-clause-memory g c =
     let content = content_of c.in_ok-said.said in
-    let noted = subst (λ (w : Wanted). IsTrue (is_noted (is_packet content && is_in_turn w) c.in_ok-noted.noted.origin)) c.take_said.ensures.wanted c.in_err-note_end.ensures.err.1 in
-    let needs = noted-needs c.self.inside.gathered.wanted c.self.inside.gathered.senders content c.in_ok-noted.noted c.in_ok-noted.ensures.noted noted in
-    if-memory c.from_residual-in_err-note_end.result (Needs c.args.block.now c.args.self.now) (subst (Needs c.args.block.now) c.self.view_is (content, c.in_ok-said.ensures.ok, needs))
+    let err = c.in_err-note_end-in-Ok-Some.ensures.err in
+    let is_noted = subst (λ (w : Wanted). are_noted w ≡ true) c.take_said.ensures.wanted err.1 in
+    let needs = noted-needs c.self.inside.gathered.wanted c.self.inside.gathered.senders content c.in-Ok-Some.told
+    (some_of c.in-Ok-Some.field-0 c.in-Ok-Some.told (λ told. HoldsPacket c.self.inside.gathered.wanted content told) c.in-Ok-Some.field-0-is c.in-Ok-Some.ensures.found) is_noted err.2 in
+    if-memory c.from_residual-in_err-note_end-in-Ok-Some.result (Needs c.args.block.now c.args.self.now) (subst (Needs c.args.block.now) c.self.view_is (content, c.in_ok-said.ensures.ok, needs))
 
 pub returns-in_err-take-clause-memory : goal.returns-in_err-take-clause-memory
-returns-in_err-take-clause-memory c =
+returns-in_err-take-clause-memory g c =
     if-memory c.from_residual-in_err-take.result (Needs c.args.block.now c.args.self.now)
     (subst (Needs c.args.block.now) c.self.view_is (content_of c.in_ok-said.said, c.in_ok-said.ensures.ok, c.in_err-take.ensures.err c.self.inside.gathered.wanted c.self.inside.gathered.senders))

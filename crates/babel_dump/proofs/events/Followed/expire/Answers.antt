@@ -5,5 +5,6 @@ use Rattle.babel_dump.proofs.events.Followed.expire.Goals as goal
 
 pub returns-in-Some-clause-ends : goal.returns-in-Some-clause-ends
 returns-in-Some-clause-ends c suits =
-    ends_by c.expire.result c.args.events.now (moment_read c.args.self.now.capture) c.in-Some.moment (sym c.moment.ensures ∙ c.in-Some.is) c.args.self.now
-    (record c.args.self.now { hearing = c.expire.new.self; told = c.expire.new.told }) (c.expire.ensures suits)
+    let old = c.args.self.now in
+    ends_by c.expire.result c.args.events.now (moment_read old.capture) c.in-Some.moment (sym c.moment.ensures ∙ c.in-Some.is) old
+    (record old { follower = record old.follower { hearing = c.expire.new.self; told = c.expire.new.told } }) (c.expire.ensures suits)

@@ -7,7 +7,7 @@ use Rattle.babel_dump.proofs.events.Followed.follow.Given as goal
 abbrev pub invariant-reads : goal.invariant-reads
 invariant-reads g l = record {
   followed : IsFollowedSoFar l.events (g.R.ByteIn.state l.initial.reader) (g.R.ByteIn.state l.reader) (output (g.W.ByteOut.state l.initial.writer) (g.W.ByteOut.state l.writer)) l.self;
-  told : l.self.told.items ≡ [];
+  told : l.self.follower.told.items ≡ [];
   empty : l.self.buffer.items ≡ [];
   room : 384 ≤ vec_capacity l.self.buffer;
   no_failure : (g.R.ByteIn.state l.reader).failures ≡ (g.R.ByteIn.state l.initial.reader).failures;

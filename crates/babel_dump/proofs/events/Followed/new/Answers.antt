@@ -1,8 +1,8 @@
-use Rattle.std.proofs.Common.{rules}
 use Rattle.babel_dump.proofs.EventsFollowed.{followed_none}
 use Rattle.babel_dump.proofs.events.Followed.new.Goals as goal
 
 pub returns-clause-none : goal.returns-clause-none
 returns-clause-none c =
     let made = c.within-capture.ensures.made in
-    followed_none c.args.events.now _ c.within-capture.ensures.read made.0 made.1 made.2 c.new-hearing.ensures (search rules)
+    let follower = c.new-follower.ensures in
+    followed_none c.args.events.now _ c.within-capture.ensures.read made.0 made.1 made.2 follower.events follower.none follower.told follower.fault

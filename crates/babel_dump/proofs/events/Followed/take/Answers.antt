@@ -1,22 +1,19 @@
-use Rattle.std.proofs.Common.{◌++◌, refl}
-use Rattle.babel_dump.specs.declared.events.Followed.{Followed}
-use Rattle.babel_dump.proofs.TakeLaws.{Fed, to_hear, written}
+use Rattle.std.proofs.Common.{ap, subst, sym, ◌∙◌}
+use Rattle.babel_dump.specs.EventsRun.{WroteLines}
+use Rattle.babel_dump.specs.Run.{output}
+use Rattle.babel_dump.proofs.TakeLaws.{followed_on}
 use Rattle.babel_dump.proofs.events.Followed.take.Goals as goal
 
 pub returns-in-Ok-clause-followed : goal.returns-in-Ok-clause-followed
 returns-in-Ok-clause-followed g c fed told is =
-    let piece = c.args.piece.now in
-    let mid : Followed = record c.args.self.now { capture = c.feed-fed.new.self } in
-    let feeds : Fed c.args.self.now.capture mid.capture piece = record {
-      given = c.feed-fed.ensures.given;
-      limit = c.feed-fed.ensures.same.0;
-      wanted = c.feed-fed.ensures.same.1;
-      none = c.in-Ok.ensures.ok.1;
-      each = c.in-Ok.ensures.turns;
-    } in
-    let heard = c.in_ok-heard.ensures.heard (fed ++ piece) told (to_hear c.args.events.now fed piece told c.args.self.now mid is feeds refl refl) in
+    let sunk = c.feed-fed.new.sink in
+    let said = c.say_lost.ensures in
+    let same = c.write.ensures.same in
+    let writer = output (g.W.ByteOut.state c.args.writer.now) (g.W.ByteOut.state c.write.new.writer) in
     record {
-      more = c.hear-heard.new.self.told.items;
-      is_followed = written c.args.events.now (fed ++ piece) told c.hear-heard.new.self c.write.new.self heard c.write.ensures.same.0 c.write.ensures.same.1 c.in_ok-write.ensures.told;
-      wrote = c.in_ok-write.ensures.lines;
+      more = sunk.told.items;
+      is_followed = followed_on c.args.events.now fed c.args.piece.now told c.args.self.now is c.feed-fed.new.self sunk c.write.new.self c.feed-fed.ensures.same.0 c.feed-fed.ensures.same.1
+          c.in-Ok.ensures.ok.1 c.in-Ok.ensures.sunk (sym said.3 ∙ sym same.3 ∙ c.in_ok-fault.ensures) same.0 (same.1 ∙ ap (λ e. e.now) said.0) (same.2 ∙ said.1) (same.3 ∙ said.3)
+          c.in_ok-write.ensures.told;
+      wrote = subst (λ t. WroteLines c.args.events.now t.items writer) said.2 c.in_ok-write.ensures.lines;
     }

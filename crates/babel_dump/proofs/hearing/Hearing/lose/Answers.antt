@@ -3,10 +3,10 @@ use Rattle.babel_dump.proofs.HeardRecords.{lost_more}
 use Rattle.babel_dump.proofs.SpeakerLaws.{speaker_order}
 use Rattle.babel_dump.proofs.hearing.Hearing.lose.Goals as goal
 
-pub returns-in-Ok-true-clause-lost : goal.returns-in-Ok-true-clause-lost
-returns-in-Ok-true-clause-lost g c =
-    lost_more _ speaker_order c.args.self.now.lost c.insert.new.self c.in-Some.missed c.args.end.now.missed c.in-Some.is c.in-Ok-true.ensures.updates.0
+pub returns-in_ok-push-in-Ok-true-clause-lost : goal.returns-in_ok-push-in-Ok-true-clause-lost
+returns-in_ok-push-in-Ok-true-clause-lost c =
+    lost_more _ speaker_order c.args.self.now.lost c.insert.new.self c.in-Some.missed c.args.said.now.missed c.in-Some.is c.in-Ok-true.ensures.updates.0
 
 pub returns-in-Ok-false-clause-lost : goal.returns-in-Ok-false-clause-lost
-returns-in-Ok-false-clause-lost g c =
-    lost_more _ speaker_order c.args.self.now.lost c.insert.new.self c.in-Some.missed c.args.end.now.missed c.in-Some.is c.in-Ok-false.ensures.updates.0
+returns-in-Ok-false-clause-lost c =
+    lost_more _ speaker_order c.args.self.now.lost c.insert.new.self c.in-Some.missed c.args.said.now.missed c.in-Some.is c.in-Ok-false.ensures.updates.0
