@@ -5,7 +5,7 @@ use crate::fault::Fault;
 use crate::reason::Reason;
 
 /// Why a datagram is not all there.
-#[derive(Clone, Copy, Debug, PartialEq, Eq)]
+#[derive(Clone, Copy)]
 pub enum Lack {
     /// It is the first fragment of one: RFC 791, 3.2; RFC 8200, 4.5. Fragments are not put
     /// together.

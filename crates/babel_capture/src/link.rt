@@ -2,7 +2,7 @@ ghost use Rattle.std.specs.Prelude.{◌≡◌};
 ghost use Rattle.babel_capture.specs.Link.{link_of};
 
 /// A link type whose frames are read: what stands before the IP packet in a frame.
-#[derive(Clone, Copy, Debug, PartialEq, Eq)]
+#[derive(Clone, Copy)]
 pub enum Link {
     /// Protocol family of BSD in four octets, in the byte order of the recording machine.
     Null,

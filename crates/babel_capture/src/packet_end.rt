@@ -1,7 +1,7 @@
 use crate::time::Time;
 
 /// Where a packet of a dump ends, which packet of the capture it came from, and when that came.
-#[derive(Clone, Copy, Debug, PartialEq, Eq)]
+#[derive(Clone, Copy)]
 pub struct PacketEnd {
     /// How many octets of the dump there are up to its end, counted from the first that was not
     /// taken out.

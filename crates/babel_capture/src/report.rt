@@ -12,7 +12,7 @@ use crate::updates::greater;
 use std::marker::Model;
 
 /// How many packets a capture has, and which wanted datagrams were left out.
-#[derive(Clone, Copy, Debug, PartialEq, Eq)]
+#[derive(Clone, Copy)]
 pub struct Report {
     packets: u64,
     left_out: [Option<(u64, u64)>; 8],

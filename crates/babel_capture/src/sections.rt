@@ -2,7 +2,7 @@ ghost use Rattle.std.specs.Prelude.{◌≡◌, ◌+◌, ◌^◌, ◌<◌, ◌≤
 ghost use Rattle.babel_capture.specs.Sections.{no_sections, with_section};
 
 /// In how many sections of a capture datagrams of Babel came.
-#[derive(Clone, Copy, Debug, PartialEq, Eq)]
+#[derive(Clone, Copy)]
 pub struct Sections {
     pub count: u64,
     /// The number of the first interface of the last one.

@@ -4,7 +4,7 @@ use babel_prefix::Addr;
 
 /// What one captured frame is to us. A datagram has the place where it was captured, and the source
 /// address of its IP header.
-#[derive(Clone, Copy, Debug)]
+#[derive(Clone, Copy)]
 pub enum Seen<'a> {
     /// No datagram of Babel: another protocol or port, or a header that contradicts itself.
     Other,

@@ -26,7 +26,7 @@ pub struct Origin {
 
 /// How many packets a sender sent, how many octets these are, header and body, without what comes
 /// after them, how many Updates they have, and when they came.
-#[derive(Clone, Copy, Debug, PartialEq, Eq)]
+#[derive(Clone, Copy)]
 pub struct Tally {
     pub packets: u64,
     pub octets: u64,

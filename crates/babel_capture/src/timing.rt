@@ -4,7 +4,7 @@ ghost use Rattle.babel_capture.specs.Timing.{greatest, least, no_times, with_tim
 use crate::time::Time;
 
 /// What is told of the times of a capture's packets, but for those that are skipped.
-#[derive(Clone, Copy, Debug, PartialEq, Eq)]
+#[derive(Clone, Copy)]
 pub struct Timing {
     /// Whether one of them has no time, or one before 1970 or after the year 9999.
     pub has_untimed: bool,

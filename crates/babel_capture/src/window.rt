@@ -4,7 +4,7 @@ ghost use Rattle.babel_capture.specs.Window.{is_empty, is_between, moment_from};
 use crate::time::Time;
 
 /// A moment, by itself or by the capture.
-#[derive(Clone, Copy, Debug, PartialEq, Eq)]
+#[derive(Clone, Copy, PartialEq, Eq)]
 pub enum Moment {
     /// This one.
     At(Time),
@@ -13,7 +13,7 @@ pub enum Moment {
 }
 
 /// Which packets of a capture are read, by when they came.
-#[derive(Clone, Copy, Debug, PartialEq, Eq)]
+#[derive(Clone, Copy)]
 pub enum Window {
     /// Each, whether it has a time or not.
     Whole,

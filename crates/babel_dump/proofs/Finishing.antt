@@ -1,5 +1,5 @@
 -- A run that finished wrote what was found, or answered why nothing was found.
-use Rattle.std.proofs.Common.{◌≡◌, ℕ, List, Option, None, Some, Result, Ok, Err, arith, ap, sym, subst, refl, inl, inr}
+use Rattle.std.proofs.Common.{◌≡◌, ℕ, Bool, true, false, List, Option, None, Some, Result, Ok, Err, arith, ap, sym, subst, refl, inl, inr}
 use Rattle.std.proofs.lemmas.Result.{IfOk-weaker}
 use Rattle.std.specs.Prelude.{IfOk, IfErr}
 use Rattle.babel_dump.specs.Command.{CompareCause}
@@ -9,9 +9,12 @@ use Rattle.babel_dump.specs.JobRun.{CauseBy, OtherCalled, RanJob, other_calls}
 use Rattle.babel_dump.specs.Parts.{FoundBy, Gathered, Says}
 use Rattle.babel_dump.specs.Run.{Called, Calls, OfFirst, OfStatus, Output, Ran, RanAlone, UnlessWrite, calls_of, run_status}
 use Rattle.babel_dump.specs.SlicedRows.{Finished, found_text}
+use Rattle.babel_dump.specs.Tasks.{ComparisonCause, finds_all}
+use Rattle.babel_tlv.specs.declared.view.View.{View}
 use Rattle.babel_dump.specs.declared.input_fault.InputFault.{InputFault}
 use Rattle.babel_dump.specs.declared.job.Job.{Job}
-use Rattle.babel_dump.specs.declared.job.Job.TheVariants as jobs
+use Rattle.babel_dump.specs.declared.job.Work.{Work}
+use Rattle.babel_dump.specs.declared.job.Work.TheVariants as works
 use Rattle.babel_dump.specs.declared.outcome.Outcome.{Outcome}
 use Rattle.babel_dump.specs.declared.run_fault.RunFault.{RunFault}
 use Rattle.babel_dump.specs.declared.run_fault.RunFault.TheVariants as run_faults
@@ -123,25 +126,18 @@ pub not_compared : (reader other : Input) (untouched : Type 0) → CompareCause 
 not_compared reader other untouched (inl cause) = cause
 not_compared reader other untouched (inr (memory, sound, other_sound)) = absurd cc
 
+not_found : (all : Bool) (view : View) (reader other : Input) (untouched : Type 0) → ComparisonCause all view reader other untouched run_faults.Write → ⊥
+not_found false view reader other untouched cause = not_compared reader other untouched cause
+not_found true view reader other untouched (inl cause) = not_compared reader other untouched cause
+not_found true view reader other untouched (inr (many, have)) = absurd cc
+
 -- a job's fault is not that of a write
-no_write : (job : Job) (reader other : Reads) (untouched : Type 0) → CauseBy job reader other untouched run_faults.Write → ⊥
-no_write (jobs.Show reading filter summary format file quiet) reader other untouched cause = cause
-no_write (jobs.Lookup reading pair format file quiet) reader other untouched cause = cause
-no_write (jobs.AnySource reading dst format file quiet) reader other untouched cause = cause
-no_write (jobs.Each reading format file pairs quiet) reader other untouched (inl (refuses, unread)) = absurd cc
-no_write (jobs.Each reading format file pairs quiet) reader other untouched (inr (asked, no_failure, cause)) = cause
-no_write (jobs.Normalise reading view body hex file quiet) reader other untouched cause = cause
-no_write (jobs.Key reading view routes file quiet) reader other untouched cause = cause
-no_write (jobs.Pairs reading view filter count format file quiet) reader other untouched cause = cause
-no_write (jobs.Compare reading other_reading view format file another quiet) reader other untouched cause = not_compared _ _ untouched cause
-no_write (jobs.Differences reading other_reading view count format file another quiet) reader other untouched (inl cause) = not_compared _ _ untouched cause
-no_write (jobs.Differences reading other_reading view count format file another quiet) reader other untouched (inr (many, have)) = absurd cc
-no_write (jobs.RouteOctets reading view body hex file quiet) reader other untouched cause = cause
-no_write (jobs.RouteRows reading view filter count format file quiet) reader other untouched cause = cause
-no_write (jobs.CompareRoutes reading other_reading view listed format file another quiet) reader other untouched cause = not_compared _ _ untouched cause
-no_write (jobs.Diff reading other_reading view style file another quiet) reader other untouched cause = not_compared _ _ untouched cause
-no_write (jobs.Senders reading format file quiet) reader other untouched cause = cause
-no_write (jobs.Extract reading sender place hex file quiet) reader other untouched cause = cause
+no_write : (work : Work) (reader other : Reads) (untouched : Type 0) → CauseBy work reader other untouched run_faults.Write → ⊥
+no_write (works.Dump source task) reader other untouched cause = cause
+no_write (works.Each source pairs) reader other untouched (inl (refuses, unread)) = absurd cc
+no_write (works.Each source pairs) reader other untouched (inr (asked, no_failure, cause)) = cause
+no_write (works.Two first second view task) reader other untouched cause = not_found (finds_all task) view _ _ untouched cause
+no_write (works.Capture reading file task) reader other untouched cause = cause
 
 other_called : (calls : Option Calls) (untouched : Type 0) (writer : Output) (found : Result Found RunFault) (result : Result Outcome RunFault)
     → OtherCalled calls untouched found → Finished writer found result → OtherCalled calls untouched result
@@ -151,7 +147,7 @@ other_called (Some calls) untouched writer found result of_found finished = call
 pub ran_job : (job : Job) (reader other : Reads) (untouched : Type 0) (writer : Output) (found : Result Found RunFault) (result : Result Outcome RunFault)
     → FoundBy job reader other untouched found → Finished writer found result → RanJob job reader other writer untouched result
 ran_job job reader other untouched writer found result by finished = record {
-  ran = ran writer _ _ found result (no_write job reader other untouched) by.says by.cause finished;
+  ran = ran writer _ _ found result (no_write job.work reader other untouched) by.says by.cause finished;
   called = called _ writer found result by.called finished;
-  other_called = other_called (other_calls job other) untouched writer found result by.other_called finished;
+  other_called = other_called (other_calls job.work other) untouched writer found result by.other_called finished;
 }

@@ -55,30 +55,36 @@ pub record IsOutcomeOfAnswers (status : ℕ) (table other : Routes) (outcome : O
       × (outcome.reports ≡ reports.Alike table.report other.report (length routes))
   pub unlike : status ≢ 0 → outcome.reports ≡ reports.Dumps table.report other.report
 
--- `show`: the dump's table, in a text
-pub record Shows (reader : Input) (in_text : Routes → List ℕ) (text : List ℕ)
-    (outcome : Outcome) : Type 0 where
+-- the text and the status of the dump's table
+pub record SaysTable (reader : Input) (in_text : Routes → List ℕ) (status : Routes → ℕ)
+    (text : List ℕ) (outcome : Outcome) : Type 0 where
   pub table : Routes
   pub gave : GaveTable reader table
   pub text_is : text ≡ in_text table
-  pub outcome_is : IsOutcome outcome 0 table.report
+  pub outcome_is : IsOutcome outcome (status table) table.report
+
+-- `show`: the dump's table, in a text
+abbrev pub Shows : Input → (in_text : Routes → List ℕ) → List ℕ → Outcome → Type 0
+Shows reader in_text = SaysTable reader in_text (λ table. 0)
 
 -- `lookup`: what the dump's table answers for a destination and a source
-pub record LooksUp (reader : Input) (dst src : Address) (format : Format) (text : List ℕ)
-    (outcome : Outcome) : Type 0 where
-  pub table : Routes
-  pub gave : GaveTable reader table
-  pub text_is : text ≡ lookup_in format dst src (answer_in table dst src)
-  pub outcome_is : IsOutcome outcome (lookup_status (answer_in table dst src)) table.report
+abbrev pub LooksUp : Input → (dst src : Address) → Format → List ℕ → Outcome → Type 0
+LooksUp reader dst src format =
+    SaysTable reader (λ table. lookup_in format dst src (answer_in table dst src))
+    (λ table. lookup_status (answer_in table dst src))
 
--- `normalise`: the dump's canonical octets under a view
-pub record WritesNormal (reader : Input) (view : View) (body : ℕ) (hex : Bool) (text : List ℕ)
+-- octets that were made of a dump with this report
+pub record WritesMade (Gave : Counts → List ℕ → Type 0) (hex : Bool) (text : List ℕ)
     (outcome : Outcome) : Type 0 where
   pub octets : List ℕ
   pub report : Counts
-  pub gave : GaveNormal reader view body report octets
+  pub gave : Gave report octets
   pub text_is : text ≡ form_text hex octets
   pub outcome_is : IsOutcome outcome 0 report
+
+-- `normalise`: the dump's canonical octets under a view
+abbrev pub WritesNormal : Input → View → (body : ℕ) → (hex : Bool) → List ℕ → Outcome → Type 0
+WritesNormal reader view body = WritesMade (GaveNormal reader view body)
 
 -- `pairs`: the rows of the dump's table and its canonical pairs under a view, in a text
 pub record ListsPairs (reader : Input) (view : View)
@@ -123,13 +129,8 @@ pub record ListsDifferences (reader other : Input) (view : View) (count : Bool) 
       (seen_table view table) (seen_table view other_table) outcome
 
 -- `normalise --routes`: the dump's route octets under a view
-pub record WritesRoutes (reader : Input) (view : View) (body : ℕ) (hex : Bool) (text : List ℕ)
-    (outcome : Outcome) : Type 0 where
-  pub octets : List ℕ
-  pub report : Counts
-  pub gave : GaveRoutes reader view body report octets
-  pub text_is : text ≡ form_text hex octets
-  pub outcome_is : IsOutcome outcome 0 report
+abbrev pub WritesRoutes : Input → View → (body : ℕ) → (hex : Bool) → List ℕ → Outcome → Type 0
+WritesRoutes reader view body = WritesMade (GaveRoutes reader view body)
 
 -- what `normalise` writes, with `--routes` or without it, in packets of the usual size
 abbrev pub WritesOctets : (routes : Bool) → Input → View → List ℕ → Outcome → Type 0
@@ -145,12 +146,10 @@ pub record WritesKey (reader : Input) (view : View) (routes : Bool) (file : List
 
 -- `pairs --routes`: the rows of the dump's table that a filter keeps, as a view shows them, or how
 -- many there are
-pub record ListsRoutes (reader : Input) (view : View) (filter : Filter) (count : Bool)
-    (format : Format) (text : List ℕ) (outcome : Outcome) : Type 0 where
-  pub table : Routes
-  pub gave : GaveTable reader table
-  pub text_is : text ≡ rows_or_count_in format view count (kept_rows filter table.rows)
-  pub outcome_is : IsOutcome outcome 0 table.report
+abbrev pub ListsRoutes :
+    Input → View → Filter → (count : Bool) → Format → List ℕ → Outcome → Type 0
+ListsRoutes reader view filter count format =
+    Shows reader (λ table. rows_or_count_in format view count (kept_rows filter table.rows))
 
 -- the keys for which the dumps' tables hold what differs under a view, in a text of the number of
 -- the first's rows and of them

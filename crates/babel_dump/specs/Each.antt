@@ -1,11 +1,10 @@
 -- What `lookup --each` promises: the pairs are read first, and then each is looked up in the dump.
 -- No RFC speaks of it: this is the project's own.
 use Rattle.std.specs.Prelude.{ℕ, ◌≡◌, ◌<◌, ◌≤◌, ◌⊎◌, List, length}
-use Rattle.babel_table.specs.Rows.{Routes}
 use Rattle.babel_dump.specs.AskedPairs.{AskFor, IsFirstWrong, lines_of}
-use Rattle.babel_dump.specs.Command.{IsOfMemory, IsOutcome}
+use Rattle.babel_dump.specs.Command.{IsOfMemory, SaysTable}
 use Rattle.babel_dump.specs.Device.{Gave}
-use Rattle.babel_dump.specs.Given.{GaveAll, GaveTable, Input, IsFaultOfGiven}
+use Rattle.babel_dump.specs.Given.{GaveAll, Input, IsFaultOfGiven}
 use Rattle.babel_dump.specs.InFormat.{each_in}
 use Rattle.babel_dump.specs.Run.{InputCause, OfFirst}
 use Rattle.babel_dump.specs.RunText.{each_status}
@@ -53,12 +52,9 @@ RefusesPairs reader (run_faults.Pairs (pairs_faults.NotAPair line)) = GaveWrong 
 RefusesPairs reader fault = RefusesText reader fault
 
 -- what the dump's table answers for each of these pairs
-pub record LooksUpEach (reader : Input) (format : Format) (pairs : List AddrPair) (text : List ℕ)
-    (outcome : Outcome) : Type 0 where
-  pub table : Routes
-  pub gave : GaveTable reader table
-  pub text_is : text ≡ each_in format table pairs
-  pub outcome_is : IsOutcome outcome (each_status table pairs) table.report
+abbrev pub LooksUpEach : Input → Format → List AddrPair → List ℕ → Outcome → Type 0
+LooksUpEach reader format pairs =
+    SaysTable reader (λ table. each_in format table pairs) (λ table. each_status table pairs)
 
 -- what it answers for each of the pairs that the reader of pairs gave
 pub record LooksUpAsked (reader pairs : Input) (format : Format) (text : List ℕ)

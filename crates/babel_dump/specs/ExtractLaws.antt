@@ -6,10 +6,12 @@ use Rattle.babel_tlv.specs.declared.fault.Fault.{Fault}
 use Rattle.babel_tlv.specs.declared.fault.Fault.TheVariants as faults
 use Rattle.babel_dump.specs.OneOutcome.{Contents, RanOver, octets_at}
 use Rattle.babel_dump.specs.declared.capture_reading.CaptureReading.{CaptureReading}
+use Rattle.babel_dump.specs.declared.format.Format.{Format}
 use Rattle.babel_dump.specs.declared.input_fault.InputFault.TheVariants as input_faults
+use Rattle.babel_dump.specs.declared.job.CaptureTask.TheVariants as capture_tasks
 use Rattle.babel_dump.specs.declared.job.DumpFile.{DumpFile}
 use Rattle.babel_dump.specs.declared.job.Job.{Job}
-use Rattle.babel_dump.specs.declared.job.Job.TheVariants as jobs
+use Rattle.babel_dump.specs.declared.job.Work.TheVariants as works
 use Rattle.babel_dump.specs.declared.outcome.Outcome.{Outcome}
 use Rattle.babel_dump.specs.declared.run_fault.RunFault.TheVariants as run_faults
 use Rattle.babel_dump.specs.declared.run_fault.Side.{Side}
@@ -27,14 +29,17 @@ pub record Extracted (dump : List ℕ) : Type 0 where
   pub sender : Address
   pub place : Option Place
   pub file : DumpFile
+  pub format : Format
   pub quiet : Bool
   pub contents : Contents
   pub other : Contents
   pub before : List ℕ
   pub outcome : Outcome
-  pub ran :
-      RanOver (jobs.Extract reading sender place false file quiet) contents other before
-      (before ++ dump) (Ok outcome)
+  pub ran : let job : Job = record {
+    work = works.Capture reading file (capture_tasks.Extract sender place false);
+    format = format;
+    quiet = quiet;
+  } in RanOver job contents other before (before ++ dump) (Ok outcome)
 
 -- no job over them, whatever its words and limits, refuses them for such a fault: not as its first
 -- dump, and not as the other of a comparison

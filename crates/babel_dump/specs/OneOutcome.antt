@@ -10,6 +10,7 @@ use Rattle.babel_table.specs.DumpFault.{DumpFault}
 use Rattle.babel_dump.specs.CaptureGiven.{CaptureInput}
 use Rattle.babel_dump.specs.CaptureRun.{IsOnSeveral}
 use Rattle.babel_dump.specs.Device.{InputState, no_times}
+use Rattle.babel_dump.specs.Files.{reading_of}
 use Rattle.babel_dump.specs.Given.{Reads}
 use Rattle.babel_dump.specs.JobRun.{RanJob}
 use Rattle.babel_dump.specs.Run.{Output}
@@ -17,7 +18,6 @@ use Rattle.babel_dump.specs.declared.input_fault.InputFault.{InputFault}
 use Rattle.babel_dump.specs.declared.input_fault.InputFault.TheVariants as input_faults
 use Rattle.babel_dump.specs.declared.interfaces.Interfaces.{Interfaces}
 use Rattle.babel_dump.specs.declared.job.Job.{Job}
-use Rattle.babel_dump.specs.declared.job.Job.TheVariants as jobs
 use Rattle.babel_dump.specs.declared.left_out.LeftOutDatagram.{LeftOutDatagram}
 use Rattle.babel_dump.specs.declared.outcome.Outcome.{Outcome}
 use Rattle.babel_dump.specs.declared.pairs_fault.PairsFault.TheVariants as pairs_faults
@@ -97,36 +97,7 @@ FaultIsOne =
     → RanOver job contents other before_too after_too (Err fault_too)
     → IsOfOctets fault → IsOfOctets fault_too → fault ≡ fault_too
 
--- how the dump on a side is read, where a job reads one there, and what it is
-abbrev pub reading_at : Side → Job → Option Reading
-reading_at sides.First (jobs.Show reading filter summary format file quiet) = Some reading
-reading_at sides.First (jobs.Lookup reading pair format file quiet) = Some reading
-reading_at sides.First (jobs.AnySource reading dst format file quiet) = Some reading
-reading_at sides.First (jobs.Each reading format file pairs quiet) = Some reading
-reading_at sides.First (jobs.Normalise reading view body hex file quiet) = Some reading
-reading_at sides.First (jobs.Key reading view routes file quiet) = Some reading
-reading_at sides.First (jobs.Pairs reading view filter count format file quiet) = Some reading
-reading_at sides.First (jobs.Compare reading other_reading view format file other quiet) =
-    Some reading
-reading_at sides.First (jobs.Differences reading other_reading view count format file other quiet) =
-    Some reading
-reading_at sides.First (jobs.RouteOctets reading view body hex file quiet) = Some reading
-reading_at sides.First (jobs.RouteRows reading view filter count format file quiet) = Some reading
-reading_at sides.First
-    (jobs.CompareRoutes reading other_reading view listed format file other quiet) =
-    Some reading
-reading_at sides.First (jobs.Diff reading other_reading view style file other quiet) = Some reading
-reading_at sides.Other (jobs.Compare reading other_reading view format file other quiet) =
-    Some other_reading
-reading_at sides.Other (jobs.Differences reading other_reading view count format file other quiet) =
-    Some other_reading
-reading_at sides.Other
-    (jobs.CompareRoutes reading other_reading view listed format file other quiet) =
-    Some other_reading
-reading_at sides.Other (jobs.Diff reading other_reading view style file other quiet) =
-    Some other_reading
-reading_at side job = None
-
+-- what a dump on a side is
 abbrev pub octets_at : Side → (contents other : Contents) → List ℕ
 octets_at sides.First contents other = contents.octets
 octets_at sides.Other contents other = other.octets
@@ -138,7 +109,7 @@ FaultIsOfAll =
     (job : Job) (side : Side) (reading : Reading) (contents other : Contents)
     (before after : List ℕ)
     (fault : Fault)
-    → reading_at side job ≡ Some reading
+    → reading_of side job.work ≡ Some reading
     → RanOver job contents other before after
     (Err (run_faults.Input side (input_faults.Dump fault)))
     → fault ≢ faults.Memory → fault ≢ faults.TooManyPairs

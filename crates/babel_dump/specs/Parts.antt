@@ -140,7 +140,7 @@ HasManyDifferences limits seen fault =
 -- what a job finds of what its readers gave
 pub record FoundBy (job : Job) (reader other : Reads) (untouched : Type 0)
     (result : Result Found RunFault) : Type 0 where
-  pub says : IfOk result (Says (SaysBy job reader other))
-  pub cause : IfErr result (CauseBy job reader other untouched)
-  pub called : Called (first_calls job reader) result
-  pub other_called : OtherCalled (other_calls job other) untouched result
+  pub says : IfOk result (Says (SaysBy job.work job reader other))
+  pub cause : IfErr result (CauseBy job.work reader other untouched)
+  pub called : Called (first_calls job.work reader) result
+  pub other_called : OtherCalled (other_calls job.work other) untouched result

@@ -3,7 +3,7 @@ ghost use Rattle.std.specs.Prelude.{◌≡◌};
 use babel_prefix::Addr;
 
 /// A destination and a source of one family.
-#[derive(Clone, Copy, Debug)]
+#[derive(Clone, Copy)]
 pub struct AddrPair {
     /// The destination to look up: `--to`.
     pub dst: Addr,

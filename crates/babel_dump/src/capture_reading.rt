@@ -1,7 +1,7 @@
 use babel_capture::Window;
 
 /// How a capture is read.
-#[derive(Clone, Copy, Debug)]
+#[derive(Clone, Copy)]
 pub struct CaptureReading {
     /// How many octets are read at most: `--max-octets`.
     pub limit: u32,

@@ -30,7 +30,7 @@ use std::io::{ErrorKind, Read};
 const PIECE: usize = 65_536;
 
 /// What the notes after the output say of a capture.
-#[derive(Clone, Copy, Debug, PartialEq, Eq)]
+#[derive(Clone, Copy)]
 pub struct CaptureNotes {
     /// How many packets it has, and which datagrams of the sender were left out.
     pub report: Report,

@@ -35,7 +35,7 @@ const CAPTURES: [[u8; MAGIC]; 5] = [
 const DUMP: [u8; 2] = [42, 2];
 
 /// What the first octets of a stream are.
-#[derive(Clone, Copy, Debug, PartialEq, Eq)]
+#[derive(Clone, Copy)]
 pub enum Begins {
     /// Those of a capture: pcapng, or pcap in either byte order.
     Capture,

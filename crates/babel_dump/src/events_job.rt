@@ -8,7 +8,7 @@ use babel_table::Limits;
 use babel_tlv::View;
 
 /// What `events` asks for: what changed of what the senders in a capture announce, and when.
-#[derive(Debug, Drop)]
+#[derive(Drop)]
 pub struct Events {
     /// The sender whose packets are heard: `--from`. None is for each.
     pub sender: Option<Addr>,

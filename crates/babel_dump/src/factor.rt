@@ -15,7 +15,7 @@ const MOST_DIGITS: usize = 7;
 
 /// After how many times its Interval a route is gone (RFC 8966, appendix B): a number of
 /// ten-millionths, above 0 and at most 1,000.
-#[derive(Clone, Copy, Debug, PartialEq, Eq)]
+#[derive(Clone, Copy)]
 pub struct Factor {
     ten_millionths: u64,
 }

@@ -7,7 +7,7 @@ use babel_table::Table;
 use babel_tlv::{Held, Key};
 
 /// Which rows are shown: those for which all holds that is asked for.
-#[derive(Clone, Copy, Debug, PartialEq, Eq)]
+#[derive(Clone, Copy)]
 pub struct Filter {
     /// The destination is this prefix, or a longer one in it: `--within`.
     pub within: Option<Prefix>,

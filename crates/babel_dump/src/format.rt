@@ -1,7 +1,7 @@
 use crate::spelling::Spelling;
 
 /// How a run writes what it found.
-#[derive(Clone, Copy, Debug, PartialEq, Eq)]
+#[derive(Clone, Copy)]
 pub enum Format {
     /// Lines to be read by people.
     Text(Spelling),

@@ -4,7 +4,7 @@ use crate::events_fault::EventsFault;
 use crate::events_job::Events;
 use crate::ignored::IgnoredTlv;
 use crate::input_fault::InputFault;
-use crate::job::Job;
+use crate::job::{Job, Work};
 use crate::note::Note;
 use crate::pairs_fault::PairsFault;
 use crate::reading::capture_limit;
@@ -16,7 +16,7 @@ use babel_tlv::{Fault, Reason};
 use thiserror::Error;
 
 /// A line that says what to do about a fault.
-#[derive(Clone, Copy, Debug, PartialEq, Eq, Error)]
+#[derive(Clone, Copy, Debug, Error)]
 pub enum Hint {
     /// There are more routes than the limit.
     #[error("hint: the limit is {0} routes; --max-routes raises it")]
@@ -241,12 +241,11 @@ impl Hint {
         }
     }
 
-    /// What to do where a job has more pairs than the limit; those of `compare --all` are
-    /// differences.
+    /// What to do where a job has more pairs than the limit; those of two dumps are differences.
     fn of_too_many(job: &Job) -> Option<Hint> {
         let limit = job.limits()?.entries();
-        match job {
-            Job::Differences { .. } => Some(Hint::Differences(limit)),
+        match job.work {
+            Work::Two { .. } => Some(Hint::Differences(limit)),
             _ => Some(Hint::Pairs(limit)),
         }
     }

@@ -1,19 +1,26 @@
 ghost use Rattle.std.specs.Prelude.{◌≡◌};
+ghost use Rattle.babel_dump.specs.CaptureRun.{capture_calls};
 ghost use Rattle.babel_dump.specs.Device.{HasRoomToCount, HasRoomToWrite};
-ghost use Rattle.babel_dump.specs.Given.{reads};
-ghost use Rattle.babel_dump.specs.JobRun.{RanJob};
-ghost use Rattle.babel_dump.specs.Parts.{FoundBy};
-ghost use Rattle.babel_dump.specs.Run.{output};
+ghost use Rattle.babel_dump.specs.Files.{name_of};
+ghost use Rattle.babel_dump.specs.Given.{dump_of, reads};
+ghost use Rattle.babel_dump.specs.JobRun.{RanJob, capture_of};
+ghost use Rattle.babel_dump.specs.Parts.{FoundBy, Gathered, Says};
+ghost use Rattle.babel_dump.specs.Run.{Called, InputCause, OfFirst, calls_of, output};
+ghost use Rattle.babel_dump.specs.Tasks.{CaptureTaskCause, CaptureTaskSays, ComparisonCause};
+ghost use Rattle.babel_dump.specs.Tasks.{ComparisonSays, IsFaultOf, TaskSays, canonical_view};
+ghost use Rattle.babel_dump.specs.Tasks.{finds_all};
 
 use crate::any_source::find_any_source;
 use crate::byte_in::ByteIn;
 use crate::byte_out::ByteOut;
+use crate::capture_reading::CaptureReading;
 use crate::compare::find_verdict;
 use crate::diff::find_diff;
 use crate::differences::find_differences;
 use crate::each::find_each;
 use crate::extract::find_packets;
-use crate::job::Job;
+use crate::format::Format;
+use crate::job::{CaptureTask, Comparison, DumpSource, Form, Job, Listed, Task, Work};
 use crate::key::find_key;
 use crate::lookup::find_answer;
 use crate::normalise::find_normal;
@@ -25,6 +32,7 @@ use crate::senders::find_senders;
 use crate::show::find_rows;
 use crate::slices::{Found, finish};
 use babel_capture::Wanted;
+use babel_tlv::View;
 use std::alloc::Global;
 
 /// Does a job: reads its input, finds what its command asks for, writes that, and flushes. The
@@ -66,141 +74,133 @@ fn find<R: ByteIn, S: ByteIn>(
     ensures { FoundBy job.now (reads (R.state reader.old) (R.state reader.new))
         (reads (S.state other.old) (S.state other.new)) (other.new ≡ other.old) result }
 {
-    match *job {
-        Job::Key {
-            reading,
+    let (format, quiet) = (job.format, job.quiet);
+    match &job.work {
+        Work::Dump { source, task } => find_of_dump(alloc, source, *task, format, quiet, reader),
+        Work::Each { source, .. } => find_each(alloc, source.reading, format, reader, other),
+        Work::Two {
+            first,
+            other: second,
             view,
-            routes,
-            ref file,
-            ..
-        } => find_key(alloc, reading, view, routes, file.name(), reader),
-        Job::Show {
-            reading,
-            filter,
-            summary,
-            format,
-            quiet,
-            ..
-        } => find_rows(alloc, reading, filter, summary, quiet, format, reader),
-        Job::Lookup {
-            reading,
-            pair,
-            format,
-            ..
-        } => find_answer(alloc, reading, pair, format, reader),
-        Job::AnySource {
-            reading,
-            dst,
-            format,
-            ..
-        } => find_any_source(alloc, reading, dst, format, reader),
-        Job::Each {
-            reading,
-            format,
-            ..
-        } => find_each(alloc, reading, format, reader, other),
-        Job::Normalise {
-            reading,
-            view,
-            body,
-            hex,
-            ..
-        } => find_normal(alloc, reading, view, body, hex, reader),
-        Job::Pairs {
-            reading,
-            view,
-            filter,
-            count,
-            format,
-            ..
-        } => find_pairs(alloc, reading, view, filter, count, format, reader),
-        Job::Compare {
-            reading,
-            other_reading,
-            view,
-            format,
-            ..
-        } => find_verdict(alloc, reading, other_reading, view, format, reader, other),
-        Job::Differences {
-            reading,
-            other_reading,
-            view,
-            count,
-            format,
-            ..
-        } => find_differences(
-            alloc,
-            reading,
-            other_reading,
-            view,
-            count,
-            format,
-            reader,
-            other,
-        ),
-        Job::RouteOctets {
-            reading,
+            task,
+        } => find_of_two(alloc, first, second, *view, *task, format, reader, other),
+        Work::Capture { reading, task, .. } => {
+            find_of_capture(alloc, *reading, *task, format, reader)
+        }
+    }
+}
+
+/// Reads a dump, and finds what is asked of it.
+fn find_of_dump<R: ByteIn>(
+    alloc: Global,
+    source: &DumpSource,
+    task: Task,
+    format: Format,
+    quiet: bool,
+    reader: &mut R,
+) -> Result<Found, RunFault>
+    requires { HasRoomToCount (R.state reader.old) }
+    ensures { let dump =
+        dump_of (reads (R.state reader.old) (R.state reader.new)) source.now.reading in
+        Gathered (calls_of dump) (OfFirst (InputCause dump (IsFaultOf (canonical_view task) dump)))
+        (Says (TaskSays task format quiet (name_of source.now.file) dump)) result }
+{
+    let (reading, name) = (source.reading, source.file.name());
+    match task {
+        Task::Show { filter, summary } => {
+            find_rows(alloc, reading, filter, summary, quiet, format, reader)
+        }
+        Task::Lookup(pair) => find_answer(alloc, reading, pair, format, reader),
+        Task::AnySource(dst) => find_any_source(alloc, reading, dst, format, reader),
+        Task::Normalise {
+            form,
             view,
             body,
             hex,
-            ..
-        } => find_route_octets(alloc, reading, view, body, hex, reader),
-        Job::RouteRows {
-            reading,
+        } => match form {
+            Form::Answers => find_normal(alloc, reading, view, body, hex, reader),
+            Form::Routes => find_route_octets(alloc, reading, view, body, hex, reader),
+        },
+        Task::Key { form, view } => match form {
+            Form::Answers => find_key(alloc, reading, view, false, name, reader),
+            Form::Routes => find_key(alloc, reading, view, true, name, reader),
+        },
+        Task::Pairs {
+            form,
             view,
             filter,
             count,
-            format,
-            ..
-        } => find_route_rows(alloc, reading, view, filter, count, format, reader),
-        Job::CompareRoutes {
-            reading,
-            other_reading,
-            view,
+        } => match form {
+            Form::Answers => find_pairs(alloc, reading, view, filter, count, format, reader),
+            Form::Routes => find_route_rows(alloc, reading, view, filter, count, format, reader),
+        },
+    }
+}
+
+/// Reads two dumps, the first to its end before the other, and finds what is asked of both.
+fn find_of_two<R: ByteIn, S: ByteIn>(
+    alloc: Global,
+    first: &DumpSource,
+    second: &DumpSource,
+    view: View,
+    task: Comparison,
+    format: Format,
+    reader: &mut R,
+    other: &mut S,
+) -> Result<Found, RunFault>
+    requires reader { HasRoomToCount (R.state reader.old) }
+    requires other { HasRoomToCount (S.state other.old) }
+    ensures gathered { let dump =
+        dump_of (reads (R.state reader.old) (R.state reader.new)) first.now.reading in
+        let another =
+        dump_of (reads (S.state other.old) (S.state other.new)) second.now.reading in
+        Gathered (calls_of dump)
+        (ComparisonCause (finds_all task) view dump another (other.new ≡ other.old))
+        (Says (ComparisonSays task format view (name_of first.now.file) (name_of second.now.file)
+        dump another)) result }
+    ensures other_calls { Called (calls_of
+        (dump_of (reads (S.state other.old) (S.state other.new)) second.now.reading)) result }
+{
+    let (one, two) = (first.reading, second.reading);
+    match task {
+        Comparison::Compare {
+            form: Form::Answers,
             listed,
-            format,
-            ..
-        } => find_route_differences(
-            alloc,
-            reading,
-            other_reading,
-            view,
+        } => match listed {
+            Listed::First => find_verdict(alloc, one, two, view, format, reader, other),
+            Listed::All => find_differences(alloc, one, two, view, false, format, reader, other),
+            Listed::Count => find_differences(alloc, one, two, view, true, format, reader, other),
+        },
+        Comparison::Compare {
+            form: Form::Routes,
             listed,
-            format,
-            reader,
-            other,
-        ),
-        Job::Diff {
-            reading,
-            other_reading,
-            view,
-            style,
-            ref file,
-            other: ref other_file,
-            ..
-        } => find_diff(
-            alloc,
-            reading,
-            other_reading,
-            view,
-            style,
-            file.name(),
-            other_file.name(),
-            reader,
-            other,
-        ),
-        Job::Senders {
-            reading,
-            format,
-            ..
-        } => find_senders(alloc, reading, format, reader),
-        Job::Extract {
-            reading,
-            sender,
-            place,
-            hex,
-            ..
-        } => {
+        } => find_route_differences(alloc, one, two, view, listed, format, reader, other),
+        Comparison::Diff(style) => {
+            let (file, other_file) = (first.file.name(), second.file.name());
+            find_diff(
+                alloc, one, two, view, style, file, other_file, reader, other,
+            )
+        }
+    }
+}
+
+/// Reads a capture, and finds what is asked of it.
+fn find_of_capture<R: ByteIn>(
+    alloc: Global,
+    reading: CaptureReading,
+    task: CaptureTask,
+    format: Format,
+    reader: &mut R,
+) -> Result<Found, RunFault>
+    requires { HasRoomToCount (R.state reader.old) }
+    ensures { let capture =
+        capture_of (reads (R.state reader.old) (R.state reader.new)) reading task in
+        Gathered (capture_calls capture) (OfFirst (CaptureTaskCause task capture))
+        (Says (CaptureTaskSays task format capture)) result }
+{
+    match task {
+        CaptureTask::Senders => find_senders(alloc, reading, format, reader),
+        CaptureTask::Extract { sender, place, hex } => {
             let wanted = Wanted::Sender {
                 sender,
                 place,

@@ -65,7 +65,7 @@ impl Notes {
         capture: Option<CaptureNotes>,
         other_capture: Option<CaptureNotes>,
     ) -> Result<(), AllocError> {
-        if job.is_quiet() {
+        if job.quiet {
             return Ok(());
         }
         match outcome.reports {
@@ -74,7 +74,7 @@ impl Notes {
                 self.add_dump(job, Side::First, report, capture)?;
                 match source {
                     Some(source) => {
-                        let spelling = job.format().spelling();
+                        let spelling = job.format.spelling();
                         self.add(Side::First, Note::Source(spelling, source))
                     }
                     None => Ok(()),
@@ -99,12 +99,10 @@ impl Notes {
                     passed: 0,
                 };
                 self.add_capture(Side::First, notes, report.interval())?;
-                match (job, report.short()) {
-                    (Job::Senders { .. }, 1..) => {
-                        self.add(Side::First, Note::TooShort(report.short()))
-                    }
-                    _ => Ok(()),
+                if job.counts_short() && report.short() > 0 {
+                    return self.add(Side::First, Note::TooShort(report.short()));
                 }
+                Ok(())
             }
         }
     }

@@ -5,7 +5,7 @@ use std::fmt;
 
 /// What there is to know where a fault of `events` tells the offset of a TLV: whose octets it
 /// counts, of a sender at its place.
-#[derive(Clone, Copy, Debug, PartialEq, Eq)]
+#[derive(Clone, Copy)]
 pub struct OffsetHint(SenderInWords);
 
 impl OffsetHint {

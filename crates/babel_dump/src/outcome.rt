@@ -7,7 +7,7 @@ use babel_prefix::Addr;
 use babel_table::Report;
 
 /// What a run answers: its status, and the reports of what it read.
-#[derive(Clone, Copy, Debug, PartialEq, Eq)]
+#[derive(Clone, Copy)]
 pub struct Outcome {
     /// The exit status, 0 or 1.
     pub status: u8,
@@ -15,7 +15,7 @@ pub struct Outcome {
 }
 
 /// The reports of what a run read.
-#[derive(Clone, Copy, Debug, PartialEq, Eq)]
+#[derive(Clone, Copy)]
 pub enum Reports {
     /// Of a dump: which TLVs were ignored.
     Dump(Report),

@@ -1,7 +1,9 @@
 ghost use Rattle.std.specs.Prelude.{◌≡◌};
+ghost use Rattle.std.specs.Option.{option_copied};
 ghost use Rattle.babel_dump.specs.CapturedDump.{capture_reading_of};
 ghost use Rattle.babel_dump.specs.Drained.{capture_limit, wanted_by};
 ghost use Rattle.babel_dump.specs.Given.{usual_reading};
+ghost use Rattle.babel_dump.specs.Misplaced.{other_time_name, time_name};
 
 use crate::capture_reading::CaptureReading;
 use crate::factor::Factor;
@@ -14,7 +16,7 @@ use babel_tlv::Mode;
 const USUAL_CAPTURE: u32 = 1_073_741_824;
 
 /// An option that asks for times.
-#[derive(Clone, Copy, Debug, PartialEq, Eq)]
+#[derive(Clone, Copy)]
 pub enum TimeOption {
     Since,
     Until,
@@ -23,7 +25,9 @@ pub enum TimeOption {
 
 impl TimeOption {
     /// The option, for an input or the first of two.
-    pub(crate) fn name(self) -> &'static str {
+    pub(crate) fn name(self) -> &'static str
+        ensures { result.now ≡ time_name self }
+    {
         match self {
             TimeOption::Since => "--since",
             TimeOption::Until => "--until",
@@ -32,7 +36,9 @@ impl TimeOption {
     }
 
     /// The option for the other of two inputs, if it has one of its own.
-    pub(crate) fn other_name(self) -> Option<&'static str> {
+    pub(crate) fn other_name(self) -> Option<&'static str>
+        ensures { option_copied result ≡ other_time_name self }
+    {
         match self {
             TimeOption::Since => Some("--other-since"),
             TimeOption::Until => Some("--other-until"),
@@ -42,7 +48,7 @@ impl TimeOption {
 }
 
 /// How a dump is read, or the dump of its sender in a capture.
-#[derive(Clone, Copy, Debug)]
+#[derive(Clone, Copy)]
 pub struct Reading {
     /// How many octets are read at most, and how many rows its table has at most: `--max-octets`,
     /// `--max-routes`.

@@ -37,7 +37,7 @@ use babel_tlv::{Mode, View};
 use std::alloc::{AllocError, Global};
 
 /// What `key` without `--from` asks for: the key of each sender in a capture.
-#[derive(Debug, Drop)]
+#[derive(Drop)]
 pub struct SenderKeys {
     /// How many octets are read at most, and how many rows the senders' tables have at most in all:
     /// `--max-octets`, `--max-routes`.

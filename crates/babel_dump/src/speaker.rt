@@ -4,7 +4,7 @@ use babel_timeline::Sender;
 
 /// A sender of Babel packets, at the place where they were captured, as one who speaks in a
 /// timeline. Ordered by address, then by place.
-#[derive(Clone, Copy, Debug, PartialEq, Eq, PartialOrd, Ord)]
+#[derive(Clone, Copy, PartialEq, Eq, PartialOrd, Ord)]
 pub struct Speaker {
     pub sender: Addr,
     pub place: Place,

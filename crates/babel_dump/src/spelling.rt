@@ -1,5 +1,5 @@
 /// How a run writes addresses.
-#[derive(Clone, Copy, Debug, PartialEq, Eq)]
+#[derive(Clone, Copy)]
 pub enum Spelling {
     /// All eight groups of an IPv6 address, and each source.
     Long,

@@ -5,7 +5,7 @@ ghost use Rattle.babel_dump.specs.Slices.{WroteFront, WroteText};
 use crate::byte_out::ByteOut;
 
 /// The device failed, or took nothing.
-#[derive(Clone, Copy, Debug, PartialEq, Eq)]
+#[derive(Clone, Copy)]
 pub struct WriteFailed;
 
 /// Writes the octets, by as many calls as it takes.

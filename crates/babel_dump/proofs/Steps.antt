@@ -1,0 +1,72 @@
+-- Steps, of which something comes, or a fault: where one thing comes of each, one comes of all.
+use Rattle.std.proofs.Common.{◌≡◌, ◌≤◌, ◌<◌, ◌⊎◌, ℕ, Bool, true, List, length, Result, Ok, Err, arith, ap, inl, inr}
+use Rattle.babel_dump.specs.Command.{IsOfMany}
+use Rattle.babel_dump.specs.Given.{Input}
+use Rattle.babel_dump.specs.declared.input_fault.InputFault.{InputFault}
+use Rattle.babel_dump.specs.declared.run_fault.RunFault.TheVariants as run_faults
+use Rattle.babel_dump.specs.declared.run_fault.RunFault.{RunFault}
+use Rattle.babel_dump.specs.declared.run_fault.Side.{Side}
+use Rattle.babel_table.specs.Bounds.{Bounds}
+
+abbrev pub IsOne : {A E : Type 0} → (Result A E → Type 0) → Type 0
+IsOne {A} {E} Comes = (x y : Result A E) → Comes x → Comes y → x ≡ y
+
+-- what is so alone, without a fault
+abbrev pub Always : {A E : Type 0} → (A → Type 0) → Result A E → Type 0
+Always Is (Ok a) = Is a
+Always Is (Err e) = ⊥
+
+pub always_one : {A E : Type 0} {Is : A → Type 0} → ((a b : A) → Is a → Is b → a ≡ b) → IsOne {A = A} {E = E} (Always Is)
+always_one one (Ok a) (Ok b) is is_too = ap (λ c. Ok c) (one a b is is_too)
+always_one one (Ok a) (Err f) is never = absurd never
+always_one one (Err e) y never is_too = absurd never
+
+-- a step, and the next, by what came of it
+abbrev pub Then : {A B E : Type 0} → (Result A E → Type 0) → (A → Result B E → Type 0) → Result B E → Type 0
+Then {A} {B} {E} First Next result = ((a : A) × First (Ok a) × Next a result) ⊎ ((e : E) × First (Err e) × (result ≡ Err e))
+
+pub then_one : {A B E : Type 0} {First : Result A E → Type 0} {Next : A → Result B E → Type 0} → IsOne First → ((a : A) → IsOne (Next a)) → IsOne (Then First Next)
+then_one {A} first next x y (inl (a, is, goes)) (inl (b, is_too, goes_too)) =
+    let came = first (Ok a) (Ok b) is is_too in
+    let same : a ≡ b = cc in
+    next b x y (rw same at goes) goes_too
+then_one first next x y (inl (a, is, goes)) (inr (f, is_too, ends)) = let came = first (Ok a) (Err f) is is_too in absurd cc
+then_one first next x y (inr (e, is, ends)) (inl (b, is_too, goes)) = let came = first (Err e) (Ok b) is is_too in absurd cc
+then_one first next x y (inr (e, is, ends)) (inr (f, is_too, ends_too)) = let came = first (Err e) (Err f) is is_too in cc
+
+-- a value that is whole, or, where that is asked, refused
+abbrev pub Checked : {A E : Type 0} → A → (strict : Bool) → (Whole : Type 0) → (Refused : E → Type 0) → Result A E → Type 0
+Checked a strict Whole Refused (Ok b) = (b ≡ a) × (strict ≡ true → Whole)
+Checked a strict Whole Refused (Err e) = (strict ≡ true) × Refused e
+
+pub checked_one : {A E : Type 0} (a : A) (strict : Bool) {Whole : Type 0} {Refused : E → Type 0} → ((e : E) → Whole → Refused e → ⊥)
+    → ((e f : E) → Refused e → Refused f → e ≡ f) → IsOne (Checked a strict Whole Refused)
+checked_one a strict never one (Ok x) (Ok y) is is_too = let left = is.0 in let right = is_too.0 in cc
+checked_one a strict never one (Ok x) (Err f) is is_too = absurd (never f (is.1 is_too.0) is_too.1)
+checked_one a strict never one (Err e) (Ok y) is is_too = absurd (never e (is_too.1 is.0) is.1)
+checked_one a strict never one (Err e) (Err f) is is_too = ap (λ g. Err g) (one e f is.1 is_too.1)
+
+-- a list that is no longer than the limit
+abbrev pub Few : {A : Type 0} → (List A → Type 0) → Bounds → Result (List A) RunFault → Type 0
+Few Are limits (Ok list) = Are list × (length list ≤ limits.entries)
+Few {A} Are limits (Err fault) = IsOfMany fault × ((list : List A) × Are list × (limits.entries < length list))
+
+pub few_one : {A : Type 0} {Are : List A → Type 0} (limits : Bounds) → ((x y : List A) → Are x → Are y → x ≡ y) → IsOne (Few Are limits)
+few_one limits one (Ok x) (Ok y) (are, few) (are_too, few_too) = ap (λ l. Ok l) (one x y are are_too)
+few_one {A} limits one (Ok x) (Err f) (are, few) (is, (y, are_too, many)) = let same = ap (λ (l : List A). length l) (one x y are are_too) in absurd (omega (arith, same, few, many))
+few_one {A} limits one (Err e) (Ok y) (is, (x, are, many)) (are_too, few) = let same = ap (λ (l : List A). length l) (one x y are are_too) in absurd (omega (arith, same, few, many))
+few_one limits one (Err e) (Err f) (is, many) (is_too, many_too) = cc
+
+-- of the input on a side
+abbrev pub At : {A : Type 0} → Side → (Result A InputFault → Type 0) → Result A RunFault → Type 0
+At side Comes (Ok a) = Comes (Ok a)
+At side Comes (Err fault) = (of_input : InputFault) × (fault ≡ run_faults.Input side of_input) × Comes (Err of_input)
+
+pub at_one : {A : Type 0} (side : Side) {Comes : Result A InputFault → Type 0} → IsOne Comes → IsOne (At side Comes)
+at_one side one (Ok a) (Ok b) is is_too = let came = one (Ok a) (Ok b) is is_too in let same : a ≡ b = cc in ap (λ c. Ok c) same
+at_one side one (Ok a) (Err h) is (g, at, is_too) = let came = one (Ok a) (Err g) is is_too in absurd cc
+at_one side one (Err e) (Ok b) (f, at, is) is_too = let came = one (Err f) (Ok b) is is_too in absurd cc
+at_one side one (Err e) (Err h) (f, at, is) (g, at_too, is_too) =
+    let came = one (Err f) (Err g) is is_too in
+    let same : f ≡ g = cc in
+    cc
