@@ -25,7 +25,7 @@ use std::alloc::{AllocError, Global};
 
 /// A destination prefix and a source prefix for whose addresses two tables answer these two, which
 /// differ. `None` where a table has no route for them.
-#[derive(Clone, Copy, PartialEq, Eq)]
+#[derive(Clone, Copy)]
 pub struct Difference {
     pub key: Key,
     pub left: Option<Held>,

@@ -2,7 +2,7 @@ use babel_prefix::Addr;
 use babel_tlv::Held;
 
 /// How the answers of two tables compare.
-#[derive(Clone, Copy, Debug, PartialEq, Eq)]
+#[derive(Clone, Copy)]
 pub enum Verdict {
     /// Every destination and source has the same answer.
     Same,

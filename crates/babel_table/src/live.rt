@@ -185,6 +185,7 @@ impl LiveRows {
     pub fn are_rows(&self)
         ensures { AreRows self.now.rows }
     {
+        // For the proof: the length has that the keys rise.
         let _ = self.kept.len();
     }
 
@@ -192,6 +193,7 @@ impl LiveRows {
     pub fn are_few(&self)
         ensures { length self.now.rows ≤ self.now.entries }
     {
+        // For the proof: a field that is read has what the type keeps.
         let _ = &self.mode;
     }
 

@@ -2,7 +2,7 @@ use crate::subject::Subject;
 use babel_tlv::Ann;
 
 /// How what is held for a subject changes.
-#[derive(Clone, Copy, Debug, PartialEq, Eq)]
+#[derive(Clone, Copy)]
 pub enum ChangeKind {
     /// Nothing was held, and now this is.
     Announced(Ann),
@@ -15,7 +15,7 @@ pub enum ChangeKind {
 }
 
 /// That what is held for a subject changes.
-#[derive(Clone, Copy, Debug, PartialEq, Eq)]
+#[derive(Clone, Copy)]
 pub struct Change<S> {
     /// When, in nanoseconds since the start of 1970.
     pub time: u128,

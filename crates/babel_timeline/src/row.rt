@@ -2,7 +2,7 @@ use crate::when::When;
 use babel_tlv::Ann;
 
 /// What is held for a subject.
-#[derive(Clone, Copy, Debug, PartialEq, Eq)]
+#[derive(Clone, Copy)]
 pub struct Row {
     /// What was announced last.
     pub ann: Ann,

@@ -1,7 +1,7 @@
 use babel_tlv::Key;
 
 /// What rows are of: what a sender announces, and for which key. Ordered by sender, then by key.
-#[derive(Clone, Copy, Debug, PartialEq, Eq, PartialOrd, Ord)]
+#[derive(Clone, Copy, PartialEq, Eq, PartialOrd, Ord)]
 pub struct Subject<S> {
     /// Who announces.
     pub sender: S,

@@ -2,7 +2,7 @@ use crate::change::Change;
 use babel_tlv::Ann;
 
 /// What is told: a line of its own.
-#[derive(Clone, Copy, Debug, PartialEq, Eq)]
+#[derive(Clone, Copy)]
 pub enum Telling<S> {
     /// What is held for a subject changes.
     Change(Change<S>),

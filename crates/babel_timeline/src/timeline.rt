@@ -165,6 +165,7 @@ impl<S: Sender> Timeline<S> {
     pub fn are_few(&self)
         ensures { length self.now.rows ≤ self.now.limit }
     {
+        // For the proof: a field that is read has what the type keeps.
         let _ = &self.limit;
     }
 

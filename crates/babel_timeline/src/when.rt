@@ -5,7 +5,7 @@ use std::marker::Model;
 
 /// When something was said, in nanoseconds since the start of 1970, and the Interval that was said
 /// with it, in hundredths of a second: RFC 8966, 4.6.9.
-#[derive(Clone, Copy, Debug, PartialEq, Eq)]
+#[derive(Clone, Copy)]
 pub struct When {
     time: u128,
     interval: u16,
