@@ -1,6 +1,6 @@
 -- What packets give, taken one by one.
 use Rattle.std.proofs.Common.{◌≡◌, ◌≤◌, ℕ, List, [], ◌∷◌, ◌++◌, ◌+◌, length, refl, sym, ap, subst, ◌∙◌, append_assoc, inl, inr}
-use Rattle.std.specs.Prelude.{Bool, true, false, Option, Some, None, Result, Ok, Err, OnOk, IfOk, IfErr, ◌⊎◌}
+use Rattle.std.specs.Prelude.{Bool, Option, Some, None, ◌⊎◌}
 use Rattle.std.specs.List.{flat_map}
 use Rattle.babel_prefix.specs.Address.{Address}
 use Rattle.babel_capture.specs.declared.reason.Reason.{Reason}
@@ -69,21 +69,23 @@ gathered-push before next old new what same dump dumps report senders few takes 
     let one : Made = made_of next what in
     let is_senders : new.senders ≡ senders_of (gathered.made ++ one ∷ []) =
     senders ∙ ap (λ (t : Senders). senders_with t (time_of next.came) what) gathered.senders ∙ sym (senders-push gathered.made one) in
-    let is_number : one.number ≡ length gathered.made + 1 = number ∙ ap (λ c. c.packets + 1) gathered.report in
-    (record {
-      made = gathered.made ++ one ∷ [];
-      taken = record {
-        are_made = subst (λ (w : Wanted). AreMade w (before ++ next ∷ []) (gathered.made ++ one ∷ [])) (sym same)
-            (made-push old.wanted before next gathered.made what gathered.taken.are_made finds takes);
-        few = subst (λ (s : Senders). length s ≤ 65536) is_senders few;
-      };
-      dump = subst (λ (w : Wanted). new.dump ≡ dump_of w (gathered.made ++ one ∷ [])) (sym same)
-          (dump ∙ dump-push old.wanted gathered.made old.dump one gathered.dump);
-      dumps = subst (λ (w : Wanted). new.dumps ≡ dumps_of w (gathered.made ++ one ∷ [])) (sym same)
-          (dumps ∙ ap (λ (d : Dumps). dumps_with old.wanted d next.number (time_of next.came) what) gathered.dumps ∙ sym (dumps-push old.wanted gathered.made one));
-      report = report ∙ ap (λ (c : Counts). counted (counted_at c next.came) next.link what) gathered.report ∙ sym (counts-push gathered.made one is_number);
-      senders = is_senders;
-    }, refl)
+    let is_number : one.number ≡ length gathered.made + 1 = number ∙ ap (λ c. c.packets + 1) gathered.report in (
+      record {
+        made = gathered.made ++ one ∷ [];
+        taken = record {
+          are_made = subst (λ (w : Wanted). AreMade w (before ++ next ∷ []) (gathered.made ++ one ∷ [])) (sym same)
+              (made-push old.wanted before next gathered.made what gathered.taken.are_made finds takes);
+          few = subst (λ (s : Senders). length s ≤ 65536) is_senders few;
+        };
+        dump = subst (λ (w : Wanted). new.dump ≡ dump_of w (gathered.made ++ one ∷ [])) (sym same)
+            (dump ∙ dump-push old.wanted gathered.made old.dump one gathered.dump);
+        dumps = subst (λ (w : Wanted). new.dumps ≡ dumps_of w (gathered.made ++ one ∷ [])) (sym same)
+            (dumps ∙ ap (λ (d : Dumps). dumps_with old.wanted d next.number (time_of next.came) what) gathered.dumps ∙ sym (dumps-push old.wanted gathered.made one));
+        report = report ∙ ap (λ (c : Counts). counted (counted_at c next.came) next.link what) gathered.report ∙ sym (counts-push gathered.made one is_number);
+        senders = is_senders;
+      },
+      refl,
+    )
 
 -- octets that were taken out stand before what is added
 pub dump-after : (wanted : Wanted) (taken dump octets : List ℕ) → taken ++ dump_with wanted dump octets ≡ dump_with wanted (taken ++ dump) octets
@@ -112,14 +114,21 @@ few_kept before old new same gathered = subst (λ (s : Senders). length s ≤ 65
 -- what holds no packet changes nothing
 pub no-more : (old new : Gathering) → new.wanted ≡ old.wanted → new.dump ≡ old.dump → new.dumps ≡ old.dumps → new.report ≡ old.report → new.senders ≡ old.senders
     → (more : List Made) × (more ≡ []) × GatherMore old new [] more
-no-more old new wanted dump dumps report senders = ([], refl, (λ taken before was. (record {
-  made = was.made;
-  taken = subst (λ (w : Wanted). AreTaken w (before ++ []) was.made) (sym wanted) (subst (λ (s : List Sighting). AreTaken old.wanted s was.made) (sym (append-nil before)) was.taken);
-  dump = ap (λ (d : List ℕ). taken ++ d) dump ∙ was.dump ∙ ap (λ (w : Wanted). dump_of w was.made) (sym wanted);
-  dumps = dumps ∙ was.dumps ∙ ap (λ (w : Wanted). dumps_of w was.made) (sym wanted);
-  report = report ∙ was.report;
-  senders = senders ∙ was.senders;
-}, sym (append-nil was.made))))
+no-more old new wanted dump dumps report senders = (
+  [],
+  refl,
+  (λ taken before was. (
+    record {
+      made = was.made;
+      taken = subst (λ (w : Wanted). AreTaken w (before ++ []) was.made) (sym wanted) (subst (λ (s : List Sighting). AreTaken old.wanted s was.made) (sym (append-nil before)) was.taken);
+      dump = ap (λ (d : List ℕ). taken ++ d) dump ∙ was.dump ∙ ap (λ (w : Wanted). dump_of w was.made) (sym wanted);
+      dumps = dumps ∙ was.dumps ∙ ap (λ (w : Wanted). dumps_of w was.made) (sym wanted);
+      report = report ∙ was.report;
+      senders = senders ∙ was.senders;
+    },
+    sym (append-nil was.made),
+  )),
+)
 
 -- where nothing is found, no more is told than that there is a packet
 pub told-plain : (next : Sighting) (what : Found) (told : Record) → told.number ≡ next.number → told.time ≡ time_of next.came → (told.packet ≡ None) × (told.missed ≡ None)

@@ -15,7 +15,7 @@ use Rattle.babel_capture.specs.declared.layout.Layout.{Layout}
 use Rattle.babel_capture.specs.declared.layout.Layout.TheVariants as layouts
 use Rattle.babel_capture.specs.declared.link.Link.{Link}
 use Rattle.babel_capture.specs.declared.order.Order.{Order}
-use Rattle.babel_capture.specs.Blocks.{HasHeader, context_behind, header_of, octets_of, start}
+use Rattle.babel_capture.specs.Blocks.{context_behind, header_of, octets_of, start}
 use Rattle.babel_capture.specs.Capture.{CaptureFault, IsShortBy}
 use Rattle.babel_capture.specs.Contents.{Captured, Content, by_time, read_by, skips, file, section, describes, holds, nothing}
 use Rattle.babel_capture.specs.Contents.{block_said, first_said, holds_by, interface_said, kept_said, layout_said, numbered_said, packet_of, section_of, simple_of, simple_said, typed_said}

@@ -1,19 +1,18 @@
 -- Blocks, taken one by one.
 use Rattle.std.proofs.Common.{◌≡◌, ℕ, ◌+◌, ◌-◌, ◌≤◌, List, [], ◌∷◌, ◌++◌, length, take, drop, refl, sym, ap, subst, ◌∙◌, append_assoc, inl, inr, length-drop, arith}
-use Rattle.std.specs.Prelude.{Ok, Err, Option, Some, IfSome, IsTrue, ◌⊎◌, ◌&&◌, if◌then◌else◌}
+use Rattle.std.specs.Prelude.{Ok, Option, Some, IfSome, ◌⊎◌}
 use Rattle.std.proofs.lemmas.List.{append-nil, length-append, take-append-drop}
 use Rattle.std.proofs.Math.Seq.{take-add}
 use Rattle.std.proofs.lemmas.List.Concat.{flat_map-append}
 use Rattle.babel_capture.specs.declared.fault.Fault.{Fault}
 use Rattle.babel_capture.specs.declared.sink.Record.{Record}
 use Rattle.babel_capture.specs.declared.wanted.Wanted.{Wanted}
-use Rattle.babel_capture.specs.Blocks.{names_of, BlockAt, BeginsBlock, HasHeader, header_of, IsBlock, AreBlocks, Sighting, start, context_behind, octets_of, sightings_in, sightings_behind}
+use Rattle.babel_capture.specs.Blocks.{names_of, BlockAt, BeginsBlock, IsBlock, AreBlocks, Sighting, start, context_behind, octets_of, sightings_in, sightings_behind}
 use Rattle.babel_capture.specs.Blocks.{sightings_of}
 use Rattle.babel_capture.specs.Contents.{Content, block_said, context_after, names_in}
 use Rattle.babel_capture.specs.Context.{Before}
 use Rattle.babel_capture.specs.Counts.{Made, Counts}
 use Rattle.babel_capture.specs.Gathering.{AreMade, AreTaken, BlockNeedsMemory, Gathering, IsGathered, with_taken}
-use Rattle.babel_capture.specs.Lengths.{block_len}
 use Rattle.babel_capture.specs.Reading.{Account, Progress, LeadTo, BlockFails, HeaderFails, NeedsMemory, NeedsMemoryAt, StopsAt, Stops}
 use Rattle.babel_capture.specs.Tallies.{Senders, senders_of}
 use Rattle.babel_capture.specs.PacketEnds.{AreEnds}
@@ -96,28 +95,30 @@ lead-push block old new content told more is_block said context place is_told ga
     let both = gathers account.taken (sightings_of lead.blocks) lead.gathered in
     let gathered = both.0 in
     let same : sightings_of lead.blocks ++ sightings_in (old.gathering.report.packets + 1) old.at content ≡ sightings_of (lead.blocks ++ b ∷ []) =
-    ap (λ (n : ℕ). sightings_of lead.blocks ++ sightings_in n old.at content) number ∙ sym (sightings-push 0 lead.blocks b) in
-    (record {
-      blocks = lead.blocks ++ b ∷ [];
-      whole = ap (λ (t : List ℕ). t ++ block) lead.whole ∙ sym (octets-push lead.blocks b);
-      are_blocks = blocks-push (start account.limit) 0 lead.blocks b lead.are_blocks (omega (arith, lead.place, ap length lead.whole))
-          (subst (λ (c : Before). IsBlock c old.at block) lead.context is_block)
-          (subst (λ (c : Before). block_said c old.at block ≡ Ok content) lead.context said);
-      place = omega (arith, place, lead.place, length-append read block);
-      context = context ∙ ap (λ (c : Before). context_after c content) lead.context ∙ sym (context-push (start account.limit) lead.blocks b);
-      gathered = record {
-        made = gathered.made;
-        taken = subst (λ (s : List Sighting). AreTaken new.gathering.wanted s gathered.made) same gathered.taken;
-        dump = gathered.dump;
-        dumps = gathered.dumps;
-        report = gathered.report;
-        senders = gathered.senders;
-      };
-      ends = subst (AreEnds new.gathering.wanted account.taken gathered.made) (sym ends)
-          (ends-after new.gathering.wanted account.taken new.gathering.dump lead.gathered.made more gathered.made told old.ends is_told both.1 gathered.dump
-          (subst (λ (w : Wanted). AreEnds w account.taken lead.gathered.made old.ends) (sym wanted) lead.ends));
-      names = names ∙ ap (λ (ns : List (List ℕ)). ns ++ names_in content) lead.names ∙ sym (names-push lead.blocks b);
-    }, both.1)
+    ap (λ (n : ℕ). sightings_of lead.blocks ++ sightings_in n old.at content) number ∙ sym (sightings-push 0 lead.blocks b) in (
+      record {
+        blocks = lead.blocks ++ b ∷ [];
+        whole = ap (λ (t : List ℕ). t ++ block) lead.whole ∙ sym (octets-push lead.blocks b);
+        are_blocks = blocks-push (start account.limit) 0 lead.blocks b lead.are_blocks (omega (arith, lead.place, ap length lead.whole))
+            (subst (λ (c : Before). IsBlock c old.at block) lead.context is_block)
+            (subst (λ (c : Before). block_said c old.at block ≡ Ok content) lead.context said);
+        place = omega (arith, place, lead.place, length-append read block);
+        context = context ∙ ap (λ (c : Before). context_after c content) lead.context ∙ sym (context-push (start account.limit) lead.blocks b);
+        gathered = record {
+          made = gathered.made;
+          taken = subst (λ (s : List Sighting). AreTaken new.gathering.wanted s gathered.made) same gathered.taken;
+          dump = gathered.dump;
+          dumps = gathered.dumps;
+          report = gathered.report;
+          senders = gathered.senders;
+        };
+        ends = subst (AreEnds new.gathering.wanted account.taken gathered.made) (sym ends)
+            (ends-after new.gathering.wanted account.taken new.gathering.dump lead.gathered.made more gathered.made told old.ends is_told both.1 gathered.dump
+            (subst (λ (w : Wanted). AreEnds w account.taken lead.gathered.made old.ends) (sym wanted) lead.ends));
+        names = names ∙ ap (λ (ns : List (List ℕ)). ns ++ names_in content) lead.names ∙ sym (names-push lead.blocks b);
+      },
+      both.1,
+    )
 
 -- ---- what stops
 

@@ -65,23 +65,26 @@ module _ (account : Account) (old : Progress) (pending fed piece : List ℕ) (to
 
   end-more : (new : Progress) → new ≡ record old { passed = old.passed + length piece } → length pending + (old.passed + length piece) ≤ old.context.limit - old.at
       → (now : HasTaken account new pending (fed ++ piece)) × (now.leads.gathered.made ≡ taken.leads.gathered.made ++ [])
-  end-more new is few = subst (λ (p : Progress). (now : HasTaken account p pending (fed ++ piece)) × (now.leads.gathered.made ≡ taken.leads.gathered.made ++ [])) (sym is) (record {
-    read = taken.read;
-    rest = taken.rest ++ piece;
-    whole = whole-now;
-    leads = record {
-      blocks = taken.leads.blocks;
-      whole = taken.leads.whole;
-      are_blocks = taken.leads.are_blocks;
-      place = taken.leads.place;
-      context = taken.leads.context;
-      gathered = taken.leads.gathered;
-      ends = taken.leads.ends;
-      names = taken.leads.names;
-    };
-    partial = inr (inr (end-now, omega (arith, few, size-now)));
-    kept = (inr (end-now, told), size-now);
-  }, sym (append-nil taken.leads.gathered.made))
+  end-more new is few = subst (λ (p : Progress). (now : HasTaken account p pending (fed ++ piece)) × (now.leads.gathered.made ≡ taken.leads.gathered.made ++ [])) (sym is) (
+    record {
+      read = taken.read;
+      rest = taken.rest ++ piece;
+      whole = whole-now;
+      leads = record {
+        blocks = taken.leads.blocks;
+        whole = taken.leads.whole;
+        are_blocks = taken.leads.are_blocks;
+        place = taken.leads.place;
+        context = taken.leads.context;
+        gathered = taken.leads.gathered;
+        ends = taken.leads.ends;
+        names = taken.leads.names;
+      };
+      partial = inr (inr (end-now, omega (arith, few, size-now)));
+      kept = (inr (end-now, told), size-now);
+    },
+    sym (append-nil taken.leads.gathered.made),
+  )
 
   end-stops : (fault : Fault) → fault ≡ faults.TooLong old.at → old.context.limit - old.at < length pending + (old.passed + length piece)
       → Stops account.limit old.gathering.wanted (fed ++ piece) fault
@@ -101,16 +104,18 @@ module _ (account : Account) (old : Progress) (pending fed piece : List ℕ) (to
 pub feed-next : (piece pending all left : List ℕ) (used : ℕ) (old new : Progress) (more : List Made) → ¬ IsEnd old.context old.at pending → new.passed ≡ old.passed → all ≡ pending ++ piece → left ≡ drop used all
     → LeadMore old new (take used all) more → IsPartial new.context new.at (drop used all) → FeedMore old pending new left piece more
 feed-next piece pending all left used old new more not passed is_all is_left took partial account fed taken =
-    let led = took account taken.read taken.leads in
-    (record {
-      read = taken.read ++ take used all;
-      rest = left;
-      whole = ap (λ (t : List ℕ). t ++ piece) (fed-is account old pending fed not taken) ∙ append_assoc taken.read pending piece ∙ ap (λ (t : List ℕ). taken.read ++ t) (sym is_all ∙ sym (take-append-drop used all))
-          ∙ sym (append_assoc taken.read (take used all) (drop used all)) ∙ ap (λ (t : List ℕ). (taken.read ++ take used all) ++ t) (sym is_left);
-      leads = led.0;
-      partial = subst (λ (t : List ℕ). IsPartial new.context new.at t) (sym is_left) partial;
-      kept = (inl refl, (let same : pending ≡ taken.rest = kept-all old taken.rest pending taken.kept not in omega (arith, passed, taken.kept.1, ap length same)));
-    }, led.1)
+    let led = took account taken.read taken.leads in (
+      record {
+        read = taken.read ++ take used all;
+        rest = left;
+        whole = ap (λ (t : List ℕ). t ++ piece) (fed-is account old pending fed not taken) ∙ append_assoc taken.read pending piece ∙ ap (λ (t : List ℕ). taken.read ++ t) (sym is_all ∙ sym (take-append-drop used all))
+            ∙ sym (append_assoc taken.read (take used all) (drop used all)) ∙ ap (λ (t : List ℕ). (taken.read ++ take used all) ++ t) (sym is_left);
+        leads = led.0;
+        partial = subst (λ (t : List ℕ). IsPartial new.context new.at t) (sym is_left) partial;
+        kept = (inl refl, (let same : pending ≡ taken.rest = kept-all old taken.rest pending taken.kept not in omega (arith, passed, taken.kept.1, ap length same)));
+      },
+      led.1,
+    )
 
 pub sinks-next : {S : Type 0} (has : S → S → List Made → Type 0) (before after : S) (piece pending all left : List ℕ) (used : ℕ) (old new : Progress) → ¬ IsEnd old.context old.at pending → new.passed ≡ old.passed
     → all ≡ pending ++ piece → left ≡ drop used all → Sinks has before after (LeadMore old new (take used all)) → IsPartial new.context new.at (drop used all)

@@ -7,7 +7,6 @@ use Rattle.babel_capture.specs.declared.tallies.Origin.{Origin}
 use Rattle.babel_capture.specs.declared.wanted.Wanted.{Wanted}
 use Rattle.babel_capture.specs.declared.wanted.Wanted.TheVariants as wanteds
 use Rattle.babel_capture.specs.Counts.{Made}
-use Rattle.babel_capture.specs.Findings.{Found}
 use Rattle.babel_capture.specs.Gathering.{dump_of, octets_found, origin_found}
 use Rattle.babel_capture.specs.Times.{time_of}
 

@@ -22,7 +22,7 @@ use crate::options::read_options;
 use crate::order::Order;
 use crate::seen::Seen;
 use crate::time::Time;
-use crate::window::{Window, is_empty, is_between};
+use crate::window::{Window, is_between, is_empty};
 
 /// Types of blocks: draft-ietf-opsawg-pcapng, 4.2, 4.3, 4.4. The packet block is an old one, which
 /// the enhanced packet block replaced.

@@ -181,24 +181,24 @@ impl Gathered {
         let seen = packet.look();
         let section = packet.babel_section(&seen);
         let came = packet.time();
-        let told = came;
+        let (told, time) = (came, came);
         self.report.take_time(told);
         let number = self.report.packets() + 1;
         match self.wanted.finding(&seen) {
             Finding::Passed => {
                 self.outside.pass(&self.wanted, packet, &seen);
                 self.report.count(section, None);
-                Ok(Record::plain(number, packet.time()))
+                Ok(Record::plain(number, time))
             }
             Finding::Short => {
                 self.report.count_short(section);
-                Ok(Record::plain(number, packet.time()))
+                Ok(Record::plain(number, time))
             }
             Finding::Left { reason, missed } => {
                 self.report.count(section, Some(reason));
                 Ok(Record {
                     number,
-                    time: packet.time(),
+                    time,
                     packet: None,
                     missed: Missed::of(reason, missed),
                 })
@@ -211,7 +211,7 @@ impl Gathered {
             } => {
                 self.report.count(section, None);
                 self.add_lack(Origin { place, sender }, lack)?;
-                Ok(Record::plain(number, packet.time()))
+                Ok(Record::plain(number, time))
             }
             Finding::Packet {
                 place,
@@ -226,7 +226,7 @@ impl Gathered {
                 self.add(at, &origin, came, octets, &updates, has_trailer)?;
                 Ok(Record {
                     number,
-                    time: packet.time(),
+                    time,
                     packet: Some(BabelPacket { origin, octets }),
                     missed: None,
                 })
@@ -235,11 +235,7 @@ impl Gathered {
     }
 
     /// Takes what the block at this offset says: what is told of its packet, if it says one.
-    pub fn take_said<'a>(
-        &mut self,
-        at: u64,
-        said: &Block<'a>,
-    ) -> Result<Option<Record<'a>>, Fault>
+    pub fn take_said<'a>(&mut self, at: u64, said: &Block<'a>) -> Result<Option<Record<'a>>, Fault>
         requires { self.old.report.packets + 1 < 2 ^ 64 }
         ensures wanted { self.new.wanted ≡ self.old.wanted }
         ensures names { OnOk result (self.new.names
@@ -321,8 +317,7 @@ impl Gathered {
         ensures err { IfErr result (λ fault. fault ≡ Fault.Memory) }
     {
         let packet = self.report.packets();
-        self.dumps
-            .add(&origin, None, Some(LackAt { packet, lack }))
+        self.dumps.add(&origin, None, Some(LackAt { packet, lack }))
     }
 
     /// Counts a packet for its sender, and whether octets come after its body, and adds it to a

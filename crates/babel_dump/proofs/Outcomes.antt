@@ -1,5 +1,5 @@
 -- What a job's run answers and writes is settled by the octets of its readers.
-use Rattle.std.proofs.Common.{◌≡◌, ◌≢◌, refl, ℕ, ◌<◌, ◌≤◌, Bool, true, false, if◌then◌else◌, List, [], ◌++◌, length, take, Option, None, Some, Result, Ok, Err, inl, inr, ◌⊎◌, arith, subst, ap, sym, ◌∙◌}
+use Rattle.std.proofs.Common.{◌≡◌, ◌≢◌, refl, ℕ, Bool, true, false, if◌then◌else◌, List, [], ◌++◌, length, take, Option, None, Some, Result, Ok, Err, inl, inr, subst, ap, sym, ◌∙◌}
 use Rattle.std.specs.Prelude.{zero, suc}
 use Rattle.babel_canon.proofs.DifferingRows.{route_differences_are_one}
 use Rattle.babel_canon.proofs.OneDifferences.{differences_are_one}

@@ -1,6 +1,6 @@
 -- The packets of a capture's records, their octets, and where they end.
 use Rattle.std.proofs.Common.{◌≡◌, ℕ, ◌+◌, ◌≤◌, List, [], ◌∷◌, ◌++◌, length, refl, sym, ap, subst, ◌∙◌, append_assoc, inl, inr, arith, length-append, Option}
-use Rattle.std.specs.Prelude.{None, Some, false, fold}
+use Rattle.std.specs.Prelude.{None, Some, fold}
 use Rattle.std.specs.List.{AllByRecursion, flat_map}
 use Rattle.babel_prefix.specs.Address.{Address}
 use Rattle.babel_tlv.specs.Framing.{IsBody, framed}

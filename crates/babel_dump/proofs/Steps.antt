@@ -1,7 +1,6 @@
 -- Steps, of which something comes, or a fault: where one thing comes of each, one comes of all.
-use Rattle.std.proofs.Common.{◌≡◌, ◌≤◌, ◌<◌, ◌⊎◌, ℕ, Bool, true, List, length, Result, Ok, Err, arith, ap, inl, inr}
+use Rattle.std.proofs.Common.{◌≡◌, ◌≤◌, ◌<◌, ◌⊎◌, Bool, true, List, length, Result, Ok, Err, arith, ap, inl, inr}
 use Rattle.babel_dump.specs.Command.{IsOfMany}
-use Rattle.babel_dump.specs.Given.{Input}
 use Rattle.babel_dump.specs.declared.input_fault.InputFault.{InputFault}
 use Rattle.babel_dump.specs.declared.run_fault.RunFault.TheVariants as run_faults
 use Rattle.babel_dump.specs.declared.run_fault.RunFault.{RunFault}

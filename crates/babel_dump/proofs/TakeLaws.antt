@@ -70,14 +70,16 @@ module _ (events : Events) (fed piece : List ℕ) (told : Tellings) (old : Follo
       let made = is.read.leads.gathered.made in
       let here = old.follower.events.now in
       let was = subst (λ (e : Events). HasHeard e made (told ++ old.follower.told.items) old.follower.hearing) (sym is.events_are) is.has_heard in
-      let heard = subst (λ (e : Events). HasHeard e (made ++ sinks.more) (told ++ follower.told.items) follower.hearing) is.events_are ((follows.1 sound).1 made told was) in
-      (follows.0 ∙ is.events_are, record {
-        read = read.0;
-        no_fault = none;
-        limit = limit ∙ is.limit;
-        wanted = wanted ∙ is.wanted;
-        has_heard = subst (λ (m : List Made). HasHeard events m (told ++ follower.told.items) follower.hearing) (sym read.1) heard;
-      })
+      let heard = subst (λ (e : Events). HasHeard e (made ++ sinks.more) (told ++ follower.told.items) follower.hearing) is.events_are ((follows.1 sound).1 made told was) in (
+        follows.0 ∙ is.events_are,
+        record {
+          read = read.0;
+          no_fault = none;
+          limit = limit ∙ is.limit;
+          wanted = wanted ∙ is.wanted;
+          has_heard = subst (λ (m : List Made). HasHeard events m (told ++ follower.told.items) follower.hearing) (sym read.1) heard;
+        },
+      )
 
   pub followed_on : (new : Followed) → capture.limit ≡ old.capture.limit → capture.progress.gathering.wanted ≡ old.capture.progress.gathering.wanted → capture.fault ≡ None
       → Sinks Follows old.follower follower (FeedMore old.capture.progress old.capture.pending capture.progress capture.pending piece) → follower.fault ≡ None

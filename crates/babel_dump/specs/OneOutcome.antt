@@ -1,6 +1,6 @@
 -- Laws of the definitions: what a job's run answers and writes is settled by the octets of its
 -- readers, and by what was left out of them. These are this project's own.
-use Rattle.std.specs.Prelude.{◌≡◌, ◌≢◌, ℕ, Bool, List, ◌++◌, take, Option, None, Some, Result, Ok, Err}
+use Rattle.std.specs.Prelude.{◌≡◌, ◌≢◌, ℕ, Bool, List, ◌++◌, take, Option, Some, Result, Ok, Err}
 use Rattle.babel_prefix.specs.Address.{Address}
 use Rattle.babel_capture.specs.declared.place.Place.{Place}
 use Rattle.babel_capture.specs.declared.wanted.Wanted.TheVariants as wanteds

@@ -31,10 +31,7 @@ use std::collections::BTreeSet;
 pub(crate) enum Unheard {
     Memory,
     /// The TLVs of this sender are refused: by an offset in its dump.
-    Sender {
-        origin: Origin,
-        fault: DumpFault,
-    },
+    Sender { origin: Origin, fault: DumpFault },
 }
 
 impl From<AllocError> for Unheard {
@@ -179,11 +176,7 @@ impl Hearing {
 
     /// Tells no more of the sender whose datagram the record left out since it lacks something, if it
     /// did. Adds by what each sender is lost.
-    pub(crate) fn lose(
-        &mut self,
-        said: &Record<'_>,
-        by: &mut Vec<LostBy>,
-    ) -> Result<(), AllocError>
+    pub(crate) fn lose(&mut self, said: &Record<'_>, by: &mut Vec<LostBy>) -> Result<(), AllocError>
         ensures same { self.new.teller ≡ self.old.teller }
         ensures lost { OnOk result ((speaker : SpeakerSaid)
             → contains speaker_cmp self.new.lost speaker

@@ -59,10 +59,7 @@ impl InputFault {
 
     /// Whether by the capture's first packet `--since` is later than `--until`.
     pub fn is_empty_window(&self) -> bool {
-        matches!(
-            self,
-            InputFault::Capture(CaptureFault::EmptyWindow { .. })
-        )
+        matches!(self, InputFault::Capture(CaptureFault::EmptyWindow { .. }))
     }
 }
 

@@ -1,4 +1,4 @@
-use Rattle.std.proofs.Common.{◌≡◌, ℕ, ◌+◌, ◌++◌, refl, ap, subst, sym, ◌∙◌, inl, inr, rules}
+use Rattle.std.proofs.Common.{◌≡◌, ℕ, ◌+◌, ◌++◌, refl, ap, subst, sym, ◌∙◌, inr, rules}
 use Rattle.std.specs.Prelude.{None, Option, Some}
 use Rattle.babel_capture.specs.Blocks.{came_with, section_with, sight_in, sighting_of}
 use Rattle.babel_capture.specs.Contents.{captured_of}

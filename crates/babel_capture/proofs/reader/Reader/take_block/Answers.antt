@@ -1,4 +1,4 @@
-use Rattle.std.proofs.Common.{◌≡◌, ◌+◌, List, ℕ, [], length, ap, refl, sym, subst, ◌∙◌, true}
+use Rattle.std.proofs.Common.{◌≡◌, ◌+◌, List, ℕ, length, ap, refl, sym, subst, ◌∙◌, true}
 use Rattle.std.specs.Prelude.{Ok, Option, None, Some}
 use Rattle.babel_capture.specs.declared.sink.Record.{Record}
 use Rattle.babel_capture.specs.declared.wanted.Wanted.{Wanted}

@@ -9,10 +9,14 @@ pub returns-in_default : goal.returns-in_default
 returns-in_default c start made one told follows =
     let old = c.args.self.now in
     let new = c.hear.new.self in
-    let same = c.hear.ensures.same in
-    (same.0 ∙ follows.0, λ sound.
-    let begun = follows.1 (sym same.1 ∙ sound) in
-    (begun.0, λ gone written heard.
-    let was = subst (λ (e : Events). HasHeard e (gone ++ made) (written ++ old.told.items) old.hearing) (sym follows.0) (begun.1 gone written heard) in
-    subst (λ (m : List Made). HasHeard start.events.now m (written ++ new.told.items) new.hearing) (append_assoc gone made (one ∷ []))
-    (subst (λ (e : Events). HasHeard e ((gone ++ made) ++ one ∷ []) (written ++ new.told.items) new.hearing) follows.0 (c.in_default.ensures.heard (gone ++ made) one written told was))))
+    let same = c.hear.ensures.same in (
+      same.0 ∙ follows.0,
+      λ sound.
+          let begun = follows.1 (sym same.1 ∙ sound) in (
+            begun.0,
+            λ gone written heard.
+                let was = subst (λ (e : Events). HasHeard e (gone ++ made) (written ++ old.told.items) old.hearing) (sym follows.0) (begun.1 gone written heard) in
+                subst (λ (m : List Made). HasHeard start.events.now m (written ++ new.told.items) new.hearing) (append_assoc gone made (one ∷ []))
+                (subst (λ (e : Events). HasHeard e ((gone ++ made) ++ one ∷ []) (written ++ new.told.items) new.hearing) follows.0 (c.in_default.ensures.heard (gone ++ made) one written told was)),
+          ),
+    )
