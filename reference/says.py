@@ -4,7 +4,7 @@ from the definitions.
 
     says.py PROGRAM [--dumps N] [--seed N]
 
-Each dump is a few packets of TLVs, made so that each row of the order of the checks in FORMAT and
+Each dump is a few packets of TLVs, made so that each row of the order of the checks in INPUT and
 each fault of octets or of a limit is met: TLVs too short, Omitted octets against the default prefix
 of each encoding, both flags, retractions of one key and of all, encodings that are not read,
 sub-TLVs of each kind, prefixes with bits past their length, trailers, packets cut. Each is read
@@ -265,7 +265,7 @@ Table = collections.namedtuple("Table", "rows tlvs ignored")
 
 
 def rows_for(state, kind, body):
-    """Of a TLV, whose rows in FORMAT's order of the checks it goes by."""
+    """Of a TLV, whose rows in the order of the checks it goes by."""
     if kind != 8 or len(body) < 10 or body[0] and body[0] not in state.encodings:
         return {6: "Router-Id", 7: "Next Hop", 8: "Update"}.get(kind, "another")
     return f"Update, AE {body[0]}"
@@ -486,7 +486,7 @@ def written(octets, how, words):
     return table.ignored or table.rows
 
 
-# What must be met: the rows of FORMAT's order of the checks, and the faults.
+# What must be met: the rows of the order of the checks, and the faults.
 OF_SUB_TLVS = "bad-sub unknown-mandatory"
 OF_AN_ENCODING = (
     f"bad-plen bad-omitted no-default short-prefix {OF_SUB_TLVS} two-sources bad-source retracts"

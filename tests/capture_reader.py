@@ -1,7 +1,7 @@
 """A plain reader of captures: what `senders` and `extract` have to say of one.
 
 It is written from draft-ietf-opsawg-pcap, draft-ietf-opsawg-pcapng, RFC 791, RFC 768, RFC 8200, RFC
-8966 and docs/FORMAT.md, for nothing but to be read: it has the whole capture in memory, and each
+8966 and docs/INPUT.md, for nothing but to be read: it has the whole capture in memory, and each
 layer gives the octets of the next one.
 """
 

@@ -34,6 +34,9 @@ import timed
 from agree import SENDERS
 
 TIMELINE = TOP / "examples/timeline"
+SQUARE = TOP / "examples/square"
+# What docs/drill.svg calls the routers of examples/drill.
+BORDERS = "b1=fe80::5eff:fe00:b401", "b2=fe80::5eff:fe00:b403"
 CAPTURES = ROUTERS / "babeld-basic-a.pcap", DRILL / "drill.pcap"
 FACTORS = None, "3.5", "1"
 # Of a capture, factor and sender: so many moments and pairs of addresses, from among all.
@@ -343,16 +346,35 @@ def check_drill(program, tally):
     capture = DRILL / "drill.pcap"
     _, events, _ = run(program, ["events", "--quiet", "--expiry", "3.5", "--json"], capture)
     last = max(time for _, time in find(capture.read_bytes(), reader.Window()).records)
-    command, told = [TIMELINE, "--end", reader.time_text(last)], "\n".join(events)
+    command, told = [TIMELINE, "--end", reader.time_text(last), *BORDERS], "\n".join(events)
+    check_drawn(command, told, "drill.svg", tally)
+
+
+def check_square(program, tally):
+    """The picture in docs/ is that of the routes and the blocks of examples/blocks.dump."""
+    words = [program, "pairs", "--json", "--from", "192.0.2.1", TOP / "examples/blocks.dump"]
+    routes, blocks = (
+        subprocess.run([*words, *more], check=True, capture_output=True, text=True).stdout
+        for more in (["--routes"], [])
+    )
+    with tempfile.NamedTemporaryFile("w") as file:
+        file.write(routes)
+        file.flush()
+        check_drawn([SQUARE, file.name], blocks, "blocks.svg", tally)
+
+
+def check_drawn(command, told, name, tally):
+    """What a command draws of this is a picture in docs/."""
     drawn = subprocess.run(command, input=told, capture_output=True, text=True).stdout
-    problem = "" if drawn == (TOP / "docs/drill.svg").read_text() else "it is another one"
-    tally.check("docs/drill.svg", problem)
+    problem = "" if drawn == (TOP / "docs" / name).read_text() else "it is another one"
+    tally.check(f"docs/{name}", problem)
 
 
 def check(tally, long):
     program = built_program()
     check_picture(program, ROUTERS / "babeld-basic-a.pcap", tally)
     check_drill(program, tally)
+    check_square(program, tally)
     with tempfile.TemporaryDirectory() as folder:
         most = 10 * MOMENTS if long else MOMENTS
         check_captures(program, captures_of(pathlib.Path(folder), long), tally, most)

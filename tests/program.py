@@ -321,17 +321,29 @@ def put_example_files(folder):
     shutil.copy(ONE_ROUTE, folder / "x.dump")
 
 
-def check_examples(program, folder, tally):
-    """The examples of the help texts work as printed: they write, and nothing goes wrong."""
-    put_example_files(folder)
+def examples(program):
+    """The examples of the help texts and of the manual page, but for those that record."""
     for words in [], *([command] for command in options.COMMANDS):
-        text = help_of(program, *words)
-        for example in re.findall(r"^  (babel-dump .*)$", text, re.MULTILINE):
-            done = transcript.shell(example, folder, capture_output=True)
-            errors = done.stderr.decode().splitlines()
-            faults = [line for line in errors if not re.match("(.+: )?note: ", line)]
-            found = done.returncode in (0, 1), done.stdout != b"", faults
-            expect(tally, f"an example: {example}", found, (True, True, []))
+        yield from re.findall(r"^  (babel-dump .*)$", help_of(program, *words), re.MULTILINE)
+    manual = options.MANUAL.read_text().replace("\\-", "-").replace("\\(aq", "'")
+    for block in re.findall(r"^\.EX\n(.*?)^\.EE$", manual, re.MULTILINE | re.DOTALL):
+        commands = block.replace("|\n", "| ").splitlines()
+        yield from (command for command in commands if command.startswith("babel-dump "))
+
+
+def check_examples(program, folder, tally):
+    """Examples work as printed: they write, unless `diff` finds none, and nothing goes wrong."""
+    put_example_files(folder)
+    for example in examples(program):
+        if "jq" in example.split() and shutil.which("jq") is None:
+            print(f"program: there is no command jq on the PATH for {example}", flush=True)
+            continue
+        done = transcript.shell(example, folder, capture_output=True)
+        errors = done.stderr.decode().splitlines()
+        faults = [line for line in errors if not re.match("(.+: )?note: ", line)]
+        writes = done.stdout != b"" or (" diff " in example and done.returncode == 0)
+        found = done.returncode in (0, 1), writes, faults
+        expect(tally, f"an example: {example}", found, (True, True, []))
 
 
 def text_of(line):
@@ -417,6 +429,42 @@ def check_install(folder, tally):
         expect(tally, f"{name} is installed", (folder / "usr/share" / name).is_file(), True)
 
 
+NO_KIT = "cannot build: there is no command rt on the PATH (the Rattle kit)"
+# What is said where something is missing, by the words and the commands that are there besides.
+REFUSED_INSTALLS = (
+    (["usr"], [], 127, NO_KIT),
+    (["file/usr"], ["rt"], 1, "cannot write to file; ./install FOLDER takes another folder"),
+    (["--deb"], ["rt", "dpkg-deb"], 1, "there is no command strip on the PATH"),
+    (["--deb"], ["dpkg-deb", "strip"], 127, NO_KIT),
+    (["--folder"], ["rt"], 2, "no such option: --folder"),
+    (["usr", "more"], ["rt"], 2, "it takes a FOLDER, or --deb"),
+)
+
+
+def check_refused_installs(tally):
+    """In a clone without a build `./install` says at once what is missing, and makes nothing."""
+    for words, commands, status, text in REFUSED_INSTALLS:
+        with tempfile.TemporaryDirectory() as folder:
+            folder = pathlib.Path(folder)
+            shutil.copy(TOP / "install", folder)
+            shutil.copytree(TOP / "tools", folder / "tools")
+            (folder / "file").touch()
+            (folder / "bin").mkdir()
+            for name in "sh", "dirname", "sed", "install", "mkdir", "find":
+                (folder / "bin" / name).symlink_to(shutil.which(name))
+            for name in commands:
+                (folder / "bin" / name).symlink_to(shutil.which("false"))
+            before = sorted(folder.iterdir())
+            how = {"cwd": folder, "env": {"PATH": str(folder / "bin")}, "capture_output": True}
+            done = subprocess.run(["./install", *words], **how)
+            found = done.returncode, done.stderr.decode(), sorted(folder.iterdir())
+            wanted = status, f"install: {text}\n", before
+            expect(tally, f"./install {' '.join(words)}", found, wanted)
+    done = subprocess.run([TOP / "install", "--help"], capture_output=True, text=True)
+    told = done.stdout.count("./install"), done.returncode, done.stderr
+    expect(tally, "./install --help", told, (2, 0, ""))
+
+
 def check_package(folder, tally):
     """The Debian package has what is installed, and lintian has no error for it."""
     if not shutil.which("dpkg-deb"):
@@ -455,5 +503,6 @@ def check(tally, _long):
         check_completions(folder, tally)
         check_json(program, tally)
         check_short(program, tally)
+        check_refused_installs(tally)
         check_install(folder, tally)
         check_package(folder, tally)

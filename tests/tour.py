@@ -1,11 +1,13 @@
 """The tour: each command in the README, and in that of examples/, prints what stands below it
 there.
 
-They run in a clone with an installed program.
+They run in a clone with an installed program. Where there is no `jq`, those that need it are only
+found.
 """
 
 import pathlib
 import re
+import shutil
 import subprocess
 import tempfile
 
@@ -48,4 +50,7 @@ def check(tally, _long):
             for part in "babel-dump", "examples":
                 (folder / part).symlink_to(TOP / part)
             for each in steps(TOP / name):
-                check_step(each, folder, tally)
+                if "jq" in each.command.split() and shutil.which("jq") is None:
+                    print(f"tour: there is no command jq on the PATH for {each.place}", flush=True)
+                else:
+                    check_step(each, folder, tally)
