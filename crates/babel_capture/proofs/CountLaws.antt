@@ -10,7 +10,7 @@ use Rattle.babel_prefix.proofs.Counted.{count-none, count-push}
 use Rattle.babel_capture.specs.declared.link.Link.{Link}
 use Rattle.babel_capture.specs.declared.reason.Reason.{Reason}
 use Rattle.babel_capture.specs.declared.reason.Reason.TheVariants as reasons
-use Rattle.babel_capture.specs.Findings.{Found, passed, untold, left, refused, lacked, found}
+use Rattle.babel_capture.specs.Findings.{Found, passed, untold, left, refused, found}
 use Rattle.babel_capture.specs.declared.sections.Sections.{Sections}
 use Rattle.babel_capture.specs.declared.tallies.Origin.{Origin}
 use Rattle.babel_capture.specs.declared.timing.Timing.{Timing}
@@ -61,7 +61,6 @@ reason_of passed = None
 reason_of untold = None
 reason_of (left reason missed) = Some reason
 reason_of (refused lack) = None
-reason_of (lacked place sender lack) = None
 reason_of (found place sender packet has_trailer) = None
 
 by_found : (f : Reason → Count) (at : ℕ) (what : Found) → map (λ (r : Reason). bumped (is_left_for r what) at (f r)) all_reasons ≡ left_with (map f all_reasons) (reason_of what) at
@@ -69,7 +68,6 @@ by_found f at passed = refl
 by_found f at untold = refl
 by_found f at (left reason missed) = set_one f at reason missed
 by_found f at (refused lack) = refl
-by_found f at (lacked place sender lack) = refl
 by_found f at (found place sender packet has_trailer) = refl
 
 -- what is counted whatever is made of a packet
@@ -124,7 +122,6 @@ module _ (old : Counts) (link : Link) where
   by_what untold = unfound old.left_out (old.short + 1)
   by_what (left reason missed) = left_so (left_with old.left_out (Some reason) (old.packets + 1))
   by_what (refused lack) = left_so old.left_out
-  by_what (lacked place sender lack) = left_so old.left_out
   by_what (found place sender packet has_trailer) =
       ap (λ (n : ℕ). more old.left_out n (old.cooked + cond (is_cooked_link link) 1 0) (old.trailers + cond has_trailer 1 0) (greatest old.interval (interval_in packet))) (nothing_more old.short)
 
@@ -143,17 +140,6 @@ counts-push made one is =
     let timing = fold-append (λ (t : Timing) (m : Made). timed t m.number m.came) no_times made (one ∷ []) ∙ ap (λ (n : ℕ). timed (timing_of made) n one.came) is in
     let interval = fold-append (λ (i : Option ℕ) (m : Made). greatest i (interval_found m.what)) None made (one ∷ []) in
     let old = counted_at (counts_of made) one.came in
-    let now = counts_of all in
-    let left = left_with old.left_out (reason_of one.what) (length made + 1) in
-    let is_short_too = old.short + cond (is_short one.what) 1 0 in
-    let is_cooked_too = old.cooked + cond (is_cooked one.link one.what) 1 0 in
-    let trails_too = old.trailers + cond (has_trailer one.what) 1 0 in
-    ap (λ (n : ℕ). counts n now.left_out now.short now.cooked now.trailers (told_in now) now.interval) packets
-    ∙ ap (λ (t : List Count). counts (length made + 1) t now.short now.cooked now.trailers (told_in now) now.interval) left_out
-    ∙ ap (λ (n : ℕ). counts (length made + 1) left n now.cooked now.trailers (told_in now) now.interval) short
-    ∙ ap (λ (n : ℕ). counts (length made + 1) left is_short_too n now.trailers (told_in now) now.interval) cooked
-    ∙ ap (λ (n : ℕ). counts (length made + 1) left is_short_too is_cooked_too n (told_in now) now.interval) trailers
-    ∙ ap (λ (t : Timing). counts (length made + 1) left is_short_too is_cooked_too trails_too (record { timing = t; sections = now.sections }) now.interval) timing
-    ∙ ap (λ (s : Sections). counts (length made + 1) left is_short_too is_cooked_too trails_too (record { timing = old.timing; sections = s }) now.interval) sections
-    ∙ ap (counts (length made + 1) left is_short_too is_cooked_too trails_too (told_in old)) interval
-    ∙ by_what old one.link one.what
+    let same : counts_of all ≡ counts (length made + 1) (left_with old.left_out (reason_of one.what) (length made + 1)) (old.short + cond (is_short one.what) 1 0)
+    (old.cooked + cond (is_cooked one.link one.what) 1 0) (old.trailers + cond (has_trailer one.what) 1 0) (told_in old) (greatest old.interval (interval_found one.what)) = cc in
+    same ∙ by_what old one.link one.what

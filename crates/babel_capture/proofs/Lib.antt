@@ -1,15 +1,11 @@
 pub mod BackingLaws
 pub mod CountLaws
-pub mod EndLaws
-pub mod DumpLaws
-pub mod EachLaws
 pub mod Entries
 pub mod FindingLaws
 pub mod FramingLaws
 pub mod GatherLaws
 pub mod LaidOutLaws
 pub mod MemoryLaws
-pub mod NotedEnds
 pub mod NumberLaws
 pub mod OctetLaws
 pub mod OneCapture
@@ -23,6 +19,7 @@ pub mod ReadingLaws
 pub mod SeenInFrames
 pub mod SeenLaws
 pub mod SenderLaws
+pub mod SinkLaws
 pub mod StreamLaws
 pub mod TallyLaws
 pub mod TimeLaws

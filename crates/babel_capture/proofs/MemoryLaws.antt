@@ -22,6 +22,7 @@ use Rattle.babel_capture.specs.Contents.{block_said, first_said, holds_by, inter
 use Rattle.babel_capture.specs.Context.{Before}
 use Rattle.babel_capture.specs.Lack.{lack_fault}
 use Rattle.babel_capture.specs.Lengths.{block_len, first_len, layout_len, len_within, pcap_order, section_order, total_in}
+use Rattle.babel_capture.specs.Findings.{found, left, passed, refused, untold}
 use Rattle.babel_capture.specs.Gathering.{IsRefused}
 use Rattle.babel_capture.specs.Link.{link_of}
 use Rattle.babel_capture.specs.Numbers.{number_at}
@@ -153,18 +154,21 @@ header-other before at octets fault (inl (whole, is)) memory =
 -- ---- the fault of a capture
 
 refused-other : (wanted : Wanted) (senders : Senders) (at : ℕ) (content : Content) (fault : Fault) → IsRefused wanted senders at content fault → fault ≢ faults.Memory
-refused-other wanted senders at (file order interface) fault refused is = absurd refused
-refused-other wanted senders at (section order) fault refused is = absurd refused
-refused-other wanted senders at (describes interface name) fault refused is = absurd refused
-refused-other wanted senders at (holds packet) fault (inl (lack, told, finds)) is = lack-other at lack (sym told ∙ is)
-refused-other wanted senders at (holds packet) fault (inr (told, many)) is = cc
-refused-other wanted senders at (skips packet) fault refused is = absurd refused
-refused-other wanted senders at nothing fault refused is = absurd refused
+refused-other wanted senders at (file order interface) fault refuses is = absurd refuses
+refused-other wanted senders at (section order) fault refuses is = absurd refuses
+refused-other wanted senders at (describes interface name) fault refuses is = absurd refuses
+refused-other wanted senders at (holds packet) fault (refused lack, finds, told) is = lack-other at lack (sym told ∙ is)
+refused-other wanted senders at (holds packet) fault (found place sender octets has_trailer, finds, (told, many)) is = cc
+refused-other wanted senders at (holds packet) fault (passed, finds, none) is = absurd none
+refused-other wanted senders at (holds packet) fault (untold, finds, none) is = absurd none
+refused-other wanted senders at (holds packet) fault (left reason missed, finds, none) is = absurd none
+refused-other wanted senders at (skips packet) fault refuses is = absurd refuses
+refused-other wanted senders at nothing fault refuses is = absurd refuses
 
 stops-other : (wanted : Wanted) (senders : Senders) (before : Before) (at : ℕ) (octets : List ℕ) (fault : Fault) → StopsAt wanted senders before at octets fault → fault ≢ faults.Memory
 stops-other wanted senders before at octets fault (inl header) is = header-other before at octets fault header is
 stops-other wanted senders before at octets fault (inr (block, begins, inl said)) is = said_other before at block (subst (λ (f : Fault). block_said before at block ≡ Err f) is said)
-stops-other wanted senders before at octets fault (inr (block, begins, inr (content, said, refused))) is = refused-other wanted senders at content fault refused is
+stops-other wanted senders before at octets fault (inr (block, begins, inr (content, said, refuses))) is = refused-other wanted senders at content fault refuses is
 
 short-other : (before : Before) (at : ℕ) (rest : List ℕ) (fault : Fault) → IsShortBy before at rest fault → fault ≢ faults.Memory
 short-other before at rest fault (inl (not, told)) is = cc

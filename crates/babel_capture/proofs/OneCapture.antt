@@ -1,4 +1,4 @@
--- Octets are one capture, whose packets give one dump, one report and one list of senders.
+-- Octets are one capture, of whose packets one list is made, and which give one report and one list of senders.
 use Rattle.std.proofs.Common.{◌≡◌, ◌≢◌, ℕ, ◌+◌, ◌*◌, ◌/◌, ◌%◌, ◌<◌, List, [], ◌∷◌, ◌++◌, length, take, drop, refl, sym, ap, subst, ◌∙◌, append_assoc, inl, inr, arith, length-append, nat_lt, slice_index}
 use Rattle.std.specs.Prelude.{◌⊎◌, Option, Some, None, Result, Ok, Err}
 use Rattle.std.specs.Result.{IsOkAnd}
@@ -11,18 +11,15 @@ use Rattle.babel_capture.specs.declared.fault.Fault.{Fault}
 use Rattle.babel_capture.specs.declared.layout.Layout.{Layout}
 use Rattle.babel_capture.specs.declared.layout.Layout.TheVariants as layouts
 use Rattle.babel_capture.specs.declared.link.Link.{Link}
-use Rattle.babel_capture.specs.declared.lack.Lack.{Lack}
 use Rattle.babel_capture.specs.declared.place.Place.{Place}
 use Rattle.babel_capture.specs.declared.wanted.Wanted.{Wanted}
-use Rattle.babel_capture.specs.declared.wanted.Wanted.TheVariants as wanteds
 use Rattle.babel_capture.specs.Blocks.{names_of, AreBlocks, BlockAt, IsBlock, IsPartial, Sighting, context_behind, header_of, octets_of, sightings_of, start}
 use Rattle.babel_capture.specs.Capture.{IsRead, IsReadToCut}
 use Rattle.babel_capture.specs.Contents.{Content, block_said, context_after, nothing}
 use Rattle.babel_capture.specs.Context.{Before}
 use Rattle.babel_capture.specs.Counts.{Counts, Made, counts_of}
-use Rattle.babel_capture.specs.Findings.{CarriedIs, Either, Finds, Found, IsWanted, LackIs, PayloadIs, found, passed}
-use Rattle.babel_capture.specs.Dumps.{Dumps, dumps_of}
-use Rattle.babel_capture.specs.Gathering.{AreMade, Gathering, IsGathered, dump_of}
+use Rattle.babel_capture.specs.Findings.{CarriedIs, Either, Finds, Found, IsWanted, PayloadIs, found, passed}
+use Rattle.babel_capture.specs.Gathering.{AreMade, Gathering, IsGathered}
 use Rattle.babel_capture.specs.Lengths.{block_len, header_len}
 use Rattle.babel_capture.specs.OneCapture.{CaptureIsOne, CutCaptureIsOne}
 use Rattle.babel_capture.specs.Sight.{Carried, Sight, datagram, lacking, not_link_local, other, other_port, too_short, carries}
@@ -88,19 +85,11 @@ payload_one place sender payload what again (inr (inr (inr (long, magic, version
 payload_one place sender payload what again (inr (inr (inr (long, magic, version, is)))) (inr (inr (inl (long_too, magic_too, is_again)))) = absurd (magic_too magic)
 payload_one place sender payload what again (inr (inr (inr (long, magic, version, is)))) (inr (inr (inr (long_too, magic_too, version_too, is_again)))) = is ∙ sym is_again
 
-lack_one : (wanted : Wanted) (place : Place) (sender : Address) (lack : Lack) (what again : Found) → LackIs wanted place sender lack what → LackIs wanted place sender lack again
-    → what ≡ again
-lack_one wanteds.Everyone place sender lack what again is is_again = is ∙ sym is_again
-lack_one wanteds.Each place sender lack what again is is_again = is ∙ sym is_again
-lack_one (wanteds.Sender only there ends) place sender lack what again is is_again = is ∙ sym is_again
-lack_one (wanteds.InTurn None there) place sender lack what again is is_again = is ∙ sym is_again
-lack_one (wanteds.InTurn (Some only) there) place sender lack what again is is_again = is ∙ sym is_again
-
 carried_one : (wanted : Wanted) (place : Place) (sender : Address) (carried : Carried) (what again : Found) → CarriedIs wanted place sender carried what → CarriedIs wanted place sender carried again
     → what ≡ again
 carried_one wanted place sender other_port what again is is_again = is ∙ sym is_again
 carried_one wanted place sender not_link_local what again is is_again = is ∙ sym is_again
-carried_one wanted place sender (lacking lack) what again is is_again = lack_one wanted place sender lack what again is is_again
+carried_one wanted place sender (lacking lack) what again is is_again = is ∙ sym is_again
 carried_one wanted place sender (carries payload) what again is is_again = payload_one place sender payload what again is is_again
 
 pub finds_one : (wanted : Wanted) (sight : Sight) (what again : Found) → Finds wanted sight what → Finds wanted sight again → what ≡ again
@@ -111,9 +100,8 @@ finds_one wanted (datagram place sender carried) what again is is_again =
 
 one_made : (made others : Made) → made.number ≡ others.number → made.link ≡ others.link → made.came ≡ others.came → made.what ≡ others.what → made ≡ others
 one_made made others number link came what =
-    let made_of : ℕ → Link → Came → Found → Made = λ n l c w. record { number = n; link = l; came = c; what = w } in
-    ap (λ (n : ℕ). made_of n made.link made.came made.what) number ∙ ap (λ (l : Link). made_of others.number l made.came made.what) link
-    ∙ ap (λ (c : Came). made_of others.number others.link c made.what) came ∙ ap (made_of others.number others.link others.came) what
+    let of : ℕ → Link → Came → Found → Made = λ n l c w. record { number = n; link = l; came = c; what = w } in
+    let same : of made.number made.link made.came made.what ≡ of others.number others.link others.came others.what = cc in same
 
 pub made_one : (wanted : Wanted) (sightings : List Sighting) (made others : List Made) → AreMade wanted sightings made → AreMade wanted sightings others → made ≡ others
 made_one wanted [] made others are are_too = are ∙ sym are_too
@@ -167,9 +155,8 @@ module _ (before : Before) (at : ℕ) where
 
 pub one_block : (one another : BlockAt) → one.at ≡ another.at → one.octets ≡ another.octets → one.content ≡ another.content → one ≡ another
 one_block one another at octets content =
-    let block_of : ℕ → List ℕ → Content → BlockAt = λ n t c. record { at = n; octets = t; content = c } in
-    ap (λ (n : ℕ). block_of n one.octets one.content) at ∙ ap (λ (t : List ℕ). block_of another.at t one.content) octets
-    ∙ ap (λ (c : Content). block_of another.at another.octets c) content
+    let of : ℕ → List ℕ → Content → BlockAt = λ n t c. record { at = n; octets = t; content = c } in
+    let same : of one.at one.octets one.content ≡ of another.at another.octets another.content = cc in same
 
 pub blocks_one : (before : Before) (at : ℕ) (blocks others : List BlockAt) (rest behind : List ℕ) → AreBlocks before at blocks → AreBlocks before at others
     → octets_of blocks ++ rest ≡ octets_of others ++ behind → IsPartial (context_behind before blocks) (at + length (octets_of blocks)) rest
@@ -200,25 +187,10 @@ blocks_one before at (one ∷ blocks) (another ∷ others) rest behind (here, is
 
 -- ---- captures
 
-one_gathering : (one another : Gathering) → one.wanted ≡ another.wanted → one.names ≡ another.names → one.dump ≡ another.dump → one.dumps ≡ another.dumps → one.report ≡ another.report
-    → one.senders ≡ another.senders → one ≡ another
-one_gathering one another wanted names dump dumps report senders =
-    let of : Wanted → List (List ℕ) → List ℕ → Dumps → Counts → Senders → Gathering = λ w n d e r s. record { wanted = w; names = n; dump = d; dumps = e; report = r; senders = s } in
-    ap (λ (w : Wanted). of w one.names one.dump one.dumps one.report one.senders) wanted ∙ ap (λ (n : List (List ℕ)). of another.wanted n one.dump one.dumps one.report one.senders) names
-    ∙ ap (λ (d : List ℕ). of another.wanted another.names d one.dumps one.report one.senders) dump
-    ∙ ap (λ (e : Dumps). of another.wanted another.names another.dump e one.report one.senders) dumps
-    ∙ ap (λ (r : Counts). of another.wanted another.names another.dump another.dumps r one.senders) report
-    ∙ ap (λ (s : Senders). of another.wanted another.names another.dump another.dumps another.report s) senders
-
-gathered_one : (sightings : List Sighting) (one another : Gathering) → IsGathered sightings one → IsGathered sightings another → one.wanted ≡ another.wanted → one.names ≡ another.names → one ≡ another
-gathered_one sightings one another is is_too wanted names =
-    let made : is.made ≡ is_too.made =
-    made_one one.wanted sightings is.made is_too.made is.taken.are_made (subst (λ (w : Wanted). AreMade w sightings is_too.made) (sym wanted) is_too.taken.are_made) in
-    one_gathering one another wanted names
-    (is.dump ∙ ap (dump_of one.wanted) made ∙ ap (λ (w : Wanted). dump_of w is_too.made) wanted ∙ sym is_too.dump)
-    (is.dumps ∙ ap (dumps_of one.wanted) made ∙ ap (λ (w : Wanted). dumps_of w is_too.made) wanted ∙ sym is_too.dumps)
-    (is.report ∙ ap counts_of made ∙ sym is_too.report)
-    (is.senders ∙ ap senders_of made ∙ sym is_too.senders)
+one_gathering : (one another : Gathering) → one.wanted ≡ another.wanted → one.names ≡ another.names → one.report ≡ another.report → one.senders ≡ another.senders → one ≡ another
+one_gathering one another wanted names report senders =
+    let of : Wanted → List (List ℕ) → Counts → Senders → Gathering = λ w n r s. record { wanted = w; names = n; report = r; senders = s } in
+    let same : of one.wanted one.names one.report one.senders ≡ of another.wanted another.names another.report another.senders = cc in same
 
 -- two readings of the same octets, of any datagrams, have the same blocks
 pub same_blocks : (limit : Extent) (octets : List ℕ) (one another : Gathering) (place other_place : Option ℕ) → (is : IsReadToCut limit octets one place)
@@ -230,22 +202,33 @@ same_blocks limit octets one another place other_place is is_too = blocks_one (s
     (subst (λ (n : ℕ). IsPartial (context_behind (start limit) is_too.is_read.blocks) n is_too.rest) (omega (arith, ap length is_too.is_read.whole)) is_too.partial)
 
 pub cut_capture_is_one : CutCaptureIsOne
-cut_capture_is_one limit octets one another place other_place is is_too wanted = by (same_blocks limit octets one another place other_place is is_too)
+cut_capture_is_one limit octets one another place other_place is is_too wanted = (
+  one_gathering one another wanted (is.is_read.names ∙ ap names_of same.0 ∙ sym is_too.is_read.names) (gathered.report ∙ ap counts_of made ∙ sym other.report)
+      (gathered.senders ∙ ap senders_of made ∙ sym other.senders),
+  places (is.is_read.whole ∙ ap octets_of same.0 ∙ sym is_too.is_read.whole) same.1 is.where_cut is_too.where_cut,
+  made,
+)
   where
+    same : (is.is_read.blocks ≡ is_too.is_read.blocks) × (is.rest ≡ is_too.rest)
+    same = same_blocks limit octets one another place other_place is is_too
+
+    gathered : IsGathered (sightings_of is.is_read.blocks) one
+    gathered = is.is_read.gathered
+
+    other : IsGathered (sightings_of is_too.is_read.blocks) another
+    other = is_too.is_read.gathered
+
+    made : gathered.made ≡ other.made
+    made = made_one one.wanted (sightings_of is.is_read.blocks) gathered.made other.made gathered.taken.are_made
+        (subst (λ (bs : List BlockAt). AreMade one.wanted (sightings_of bs) other.made) (sym same.0)
+        (subst (λ (w : Wanted). AreMade w (sightings_of is_too.is_read.blocks) other.made) (sym wanted) other.taken.are_made))
+
     places : is.read ≡ is_too.read → is.rest ≡ is_too.rest → ((is.rest ≡ []) × (place ≡ None)) ⊎ ((is.rest ≢ []) × (place ≡ Some (length is.read)))
         → ((is_too.rest ≡ []) × (other_place ≡ None)) ⊎ ((is_too.rest ≢ []) × (other_place ≡ Some (length is_too.read))) → place ≡ other_place
     places read rest (inl (none, at)) (inl (none_too, at_too)) = at ∙ sym at_too
     places read rest (inl (none, at)) (inr (some, at_too)) = absurd (some (sym rest ∙ none))
     places read rest (inr (some, at)) (inl (none, at_too)) = absurd (some (rest ∙ none))
     places read rest (inr (some, at)) (inr (some_too, at_too)) = at ∙ ap (λ (t : List ℕ). Some (length t)) read ∙ sym at_too
-
-    by : (is.is_read.blocks ≡ is_too.is_read.blocks) × (is.rest ≡ is_too.rest) → (one ≡ another) × (place ≡ other_place)
-    by (blocks, rest) = (
-      gathered_one (sightings_of is.is_read.blocks) one another is.is_read.gathered
-          (subst (λ (bs : List BlockAt). IsGathered (sightings_of bs) another) (sym blocks) is_too.is_read.gathered) wanted
-          (is.is_read.names ∙ ap names_of blocks ∙ sym is_too.is_read.names),
-      places (is.is_read.whole ∙ ap octets_of blocks ∙ sym is_too.is_read.whole) rest is.where_cut is_too.where_cut,
-    )
 
 -- a whole capture is one that is cut nowhere
 pub uncut : (limit : Extent) (octets : List ℕ) (gathering : Gathering) → IsRead limit octets gathering → IsReadToCut limit octets gathering None
@@ -259,5 +242,6 @@ uncut limit octets gathering is = record {
 }
 
 pub capture_is_one : CaptureIsOne
+unfolding uncut
 capture_is_one limit octets one another is is_too wanted =
-    (cut_capture_is_one limit octets one another None None (uncut limit octets one is) (uncut limit octets another is_too) wanted).0
+    let both = cut_capture_is_one limit octets one another None None (uncut limit octets one is) (uncut limit octets another is_too) wanted in (both.0, both.2)

@@ -6,6 +6,7 @@ use Rattle.std.specs.Result.{IsOkAnd}
 use Rattle.std.proofs.lemmas.List.{take-append-drop, take-append-le}
 use Rattle.babel_capture.specs.declared.fault.Fault.{Fault}
 use Rattle.babel_capture.specs.declared.fault.Fault.TheVariants as faults
+use Rattle.babel_capture.specs.declared.tallies.Origin.{Origin}
 use Rattle.babel_capture.specs.declared.wanted.Wanted.{Wanted}
 use Rattle.babel_capture.specs.Blocks.{AreBlocks, BeginsBlock, BlockAt, IsBlock, IsPartial, Sighting, context_behind, header_of, octets_of, sight_in, sightings_behind, sightings_in, sightings_of}
 use Rattle.babel_capture.specs.Blocks.{start}
@@ -13,9 +14,8 @@ use Rattle.babel_capture.specs.Capture.{CaptureFault, EndsShort, IsShortBy}
 use Rattle.babel_capture.specs.Contents.{Content, block_said, context_after, describes, file, holds, nothing, section, skips}
 use Rattle.babel_capture.specs.Context.{Before}
 use Rattle.babel_capture.specs.Counts.{Made}
-use Rattle.babel_capture.specs.Findings.{Found, found, lacked, left, passed, refused, untold}
-use Rattle.babel_capture.specs.Lack.{lack_fault}
-use Rattle.babel_capture.specs.Gathering.{AreMade, AreTaken, IsRefused, IsTaken}
+use Rattle.babel_capture.specs.Findings.{Found, found, left, passed, refused, untold}
+use Rattle.babel_capture.specs.Gathering.{AreMade, AreTaken, IsRefused, IsTaken, RefusesFound}
 use Rattle.babel_capture.specs.Lengths.{block_len, header_len}
 use Rattle.babel_capture.specs.OneFault.{CutIsTheFault, FaultIsOne, ReadHasNoFault}
 use Rattle.babel_capture.specs.Reading.{BlockFails, HeaderFails, Stops, StopsAt}
@@ -36,7 +36,6 @@ with-longer senders time passed = omega arith
 with-longer senders time untold = omega arith
 with-longer senders time (left reason missed) = omega arith
 with-longer senders time (refused lack) = omega arith
-with-longer senders time (lacked place sender lack) = omega arith
 with-longer senders time (found place sender packet has_trailer) = insert-longer origin_cmp (record { place = place; sender = sender }) _ senders
 
 more-longer : (senders : Senders) (made : List Made) → length senders ≤ length (more senders made)
@@ -95,7 +94,22 @@ module _ (wanted : Wanted) (senders : Senders) (count : ℕ) (before : Before) (
     few = subst (λ (s : Senders). length s ≤ 65536) (ap (more senders) parts.whole ∙ more-append senders parts.first parts.later) are.few;
   }
 
--- a packet that is refuses is not taken
+-- a packet that is refused is not taken
+not_refused : (senders : Senders) (at : ℕ) (fault : Fault) (one : Made) (others : List Made) (what : Found) → one.what ≡ what → IsTaken what → RefusesFound senders at what fault
+    → length (more senders (one ∷ others)) ≤ 65536 → ⊥
+not_refused senders at fault one others passed is takes refuses few = refuses
+not_refused senders at fault one others untold is takes refuses few = refuses
+not_refused senders at fault one others (left reason missed) is takes refuses few = refuses
+not_refused senders at fault one others (refused lack) is takes refuses few = takes
+not_refused senders at fault one others (found place sender octets has_trailer) is takes (told, many) few =
+    let origin : Origin = record { place = place; sender = sender } in
+    let listed = tallied senders origin (time_of one.came) octets has_trailer in
+    let all : more senders (one ∷ others) ≡ more listed others = ap (λ (w : Found). more (senders_with senders (time_of one.came) w) others) is in
+    let new : length listed ≡ length senders + 1 = insert-new origin_cmp origin _ senders many.1 in
+    let longer = more-longer listed others in
+    let full = many.0 in
+    omega (arith, ap length all)
+
 refused_none : (wanted : Wanted) (senders : Senders) (number at : ℕ) (content : Content) (fault : Fault) (later : List Sighting) (made : List Made) → IsRefused wanted senders at content fault
     → AreMade wanted (sightings_in number at content ++ later) made → length (more senders made) ≤ 65536 → ⊥
 refused_none wanted senders number at (file order interface) fault later made refuses are few = refuses
@@ -103,16 +117,9 @@ refused_none wanted senders number at (section order) fault later made refuses a
 refused_none wanted senders number at (describes interface name) fault later made refuses are few = refuses
 refused_none wanted senders number at nothing fault later made refuses are few = refuses
 refused_none wanted senders number at (skips packet) fault later made refuses are few = refuses
-refused_none wanted senders number at (holds packet) fault later made (inl (lack, told, finds)) (one, others, is, numbered, link, came, finds_too, takes, are) few =
-    subst IsTaken (finds_one wanted (sight_in packet) one.what (refused lack) finds_too finds) takes
-refused_none wanted senders number at (holds packet) fault later made (inr (told, (origin, octets, has_trailer, finds, many))) (one, others, is, numbered, link, came, finds_too, takes, are) few =
-    let what : one.what ≡ found origin.place origin.sender octets has_trailer = finds_one wanted (sight_in packet) one.what (found origin.place origin.sender octets has_trailer) finds_too finds in
-    let all : more senders made ≡ more (tallied senders origin (time_of one.came) octets has_trailer) others =
-    ap (more senders) is ∙ ap (λ (w : Found). more (senders_with senders (time_of one.came) w) others) what in
-    let new : length (tallied senders origin (time_of one.came) octets has_trailer) ≡ length senders + 1 = insert-new origin_cmp origin _ senders many.1 in
-    let longer = more-longer (tallied senders origin (time_of one.came) octets has_trailer) others in
-    let full = many.0 in
-    omega (arith, ap length all)
+refused_none wanted senders number at (holds packet) fault later made (what, finds, refuses) (one, others, is, numbered, link, came, finds_too, takes, are) few =
+    let same = finds_one wanted (sight_in packet) one.what what finds_too finds in
+    not_refused senders at fault one others what same (subst IsTaken same takes) refuses (subst (λ (m : List Made). length (more senders m) ≤ 65536) is few)
 
 module _ (wanted : Wanted) (senders : Senders) (before : Before) (at : ℕ) where
   -- octets that stop begin with no block that is taken
@@ -151,21 +158,22 @@ module _ (wanted : Wanted) (senders : Senders) (before : Before) (at : ℕ) wher
           are.are_made are.few
 
   -- they stop by one fault
+  same_refusal : (what : Found) (one other : Fault) → RefusesFound senders at what one → RefusesFound senders at what other → one ≡ other
+  same_refusal passed one other refuses again = absurd refuses
+  same_refusal untold one other refuses again = absurd refuses
+  same_refusal (left reason missed) one other refuses again = absurd refuses
+  same_refusal (refused lack) one other refuses again = refuses ∙ sym again
+  same_refusal (found place sender octets has_trailer) one other refuses again = refuses.0 ∙ sym again.0
+
   refused_one : (content : Content) (one other : Fault) → IsRefused wanted senders at content one → IsRefused wanted senders at content other → one ≡ other
   refused_one (file order interface) one other refuses again = absurd refuses
   refused_one (section order) one other refuses again = absurd refuses
   refused_one (describes interface name) one other refuses again = absurd refuses
   refused_one nothing one other refuses again = absurd refuses
   refused_one (skips packet) one other refuses again = absurd refuses
-  refused_one (holds packet) one other (inl (lack, told, finds)) (inl (lack_too, told_too, finds_too)) =
-      let both : refused lack ≡ refused lack_too = finds_one wanted (sight_in packet) (refused lack) (refused lack_too) finds finds_too in
-      let same : lack ≡ lack_too = cc in
-      told ∙ ap (lack_fault at) same ∙ sym told_too
-  refused_one (holds packet) one other (inl (lack, told, finds)) (inr (told_too, (origin, octets, has_trailer, finds_too, many))) =
-      (let both : refused lack ≡ found origin.place origin.sender octets has_trailer = finds_one wanted (sight_in packet) (refused lack) (found origin.place origin.sender octets has_trailer) finds finds_too in absurd cc)
-  refused_one (holds packet) one other (inr (told, (origin, octets, has_trailer, finds, many))) (inl (lack, told_too, finds_too)) =
-      (let both : refused lack ≡ found origin.place origin.sender octets has_trailer = finds_one wanted (sight_in packet) (refused lack) (found origin.place origin.sender octets has_trailer) finds_too finds in absurd cc)
-  refused_one (holds packet) one other (inr (told, many)) (inr (told_too, many_too)) = told ∙ sym told_too
+  refused_one (holds packet) one other (what, finds, refuses) (again, finds_again, refuses_again) =
+      same_refusal what one other refuses
+      (subst (λ (w : Found). RefusesFound senders at w other) (finds_one wanted (sight_in packet) again what finds_again finds) refuses_again)
 
   fails_one : (block : List ℕ) (one other : Fault) → BlockFails wanted senders before at block one → BlockFails wanted senders before at block other → one ≡ other
   fails_one block one other (inl failed) (inl failed_too) = (let both : Err one ≡ Err other = sym failed ∙ failed_too in cc)

@@ -1,75 +1,89 @@
--- One sender on one interface has one tally at most.
-use Rattle.std.proofs.Common.{◌≡◌, ◌≤◌, ◌⊎◌, ℕ, List, [], ◌∷◌, Option, length, refl, sym, ap, subst, ◌∙◌, inl, inr, arith}
-use Rattle.std.specs.Prelude.{Bool, Some, fold}
+-- What is read of one sender at one place.
+use Rattle.std.proofs.Common.{◌≡◌, ◌≤◌, ◌⊎◌, ℕ, Bool, true, false, cond, List, [], ◌∷◌, ◌++◌, Option, length, refl, sym, ap, subst, ◌∙◌, inl, inr, arith}
+use Rattle.std.specs.Prelude.{None, Some, fold}
 use Rattle.std.specs.declared.cmp.Ordering.{Ordering}
 use Rattle.std.specs.declared.cmp.Ordering.TheVariants.{Equal}
-use Rattle.std.specs.BTreeMap.{insert_entry}
-use Rattle.std.specs.Ordering.{match_ordering}
+use Rattle.std.specs.BTreeMap.{insert_entry, is_at}
+use Rattle.std.specs.Ordering.{is_eq, match_ordering}
 use Rattle.std.proofs.lemmas.Cmp.{tied_itself}
+use Rattle.std.proofs.lemmas.List.Elements.{filter-append}
 use Rattle.babel_prefix.specs.Address.{Address}
 use Rattle.babel_capture.specs.declared.place.Place.{Place}
 use Rattle.babel_capture.specs.declared.tallies.Origin.{Origin}
 use Rattle.babel_capture.specs.declared.tallies.Tally.{Tally}
 use Rattle.babel_capture.specs.declared.wanted.Wanted.{Wanted}
-use Rattle.babel_capture.specs.declared.wanted.Wanted.TheVariants as wanteds
-use Rattle.babel_capture.specs.Blocks.{Sighting, sightings_of}
-use Rattle.babel_capture.specs.Counts.{Made}
-use Rattle.babel_capture.specs.Findings.{CarriedIs, Finds, Found, PayloadIs, found, lacked, left, passed, refused, untold}
-use Rattle.babel_capture.specs.Gathering.{AreMade}
-use Rattle.babel_capture.specs.OneOrigin.{NamedIsOne}
-use Rattle.babel_capture.specs.Sight.{Carried, Sight, datagram, lacking, not_link_local, other, other_port, too_short, carries}
-use Rattle.babel_capture.specs.Tallies.{Senders, origin_cmp, senders_of, senders_with, tallied}
+use Rattle.babel_capture.specs.Blocks.{BlockAt, Sighting, sightings_of}
+use Rattle.babel_capture.specs.Counts.{Made, counts_of}
+use Rattle.babel_capture.specs.Dumps.{packets_made, timed_found}
+use Rattle.babel_capture.specs.Findings.{CarriedIs, Finds, Found, PayloadIs, everyone, found, lack_found, left, passed, refused, untold}
+use Rattle.babel_capture.specs.Gathering.{AreMade, IsTaken}
+use Rattle.babel_capture.specs.OneOrigin.{AloneIsTheSame, MissingIsNone, NamedIsOne, is_missed, missed_from, only}
+use Rattle.babel_capture.specs.Senders.{is_from, made_from}
+use Rattle.babel_capture.specs.Sight.{Carried, Sight, carries, datagram, lacking, not_link_local, other, other_port, too_short}
+use Rattle.babel_capture.specs.Tallies.{Senders, origin_cmp, senders_of, senders_with}
 use Rattle.babel_capture.specs.Times.{time_of}
-use Rattle.babel_capture.proofs.TallyLaws.{origin_total}
+use Rattle.babel_capture.proofs.OneCapture.{same_blocks}
+use Rattle.babel_capture.proofs.SinkLaws.{packets-append}
+use Rattle.babel_capture.proofs.TallyLaws.{origin_exact, origin_total}
 
-abbrev place_of : Place → Found → Place
-place_of p passed = p
-place_of p untold = p
-place_of p (left reason missed) = p
-place_of p (refused lack) = p
-place_of p (lacked place sender lack) = p
-place_of p (found place sender packet has_trailer) = place
+abbrev at : Place → Address → Origin
+at place sender = record { place = place; sender = sender }
 
-abbrev sender_of : Address → Found → Address
-sender_of a passed = a
-sender_of a untold = a
-sender_of a (left reason missed) = a
-sender_of a (refused lack) = a
-sender_of a (lacked place sender lack) = a
-sender_of a (found place sender packet has_trailer) = sender
+-- ---- a packet that is found is of its datagram's sender at its place
 
--- a packet that is found is of the place and the sender of its datagram
-payload_of : (at : Place) (from : Address) (payload : List ℕ) (place : Place) (sender : Address) (packet : List ℕ) (has_trailer : Bool)
-    → PayloadIs at from payload (found place sender packet has_trailer) → (place ≡ at) × (sender ≡ from)
-payload_of at from payload place sender packet has_trailer (inl (body, begins, is)) = (ap (place_of place) is, ap (sender_of sender) is)
-payload_of at from payload place sender packet has_trailer (inr (inl (short, is))) = absurd cc
-payload_of at from payload place sender packet has_trailer (inr (inr (inl (long, magic, is)))) = absurd cc
-payload_of at from payload place sender packet has_trailer (inr (inr (inr (long, magic, version, is)))) = absurd cc
+payload_of : (place : Place) (sender : Address) (payload : List ℕ) (there : Place) (from : Address) (packet : List ℕ) (has_trailer : Bool)
+    → PayloadIs place sender payload (found there from packet has_trailer) → (there ≡ place) × (from ≡ sender)
+payload_of place sender payload there from packet has_trailer (inl (body, begins, is)) = (cc, cc)
+payload_of place sender payload there from packet has_trailer (inr (inl (short, is))) = absurd cc
+payload_of place sender payload there from packet has_trailer (inr (inr (inl (long, magic, is)))) = absurd cc
+payload_of place sender payload there from packet has_trailer (inr (inr (inr (long, magic, version, is)))) = absurd cc
 
-module _ (wanted : Address) (at : Place) (ends : Bool) where
-  abbrev origin : Origin
-  origin = record { place = at; sender = wanted }
+carried_of : (wanted : Wanted) (place : Place) (sender : Address) (carried : Carried) (there : Place) (from : Address) (packet : List ℕ) (has_trailer : Bool)
+    → CarriedIs wanted place sender carried (found there from packet has_trailer) → (there ≡ place) × (from ≡ sender)
+carried_of wanted place sender other_port there from packet has_trailer is = absurd cc
+carried_of wanted place sender not_link_local there from packet has_trailer is = absurd cc
+carried_of wanted place sender (lacking lack) there from packet has_trailer is = absurd (by wanted.sender is)
+  where
+    by : (named : Option Address) → found there from packet has_trailer ≡ lack_found named place sender lack → ⊥
+    by None is = cc
+    by (Some one) is = cc
+carried_of wanted place sender (carries payload) there from packet has_trailer is = payload_of place sender payload there from packet has_trailer is
 
-  abbrev IsOneAtMost : Senders → Type 0
-  IsOneAtMost senders = (senders ≡ []) ⊎ ((tally : Tally) × (senders ≡ (origin, tally) ∷ []))
+module _ (origin : Origin) where
+  -- ---- this sender at this place
 
-  carried_of : (there : Place) (from : Address) (carried : Carried) (place : Place) (sender : Address) (packet : List ℕ) (has_trailer : Bool)
-      → CarriedIs (wanteds.Sender wanted (Some at) ends) there from carried (found place sender packet has_trailer) → (place ≡ there) × (sender ≡ from)
-  carried_of there from other_port place sender packet has_trailer is = absurd cc
-  carried_of there from not_link_local place sender packet has_trailer is = absurd cc
-  carried_of there from (lacking lack) place sender packet has_trailer is = absurd cc
-  carried_of there from (carries payload) place sender packet has_trailer is = payload_of there from payload place sender packet has_trailer is
-
-  found_of : (sight : Sight) (place : Place) (sender : Address) (packet : List ℕ) (has_trailer : Bool)
-      → Finds (wanteds.Sender wanted (Some at) ends) sight (found place sender packet has_trailer) → (place ≡ at) × (sender ≡ wanted)
-  found_of other place sender packet has_trailer is = absurd cc
-  found_of too_short place sender packet has_trailer is = absurd cc
-  found_of (datagram there from carried) place sender packet has_trailer (inl (wants, is)) =
-      let parts = carried_of there from carried place sender packet has_trailer is in (parts.0 ∙ wants.1, parts.1 ∙ wants.0)
-  found_of (datagram there from carried) place sender packet has_trailer (inr (not, is)) = absurd cc
+  abbrev is_own : Place → Address → Bool
+  is_own place sender = is_at (origin_cmp origin) (at place sender)
 
   itself : origin_cmp origin origin ≡ Equal
   itself = tied_itself origin_total origin
+
+  -- it is wanted exactly there
+  own_wanted : (place : Place) (sender : Address) → is_own place sender ≡ true → (sender ≡ origin.sender) × (place ≡ origin.place)
+  own_wanted place sender is = let same = origin_exact origin (at place sender) is in (ap (λ (o : Origin). o.sender) (sym same), ap (λ (o : Origin). o.place) (sym same))
+
+  wanted_own : (place : Place) (sender : Address) → (sender ≡ origin.sender) × (place ≡ origin.place) → is_own place sender ≡ true
+  wanted_own place sender same = ap (λ (p : Place). is_own p sender) same.1 ∙ ap (is_own origin.place) same.0 ∙ ap is_eq itself
+
+  unwanted : (place : Place) (sender : Address) → ((sender ≡ origin.sender) × (place ≡ origin.place) → ⊥) → is_own place sender ≡ false
+  unwanted place sender not = by (is_own place sender) refl
+    where
+      by : (b : Bool) → is_own place sender ≡ b → is_own place sender ≡ false
+      by true is = absurd (not (own_wanted place sender is))
+      by false is = is
+
+  found_of : (sight : Sight) (place : Place) (sender : Address) (packet : List ℕ) (has_trailer : Bool) → Finds (only origin) sight (found place sender packet has_trailer)
+      → (sender ≡ origin.sender) × (place ≡ origin.place)
+  found_of other place sender packet has_trailer is = absurd cc
+  found_of too_short place sender packet has_trailer is = absurd cc
+  found_of (datagram there from carried) place sender packet has_trailer (inl (wants, is)) =
+      let parts = carried_of (only origin) there from carried place sender packet has_trailer is in (parts.1 ∙ wants.0, parts.0 ∙ wants.1)
+  found_of (datagram there from carried) place sender packet has_trailer (inr (not, is)) = absurd cc
+
+  -- ---- where it alone is wanted, it alone is counted
+
+  abbrev IsOneAtMost : Senders → Type 0
+  IsOneAtMost senders = (senders ≡ []) ⊎ ((tally : Tally) × (senders ≡ (origin, tally) ∷ []))
 
   put_one : (tally put : Tally) → insert_entry origin_cmp ((origin, tally) ∷ []) origin put ≡ (origin, put) ∷ []
   put_one tally put =
@@ -79,22 +93,17 @@ module _ (wanted : Address) (at : Place) (ends : Bool) where
   put_at_most senders put (inl none) = inr (put, ap (λ (s : Senders). insert_entry origin_cmp s origin put) none)
   put_at_most senders put (inr (tally, is)) = inr (put, ap (λ (s : Senders). insert_entry origin_cmp s origin put) is ∙ put_one tally put)
 
-  tallied_at_most : (senders : Senders) (time : Option ℕ) (packet : List ℕ) (has_trailer : Bool) → IsOneAtMost senders → IsOneAtMost (tallied senders origin time packet has_trailer)
-  tallied_at_most senders time packet has_trailer most = put_at_most senders _ most
-
-  with_at_most : (sight : Sight) (senders : Senders) (time : Option ℕ) (what : Found) → Finds (wanteds.Sender wanted (Some at) ends) sight what
-      → IsOneAtMost senders → IsOneAtMost (senders_with senders time what)
+  with_at_most : (sight : Sight) (senders : Senders) (time : Option ℕ) (what : Found) → Finds (only origin) sight what → IsOneAtMost senders → IsOneAtMost (senders_with senders time what)
   with_at_most sight senders time passed finds most = most
   with_at_most sight senders time untold finds most = most
   with_at_most sight senders time (left reason missed) finds most = most
   with_at_most sight senders time (refused lack) finds most = most
-  with_at_most sight senders time (lacked place sender lack) finds most = most
   with_at_most sight senders time (found place sender packet has_trailer) finds most =
-      let is = found_of sight place sender packet has_trailer finds in
-      subst (λ (p : Place). IsOneAtMost (tallied senders (record { place = p; sender = sender }) time packet has_trailer)) (sym is.0)
-      (subst (λ (a : Address). IsOneAtMost (tallied senders (record { place = at; sender = a }) time packet has_trailer)) (sym is.1) (tallied_at_most senders time packet has_trailer most))
+      let same = found_of sight place sender packet has_trailer finds in
+      let is : at place sender ≡ origin = ap (λ (p : Place). at p sender) same.1 ∙ ap (at origin.place) same.0 in
+      subst (λ (o : Origin). IsOneAtMost (senders_with senders time (found o.place o.sender packet has_trailer))) (sym is) (put_at_most senders _ most)
 
-  all_at_most : (sightings : List Sighting) (made : List Made) (senders : Senders) → AreMade (wanteds.Sender wanted (Some at) ends) sightings made → IsOneAtMost senders
+  all_at_most : (sightings : List Sighting) (made : List Made) (senders : Senders) → AreMade (only origin) sightings made → IsOneAtMost senders
       → IsOneAtMost (fold (λ (s : Senders) (one : Made). senders_with s (time_of one.came) one.what) senders made)
   all_at_most [] made senders are most =
       subst (λ (ms : List Made). IsOneAtMost (fold (λ (s : Senders) (one : Made). senders_with s (time_of one.came) one.what) senders ms)) (sym are) most
@@ -106,13 +115,168 @@ module _ (wanted : Address) (at : Place) (ends : Bool) where
   few senders (inl none) = omega (arith, ap length none)
   few senders (inr (tally, is)) = omega (arith, ap length is)
 
-pub one_sender_at_most : (sender : Address) (place : Place) (ends : Bool) (sightings : List Sighting) (made : List Made) → AreMade (wanteds.Sender sender (Some place) ends) sightings made
-    → length (senders_of made) ≤ 1
-one_sender_at_most sender place ends sightings made are = few sender place ends (senders_of made) (all_at_most sender place ends sightings made [] are (inl refl))
+  one_at_most : (sightings : List Sighting) (made : List Made) → AreMade (only origin) sightings made → length (senders_of made) ≤ 1
+  one_at_most sightings made are = few (senders_of made) (all_at_most sightings made [] are (inl refl))
+
+  -- ---- and what is found is all of it
+
+  abbrev if_from : Found → List Made → List Made
+  if_from what made = cond (is_from origin what) made []
+
+  from_cons : (one : Made) (made : List Made) → made_from origin (one ∷ made) ≡ if_from one.what (one ∷ []) ++ made_from origin made
+  from_cons one made = filter-append (λ (m : Made). is_from origin m.what) (one ∷ []) made
+
+  found_own : (sight : Sight) (one : Made) (what : Found) → one.what ≡ what → Finds (only origin) sight what → packets_made (one ∷ []) ≡ packets_made (if_from what (one ∷ []))
+  found_own sight one passed is finds = ap (λ (w : Found). timed_found one.came w ++ []) is
+  found_own sight one untold is finds = ap (λ (w : Found). timed_found one.came w ++ []) is
+  found_own sight one (left reason missed) is finds = ap (λ (w : Found). timed_found one.came w ++ []) is
+  found_own sight one (refused lack) is finds = ap (λ (w : Found). timed_found one.came w ++ []) is
+  found_own sight one (found place sender packet has_trailer) is finds =
+      ap (λ (b : Bool). packets_made (cond b (one ∷ []) [])) (sym (wanted_own place sender (found_of sight place sender packet has_trailer finds)))
+
+  all_own : (sightings : List Sighting) (made : List Made) → AreMade (only origin) sightings made → packets_made made ≡ packets_made (made_from origin made)
+  all_own [] made are = ap packets_made are ∙ sym (ap (λ (m : List Made). packets_made (made_from origin m)) are)
+  all_own (sighting ∷ later) made (one, others, is, number, link, came, finds, takes, are) =
+      ap packets_made is ∙ packets-append (one ∷ []) others
+      ∙ ap (λ (t : List (Option ℕ × List ℕ)). t ++ packets_made others) (found_own sighting.what one one.what refl finds)
+      ∙ ap (λ (t : List (Option ℕ × List ℕ)). packets_made (if_from one.what (one ∷ [])) ++ t) (all_own later others are)
+      ∙ sym (packets-append (if_from one.what (one ∷ [])) (made_from origin others))
+      ∙ ap packets_made (sym (from_cons one others)) ∙ ap (λ (m : List Made). packets_made (made_from origin m)) (sym is)
+
+  -- ---- what is made of each packet where it alone is wanted, by what is made where nobody is named
+
+  not_from : (place : Place) (sender : Address) (carried : Carried) (what : Found) → is_own place sender ≡ false → CarriedIs everyone place sender carried what → is_from origin what ≡ false
+  not_from place sender carried passed is made = refl
+  not_from place sender carried untold is made = refl
+  not_from place sender carried (left reason missed) is made = refl
+  not_from place sender carried (refused lack) is made = refl
+  not_from place sender carried (found there from packet has_trailer) is made =
+      let parts = carried_of everyone place sender carried there from packet has_trailer made in
+      ap (λ (p : Place). is_own p from) parts.0 ∙ ap (is_own place) parts.1 ∙ is
+
+  own_carried : (place : Place) (sender : Address) (carried : Carried) (what : Found) → is_own place sender ≡ true → is_missed origin what ≡ false → CarriedIs everyone place sender carried what
+      → CarriedIs (only origin) place sender carried what
+  own_carried place sender other_port what is there made = made
+  own_carried place sender not_link_local what is there made = made
+  own_carried place sender (carries payload) what is there made = made
+  own_carried place sender (lacking lack) what is there made = (let wrong : true ≡ false = sym is ∙ sym (ap (is_missed origin) made) ∙ there in absurd cc)
+
+  -- it is the same, or passed
+  record IsMine (sight : Sight) (what : Found) : Type 0 where
+    mine : Found
+    finds : Finds (only origin) sight mine
+    taken : IsTaken mine
+    same : (made : Found → Made) → if_from mine (made mine ∷ []) ≡ if_from what (made what ∷ [])
+
+  one_mine : (sight : Sight) (what : Found) → Finds everyone sight what → IsTaken what → is_missed origin what ≡ false → IsMine sight what
+  one_mine other what is taken there = record { mine = passed; finds = refl; taken = tt; same = λ made. ap (λ (w : Found). if_from w (made w ∷ [])) (sym is) }
+  one_mine too_short what is taken there = record { mine = untold; finds = refl; taken = tt; same = λ made. ap (λ (w : Found). if_from w (made w ∷ [])) (sym is) }
+  one_mine (datagram place sender carried) what (inr (not, is)) taken there = absurd (not (tt, tt))
+  one_mine (datagram place sender carried) what (inl (wants, is)) taken there = by (is_own place sender) refl
+    where
+      by : (b : Bool) → is_own place sender ≡ b → IsMine (datagram place sender carried) what
+      by true own = record { mine = what; finds = inl (own_wanted place sender own, own_carried place sender carried what own there is); taken = taken; same = λ made. refl }
+      by false own = record {
+        mine = passed;
+        finds = inr ((λ same. (let wrong : true ≡ false = sym (wanted_own place sender same) ∙ own in cc)), refl);
+        taken = tt;
+        same = λ made. ap (λ (b : Bool). cond b (made what ∷ []) []) (sym (not_from place sender carried what own is));
+      }
+
+  -- none is missed
+  none_here : (one : Made) (others : List Made) → missed_from origin (one ∷ others) ≡ [] → (is_missed origin one.what ≡ false) × (missed_from origin others ≡ [])
+  none_here one others none = by (is_missed origin one.what) refl none
+    where
+      by : (b : Bool) → is_missed origin one.what ≡ b → cond b (one ∷ missed_from origin others) (missed_from origin others) ≡ []
+          → (is_missed origin one.what ≡ false) × (missed_from origin others ≡ [])
+      by true is none = absurd cc
+      by false is none = (is, none)
+
+  record AreMine (sightings : List Sighting) (made : List Made) : Type 0 where
+    mine : List Made
+    are_made : AreMade (only origin) sightings mine
+    same : made_from origin mine ≡ made_from origin made
+
+  all_mine : (sightings : List Sighting) (made : List Made) → AreMade everyone sightings made → missed_from origin made ≡ [] → AreMine sightings made
+  all_mine [] made are none = record { mine = []; are_made = refl; same = ap (made_from origin) (sym are) }
+  all_mine (sighting ∷ later) made (one, others, is, number, link, came, finds, takes, are) none =
+      let there = none_here one others (ap (missed_from origin) (sym is) ∙ none) in
+      let first = one_mine sighting.what one.what finds takes there.0 in
+      let rest = all_mine later others are there.1 in
+      let of : Found → Made = λ w. record { number = one.number; link = one.link; came = one.came; what = w } in record {
+        mine = of first.mine ∷ rest.mine;
+        are_made = (of first.mine, rest.mine, refl, number, link, came, first.finds, first.taken, rest.are_made);
+        same = from_cons (of first.mine) rest.mine ∙ ap (λ (t : List Made). t ++ made_from origin rest.mine) (first.same of)
+            ∙ ap (λ (t : List Made). if_from one.what (one ∷ []) ++ t) rest.same ∙ sym (from_cons one others) ∙ ap (made_from origin) (sym is);
+      }
+
+  -- ---- where it is taken alone, none is missed
+
+  payload_there : (place : Place) (sender : Address) (payload : List ℕ) (what : Found) → PayloadIs place sender payload what → is_missed origin what ≡ false
+  payload_there place sender payload what (inl (body, begins, is)) = ap (is_missed origin) is
+  payload_there place sender payload what (inr (inl (short, is))) = ap (is_missed origin) is
+  payload_there place sender payload what (inr (inr (inl (long, magic, is)))) = ap (is_missed origin) is
+  payload_there place sender payload what (inr (inr (inr (long, magic, version, is)))) = ap (is_missed origin) is
+
+  one_there : (sight : Sight) (what mine : Found) → Finds everyone sight what → Finds (only origin) sight mine → IsTaken mine → is_missed origin what ≡ false
+  one_there other what mine is finds taken = ap (is_missed origin) is
+  one_there too_short what mine is finds taken = ap (is_missed origin) is
+  one_there (datagram place sender carried) what mine (inr (not, is)) finds taken = absurd (not (tt, tt))
+  one_there (datagram place sender other_port) what mine (inl (wants, is)) finds taken = ap (is_missed origin) is
+  one_there (datagram place sender not_link_local) what mine (inl (wants, is)) finds taken = ap (is_missed origin) is
+  one_there (datagram place sender (carries payload)) what mine (inl (wants, is)) finds taken = payload_there place sender payload what is
+  one_there (datagram place sender (lacking lack)) what mine (inl (wants, is)) (inl (own, refuses)) taken = absurd (subst IsTaken refuses taken)
+  one_there (datagram place sender (lacking lack)) what mine (inl (wants, is)) (inr (not, passes)) taken = ap (is_missed origin) is ∙ unwanted place sender not
+
+  all_there : (sightings : List Sighting) (made mine : List Made) → AreMade everyone sightings made → AreMade (only origin) sightings mine → missed_from origin made ≡ []
+  all_there [] made mine are are_mine = ap (missed_from origin) are
+  all_there (sighting ∷ later) made mine (one, others, is, number, link, came, finds, takes, are) (my_one, my_others, my_is, my_number, my_link, my_came, my_finds, my_takes, are_mine) =
+      ap (missed_from origin) is
+      ∙ ap (λ (b : Bool). cond b (one ∷ missed_from origin others) (missed_from origin others)) (one_there sighting.what one.what my_one.what finds my_finds my_takes)
+      ∙ all_there later others my_others are are_mine
+
+-- ---- so with captures
 
 pub named_is_one : NamedIsOne
-named_is_one limit octets gathering cut sender place ends read wanted =
+named_is_one limit octets gathering cut origin read wanted =
     let gathered = read.is_read.gathered in
     subst (λ (s : Senders). length s ≤ 1) (sym gathered.senders)
-    (one_sender_at_most sender place ends (sightings_of read.is_read.blocks) gathered.made
+    (one_at_most origin (sightings_of read.is_read.blocks) gathered.made
     (subst (λ (w : Wanted). AreMade w (sightings_of read.is_read.blocks) gathered.made) wanted gathered.taken.are_made))
+
+pub alone_is_the_same : AloneIsTheSame
+alone_is_the_same limit octets all cut origin read wanted none =
+    let sightings = sightings_of read.is_read.blocks in
+    let gathered = read.is_read.gathered in
+    let are = all_mine origin sightings gathered.made (subst (λ (w : Wanted). AreMade w sightings gathered.made) wanted gathered.taken.are_made) none in
+    let most = one_at_most origin sightings are.mine are.are_made in (
+      record { wanted = only origin; names = all.names; report = counts_of are.mine; senders = senders_of are.mine },
+      record {
+        read = read.read;
+        rest = read.rest;
+        whole = read.whole;
+        is_read = record {
+          blocks = read.is_read.blocks;
+          whole = read.is_read.whole;
+          are_blocks = read.is_read.are_blocks;
+          started = read.is_read.started;
+          gathered = record { made = are.mine; taken = record { are_made = are.are_made; few = omega (arith, most) }; report = refl; senders = refl };
+          names = read.is_read.names;
+        };
+        partial = read.partial;
+        where_cut = read.where_cut;
+      },
+      refl,
+      are.same,
+      all_own origin sightings are.mine are.are_made ∙ ap packets_made are.same,
+    )
+
+pub missing_is_none : MissingIsNone
+missing_is_none limit octets all own cut own_cut origin read wanted some alone alone_wanted =
+    let gathered = read.is_read.gathered in
+    let own_gathered = alone.is_read.gathered in
+    let same : read.is_read.blocks ≡ alone.is_read.blocks = (same_blocks limit octets all own cut own_cut read alone).0 in
+    some (all_there origin (sightings_of read.is_read.blocks) gathered.made own_gathered.made
+    (subst (λ (w : Wanted). AreMade w (sightings_of read.is_read.blocks) gathered.made) wanted gathered.taken.are_made)
+    (subst (λ (b : List BlockAt). AreMade (only origin) (sightings_of b) own_gathered.made) (sym same)
+    (subst (λ (w : Wanted). AreMade w (sightings_of alone.is_read.blocks) own_gathered.made) alone_wanted own_gathered.taken.are_made)))

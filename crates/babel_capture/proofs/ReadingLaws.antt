@@ -5,20 +5,18 @@ use Rattle.std.proofs.lemmas.List.{append-nil, length-append, take-append-drop}
 use Rattle.std.proofs.Math.Seq.{take-add}
 use Rattle.std.proofs.lemmas.List.Concat.{flat_map-append}
 use Rattle.babel_capture.specs.declared.fault.Fault.{Fault}
-use Rattle.babel_capture.specs.declared.sink.Record.{Record}
 use Rattle.babel_capture.specs.declared.wanted.Wanted.{Wanted}
 use Rattle.babel_capture.specs.Blocks.{names_of, BlockAt, BeginsBlock, IsBlock, AreBlocks, Sighting, start, context_behind, octets_of, sightings_in, sightings_behind}
 use Rattle.babel_capture.specs.Blocks.{sightings_of}
 use Rattle.babel_capture.specs.Contents.{Content, block_said, context_after, names_in}
 use Rattle.babel_capture.specs.Context.{Before}
 use Rattle.babel_capture.specs.Counts.{Made, Counts}
-use Rattle.babel_capture.specs.Gathering.{AreMade, AreTaken, BlockNeedsMemory, Gathering, IsGathered, with_taken}
-use Rattle.babel_capture.specs.Reading.{Account, Progress, LeadTo, BlockFails, HeaderFails, NeedsMemory, NeedsMemoryAt, StopsAt, Stops}
+use Rattle.babel_capture.specs.Gathering.{AreMade, AreTaken, BlockNeedsMemory, Gathering, IsGathered}
+use Rattle.babel_capture.specs.Reading.{Progress, LeadTo, BlockFails, HeaderFails, NeedsMemory, NeedsMemoryAt, StopsAt, Stops}
 use Rattle.babel_capture.specs.Tallies.{Senders, senders_of}
-use Rattle.babel_capture.specs.PacketEnds.{AreEnds}
-use Rattle.babel_capture.specs.Sinking.{AreTold, GatherMore, IsTold, LeadMore, Sinks}
-use Rattle.babel_capture.proofs.EndLaws.{ends-after, ends-gone, noted_told}
+use Rattle.babel_capture.specs.Sinking.{GatherMore, LeadMore, Sinks, StopLead, StopsBehind}
 use Rattle.babel_capture.proofs.NumberLaws.{rest_is}
+use Rattle.babel_capture.proofs.SinkLaws.{sinks-as}
 use Rattle.babel_capture.specs.Window.{Extent}
 
 -- ---- one block more
@@ -68,53 +66,32 @@ packets-are : (sightings : List Sighting) (gathering : Gathering) → IsGathered
 packets-are sightings gathering gathered =
     ap (λ (c : Counts). c.packets) gathered.report ∙ length-made gathering.wanted sightings gathered.made gathered.taken.are_made
 
--- nothing was read yet
-pub lead-none : (limit : Extent) (progress : Progress) → progress.context ≡ start limit → progress.at ≡ 0 → IsGathered [] progress.gathering → progress.gathering.names ≡ []
-    → progress.gathering.dump ≡ [] → progress.ends ≡ [] → LeadTo (record { limit = limit; taken = [] }) [] progress
-lead-none limit progress context place gathered names dump ends = record {
-  blocks = [];
-  whole = refl;
-  are_blocks = tt;
-  place = place;
-  context = context;
-  gathered = gathered;
-  ends = subst (AreEnds progress.gathering.wanted [] gathered.made) (sym ends) (ends-gone progress.gathering.wanted [] [] gathered.made (sym dump ∙ gathered.dump));
-  names = names;
-}
-
-pub lead-push : (block : List ℕ) (old new : Progress) (content : Content) (told : Option Record) (more : List Made) → IsBlock old.context old.at block
-    → block_said old.context old.at block ≡ Ok content
-    → new.context ≡ context_after old.context content → new.at ≡ old.at + length block → AreTold told more
+pub lead-push : (block : List ℕ) (old new : Progress) (content : Content) (more : List Made) → IsBlock old.context old.at block → block_said old.context old.at block ≡ Ok content
+    → new.context ≡ context_after old.context content → new.at ≡ old.at + length block
     → GatherMore old.gathering new.gathering (sightings_in (old.gathering.report.packets + 1) old.at content) more
-    → new.gathering.names ≡ old.gathering.names ++ names_in content → new.gathering.wanted ≡ old.gathering.wanted
-    → new.ends ≡ noted_told new.gathering.wanted (length new.gathering.dump) told old.ends → LeadMore old new block more
-lead-push block old new content told more is_block said context place is_told gathers names wanted ends account read lead =
+    → new.gathering.names ≡ old.gathering.names ++ names_in content → LeadMore old new block more
+lead-push block old new content more is_block said context place gathers names limit read lead =
     let b : BlockAt = record { at = old.at; octets = block; content = content } in
-    let count : old.gathering.report.packets ≡ length (sightings_of lead.blocks) = packets-are (sightings_of lead.blocks) (with_taken account.taken old.gathering) lead.gathered in
+    let count : old.gathering.report.packets ≡ length (sightings_of lead.blocks) = packets-are (sightings_of lead.blocks) old.gathering lead.gathered in
     let number : old.gathering.report.packets + 1 ≡ 0 + length (sightings_of lead.blocks) + 1 = omega (arith, count) in
-    let both = gathers account.taken (sightings_of lead.blocks) lead.gathered in
+    let both = gathers (sightings_of lead.blocks) lead.gathered in
     let gathered = both.0 in
     let same : sightings_of lead.blocks ++ sightings_in (old.gathering.report.packets + 1) old.at content ≡ sightings_of (lead.blocks ++ b ∷ []) =
     ap (λ (n : ℕ). sightings_of lead.blocks ++ sightings_in n old.at content) number ∙ sym (sightings-push 0 lead.blocks b) in (
       record {
         blocks = lead.blocks ++ b ∷ [];
         whole = ap (λ (t : List ℕ). t ++ block) lead.whole ∙ sym (octets-push lead.blocks b);
-        are_blocks = blocks-push (start account.limit) 0 lead.blocks b lead.are_blocks (omega (arith, lead.place, ap length lead.whole))
+        are_blocks = blocks-push (start limit) 0 lead.blocks b lead.are_blocks (omega (arith, lead.place, ap length lead.whole))
             (subst (λ (c : Before). IsBlock c old.at block) lead.context is_block)
             (subst (λ (c : Before). block_said c old.at block ≡ Ok content) lead.context said);
         place = omega (arith, place, lead.place, length-append read block);
-        context = context ∙ ap (λ (c : Before). context_after c content) lead.context ∙ sym (context-push (start account.limit) lead.blocks b);
+        context = context ∙ ap (λ (c : Before). context_after c content) lead.context ∙ sym (context-push (start limit) lead.blocks b);
         gathered = record {
           made = gathered.made;
           taken = subst (λ (s : List Sighting). AreTaken new.gathering.wanted s gathered.made) same gathered.taken;
-          dump = gathered.dump;
-          dumps = gathered.dumps;
           report = gathered.report;
           senders = gathered.senders;
         };
-        ends = subst (AreEnds new.gathering.wanted account.taken gathered.made) (sym ends)
-            (ends-after new.gathering.wanted account.taken new.gathering.dump lead.gathered.made more gathered.made told old.ends is_told both.1 gathered.dump
-            (subst (λ (w : Wanted). AreEnds w account.taken lead.gathered.made old.ends) (sym wanted) lead.ends));
         names = names ∙ ap (λ (ns : List (List ℕ)). ns ++ names_in content) lead.names ∙ sym (names-push lead.blocks b);
       },
       both.1,
@@ -123,20 +100,20 @@ lead-push block old new content told more is_block said context place is_told ga
 -- ---- what stops
 
 -- what holds where octets led holds where their blocks end
-where-led : (P : Senders → Before → ℕ → Type 0) (account : Account) (read : List ℕ) (now : Progress) (lead : LeadTo account read now) → P now.gathering.senders now.context now.at
-    → P (senders_of lead.gathered.made) (context_behind (start account.limit) lead.blocks) (length (octets_of lead.blocks))
-where-led P account read now lead holds =
-    subst (P (senders_of lead.gathered.made) (context_behind (start account.limit) lead.blocks)) (lead.place ∙ ap length lead.whole)
+where-led : (P : Senders → Before → ℕ → Type 0) (limit : Extent) (read : List ℕ) (now : Progress) (lead : LeadTo limit read now) → P now.gathering.senders now.context now.at
+    → P (senders_of lead.gathered.made) (context_behind (start limit) lead.blocks) (length (octets_of lead.blocks))
+where-led P limit read now lead holds =
+    subst (P (senders_of lead.gathered.made) (context_behind (start limit) lead.blocks)) (lead.place ∙ ap length lead.whole)
     (subst (λ (c : Before). P (senders_of lead.gathered.made) c now.at) lead.context (subst (λ (s : Senders). P s now.context now.at) lead.gathered.senders holds))
 
-module _ (account : Account) (wanted : Wanted) (read octets : List ℕ) (used : ℕ) (now : Progress) (same : now.gathering.wanted ≡ wanted) (lead : LeadTo account (read ++ take used octets) now) where
+module _ (limit : Extent) (wanted : Wanted) (read octets : List ℕ) (used : ℕ) (now : Progress) (same : now.gathering.wanted ≡ wanted) (lead : LeadTo limit (read ++ take used octets) now) where
   whole : read ++ octets ≡ octets_of lead.blocks ++ drop used octets
   whole = ap (λ (t : List ℕ). read ++ t) (sym (take-append-drop used octets)) ∙ sym (append_assoc read (take used octets) (drop used octets)) ∙ ap (λ (t : List ℕ). t ++ drop used octets) lead.whole
 
   are_taken : AreTaken wanted (sightings_of lead.blocks) lead.gathered.made
   are_taken = subst (λ (w : Wanted). AreTaken w (sightings_of lead.blocks) lead.gathered.made) same lead.gathered.taken
 
-  pub stops-behind : (fault : Fault) → StopsAt now.gathering.wanted now.gathering.senders now.context now.at (drop used octets) fault → Stops account.limit wanted (read ++ octets) fault
+  pub stops-behind : (fault : Fault) → StopsAt now.gathering.wanted now.gathering.senders now.context now.at (drop used octets) fault → Stops limit wanted (read ++ octets) fault
   stops-behind fault stops = record {
     blocks = lead.blocks;
     rest = drop used octets;
@@ -144,11 +121,14 @@ module _ (account : Account) (wanted : Wanted) (read octets : List ℕ) (used : 
     whole = whole;
     are_blocks = lead.are_blocks;
     taken = are_taken;
-    stops = where-led (λ (s : Senders) (c : Before) (n : ℕ). StopsAt wanted s c n (drop used octets) fault) account (read ++ take used octets) now lead
+    stops = where-led (λ (s : Senders) (c : Before) (n : ℕ). StopsAt wanted s c n (drop used octets) fault) limit (read ++ take used octets) now lead
         (subst (λ (w : Wanted). StopsAt w now.gathering.senders now.context now.at (drop used octets) fault) same stops);
   }
 
-  pub needs-behind : NeedsMemoryAt now.gathering.wanted now.gathering.senders now.context now.at (drop used octets) → NeedsMemory account.limit wanted read octets
+  behind-led : StopsBehind limit wanted (read ++ octets) lead.gathered.made
+  behind-led = record { blocks = lead.blocks; rest = drop used octets; whole = whole; are_blocks = lead.are_blocks; taken = are_taken }
+
+  pub needs-behind : NeedsMemoryAt now.gathering.wanted now.gathering.senders now.context now.at (drop used octets) → NeedsMemory limit wanted read octets
   needs-behind needs = record {
     blocks = lead.blocks;
     rest = drop used octets;
@@ -157,7 +137,7 @@ module _ (account : Account) (wanted : Wanted) (read octets : List ℕ) (used : 
     are_blocks = lead.are_blocks;
     taken = are_taken;
     in_piece = omega (arith, ap length lead.whole, length-append read (take used octets));
-    needs = where-led (λ (s : Senders) (c : Before) (n : ℕ). NeedsMemoryAt wanted s c n (drop used octets)) account (read ++ take used octets) now lead
+    needs = where-led (λ (s : Senders) (c : Before) (n : ℕ). NeedsMemoryAt wanted s c n (drop used octets)) limit (read ++ take used octets) now lead
         (subst (λ (w : Wanted). NeedsMemoryAt w now.gathering.senders now.context now.at (drop used octets)) same needs);
   }
 
@@ -175,64 +155,44 @@ pub taken-more : (before : Before) (at used : ℕ) (octets block : List ℕ) →
 taken-more before at used octets block begins =
     ap (λ (t : List ℕ). take used octets ++ t) (begins.front ∙ ap (take (length block)) (rest_is used octets)) ∙ sym (take-add used (length block) octets)
 
--- what comes after one another
-pub sinks-both : {S : Type 0} (has : S → S → List Made → Type 0) (old next new : S) (P Q R : List Made → Type 0) → ((one two : List Made) → P one → Q two → R (one ++ two)) → Sinks has old next P
-    → Sinks has next new Q → Sinks has old new R
-sinks-both has old next new P Q R joins one two = record {
-  more = one.more ++ two.more;
-  took = λ start made has_so. subst (has start new) (append_assoc made one.more two.more) (two.took start (made ++ one.more) (one.took start made has_so));
-  are_read = joins one.more two.more one.are_read two.are_read;
-}
-
--- where there are no packets
-pub sinks-none : {S : Type 0} (has : S → S → List Made → Type 0) (sink : S) (P : List Made → Type 0) → P [] → Sinks has sink sink P
-sinks-none has sink P holds = record {
-  more = [];
-  took = λ start made has_so. subst (has start sink) (sym (append-nil made)) has_so;
-  are_read = holds;
-}
-
--- or one, which it was told
-pub sinks-told : {S : Type 0} (has : S → S → List Made → Type 0) (old new : S) (P : List Made → Type 0) (told : Record) (more : List Made) → AreTold (Some told) more
-    → ((start : S) (made : List Made) (one : Made) → IsTold one told → has start old made → has start new (made ++ one ∷ [])) → P more → Sinks has old new P
-sinks-told has old new P told more (one, is_one, is_told) took holds = record {
-  more = more;
-  took = λ start made has_so. subst (λ (m : List Made). has start new (made ++ m)) (sym is_one) (took start made one is_told has_so);
-  are_read = holds;
-}
-
 pub lead-none-more : (progress : Progress) → LeadMore progress progress [] []
-lead-none-more progress account read lead =
-    subst (λ (t : List ℕ). (now : LeadTo account t progress) × (now.gathered.made ≡ lead.gathered.made ++ [])) (sym (append-nil read)) (lead, sym (append-nil lead.gathered.made))
+lead-none-more progress limit read lead =
+    subst (λ (t : List ℕ). (now : LeadTo limit t progress) × (now.gathered.made ≡ lead.gathered.made ++ [])) (sym (append-nil read)) (lead, sym (append-nil lead.gathered.made))
 
 pub lead-both : (old next new : Progress) (front back octets : List ℕ) → front ++ back ≡ octets → (one two : List Made) → LeadMore old next front one → LeadMore next new back two
     → LeadMore old new octets (one ++ two)
-lead-both old next new front back octets whole one two goes goes_on account read lead =
-    let first = goes account read lead in
-    let second = goes_on account (read ++ front) first.0 in
-    subst (λ (t : List ℕ). (now : LeadTo account t new) × (now.gathered.made ≡ lead.gathered.made ++ (one ++ two))) (append_assoc read front back ∙ ap (λ (t : List ℕ). read ++ t) whole)
+lead-both old next new front back octets whole one two goes goes_on limit read lead =
+    let first = goes limit read lead in
+    let second = goes_on limit (read ++ front) first.0 in
+    subst (λ (t : List ℕ). (now : LeadTo limit t new) × (now.gathered.made ≡ lead.gathered.made ++ (one ++ two))) (append_assoc read front back ∙ ap (λ (t : List ℕ). read ++ t) whole)
     (second.0, second.1 ∙ ap (λ (m : List Made). m ++ two) first.1 ∙ append_assoc lead.gathered.made one two)
 
-pub header-stops : (account : Account) (wanted : Wanted) (read octets : List ℕ) (used : ℕ) (now : Progress) (fault : Fault) → now.gathering.wanted ≡ wanted
+pub sinks-led : {S : Type 0} (has : S → S → List Made → Type 0) (before after : S) (old now : Progress) (octets : List ℕ) (used : ℕ) → now.gathering.wanted ≡ old.gathering.wanted
+    → Sinks has before after (LeadMore old now (take used octets)) → Sinks has before after (StopLead old octets)
+sinks-led has before after old now octets used same = sinks-as has before after _ _ (λ more goes limit read lead.
+    let led = goes limit read lead in
+    rw (sym led.1) (behind-led limit old.gathering.wanted read octets used now same led.0))
+
+pub header-stops : (limit : Extent) (wanted : Wanted) (read octets : List ℕ) (used : ℕ) (now : Progress) (fault : Fault) → now.gathering.wanted ≡ wanted
     → HeaderFails now.context now.at (rest_of used octets) fault
-    → LeadTo account (read ++ take used octets) now → Stops account.limit wanted (read ++ octets) fault
-header-stops account wanted read octets used now fault same header lead =
-    stops-behind account wanted read octets used now same lead fault
+    → LeadTo limit (read ++ take used octets) now → Stops limit wanted (read ++ octets) fault
+header-stops limit wanted read octets used now fault same header lead =
+    stops-behind limit wanted read octets used now same lead fault
     (subst (λ (t : List ℕ). StopsAt now.gathering.wanted now.gathering.senders now.context now.at t fault) (rest_is used octets) (inl header))
 
-pub block-stops : (account : Account) (wanted : Wanted) (read octets block : List ℕ) (used : ℕ) (now : Progress) (fault : Fault) → now.gathering.wanted ≡ wanted
+pub block-stops : (limit : Extent) (wanted : Wanted) (read octets block : List ℕ) (used : ℕ) (now : Progress) (fault : Fault) → now.gathering.wanted ≡ wanted
     → BeginsBlock now.context now.at (rest_of used octets) block → BlockFails now.gathering.wanted now.gathering.senders now.context now.at block fault
-    → LeadTo account (read ++ take used octets) now → Stops account.limit wanted (read ++ octets) fault
-block-stops account wanted read octets block used now fault same begins fails lead =
-    stops-behind account wanted read octets used now same lead fault
+    → LeadTo limit (read ++ take used octets) now → Stops limit wanted (read ++ octets) fault
+block-stops limit wanted read octets block used now fault same begins fails lead =
+    stops-behind limit wanted read octets used now same lead fault
     (subst (λ (t : List ℕ). StopsAt now.gathering.wanted now.gathering.senders now.context now.at t fault) (rest_is used octets) (inr (block, begins, fails)))
 
-pub block-needs : (account : Account) (wanted : Wanted) (read octets block : List ℕ) (used : ℕ) (now : Progress) → now.gathering.wanted ≡ wanted
+pub block-needs : (limit : Extent) (wanted : Wanted) (read octets block : List ℕ) (used : ℕ) (now : Progress) → now.gathering.wanted ≡ wanted
     → BeginsBlock now.context now.at (rest_of used octets) block
     → ((content : Content) × (block_said now.context now.at block ≡ Ok content) × BlockNeedsMemory now.gathering.wanted now.gathering.senders content)
-    → LeadTo account (read ++ take used octets) now → NeedsMemory account.limit wanted read octets
-block-needs account wanted read octets block used now same begins (content, said, needs) lead =
-    needs-behind account wanted read octets used now same lead
+    → LeadTo limit (read ++ take used octets) now → NeedsMemory limit wanted read octets
+block-needs limit wanted read octets block used now same begins (content, said, needs) lead =
+    needs-behind limit wanted read octets used now same lead
     (subst (NeedsMemoryAt now.gathering.wanted now.gathering.senders now.context now.at) (rest_is used octets) (inr (block, content, begins, said, needs)))
 
 -- want of memory, or what is said of the fault else

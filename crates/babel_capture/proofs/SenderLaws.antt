@@ -16,8 +16,8 @@ use Rattle.babel_capture.specs.declared.tallies.Origin.{Origin}
 use Rattle.babel_capture.specs.declared.tallies.Tally.{Tally}
 use Rattle.babel_capture.specs.Capture.{IsRead}
 use Rattle.babel_capture.specs.Counts.{Made, has_trailer}
-use Rattle.babel_capture.specs.Findings.{Found, passed, untold, left, refused, lacked, found}
-use Rattle.babel_capture.specs.Gathering.{Gathering, octets_found}
+use Rattle.babel_capture.specs.Findings.{Found, passed, untold, left, refused, found, octets_found}
+use Rattle.babel_capture.specs.Gathering.{Gathering}
 use Rattle.babel_capture.specs.Times.{time_of}
 use Rattle.babel_capture.specs.Timing.{greatest, least}
 use Rattle.babel_capture.specs.Updates.{interval_in, updates_in}
@@ -73,37 +73,22 @@ tally-push [] sent =
     let octets : octets_in (sent ∷ []) ≡ 0 + length sent.octets = omega arith in
     let updates : updates_all (sent ∷ []) ≡ 0 + updates_in sent.octets = omega arith in
     let trailers : trailers_in (sent ∷ []) ≡ 0 + cond sent.has_trailer 1 0 = count-push (λ (s : Sent). s.has_trailer) [] sent in
-    ap (λ (n : ℕ). tally_with 1 n (updates_all (sent ∷ [])) (trailers_in (sent ∷ [])) (sent ∷ [])) octets
-    ∙ ap (λ (n : ℕ). tally_with 1 (0 + length sent.octets) n (trailers_in (sent ∷ [])) (sent ∷ [])) updates
-    ∙ ap (λ (n : ℕ). tally_with 1 (0 + length sent.octets) (0 + updates_in sent.octets) n (sent ∷ [])) trailers
+    let same : tally_with 1 (octets_in (sent ∷ [])) (updates_all (sent ∷ [])) (trailers_in (sent ∷ [])) (sent ∷ [])
+    ≡ tally_with 1 (0 + length sent.octets) (0 + updates_in sent.octets) (0 + cond sent.has_trailer 1 0) (sent ∷ []) = cc in
+    same
 tally-push (first ∷ packets) sent =
     let before = first ∷ packets in
     let all = before ++ sent ∷ [] in
-    let of : Option ℕ → Option ℕ → Option ℕ → Option Tally = λ i f l.
-    Some (record {
-      packets = length before + 1;
-      octets = octets_in before + length sent.octets;
-      updates = updates_all before + updates_in sent.octets;
-      trailers = trailers_in before + cond sent.has_trailer 1 0;
-      interval = i;
-      first = f;
-      last = l;
-    }) in
+    let count = length-append before (sent ∷ []) in
+    let octets : octets_in all ≡ octets_in before + length sent.octets = sum_by-append (λ (s : Sent). length s.octets) before (sent ∷ []) ∙ ap (λ (n : ℕ). octets_in before + n) (omega arith) in
+    let updates : updates_all all ≡ updates_all before + updates_in sent.octets =
+    sum_by-append (λ (s : Sent). updates_in s.octets) before (sent ∷ []) ∙ ap (λ (n : ℕ). updates_all before + n) (omega arith) in
+    let trailers = count-push (λ (s : Sent). s.has_trailer) before sent in
     let interval = fold-append (λ (i : Option ℕ) (s : Sent). greatest i (interval_in s.octets)) None before (sent ∷ []) in
     let earliest = fold-append (λ (t : Option ℕ) (s : Sent). least t s.time) None before (sent ∷ []) in
     let latest = fold-append (λ (t : Option ℕ) (s : Sent). greatest t s.time) None before (sent ∷ []) in
-    ap (λ (n : ℕ). tally_with n (octets_in all) (updates_all all) (trailers_in all) all) (length-append before (sent ∷ []))
-    ∙ ap (λ (n : ℕ). tally_with (length before + 1) n (updates_all all) (trailers_in all) all)
-    (sum_by-append (λ (s : Sent). length s.octets) before (sent ∷ []) ∙ ap (λ (n : ℕ). octets_in before + n) (omega arith))
-    ∙ ap (λ (n : ℕ). tally_with (length before + 1) (octets_in before + length sent.octets) n (trailers_in all) all)
-    (sum_by-append (λ (s : Sent). updates_in s.octets) before (sent ∷ []) ∙ ap (λ (n : ℕ). updates_all before + n) (omega arith))
-    ∙ ap (λ (n : ℕ). tally_with (length before + 1) (octets_in before + length sent.octets) (updates_all before + updates_in sent.octets) n all)
-    (count-push (λ (s : Sent). s.has_trailer) before sent)
-    ∙ ap (λ (i : Option ℕ). of i (fold (λ (t : Option ℕ) (s : Sent). least t s.time) None all) (fold (λ (t : Option ℕ) (s : Sent). greatest t s.time) None all)) interval
-    ∙ ap (λ (f : Option ℕ). of (greatest (fold (λ (i : Option ℕ) (s : Sent). greatest i (interval_in s.octets)) None before) (interval_in sent.octets)) f
-    (fold (λ (t : Option ℕ) (s : Sent). greatest t s.time) None all)) earliest
-    ∙ ap (of (greatest (fold (λ (i : Option ℕ) (s : Sent). greatest i (interval_in s.octets)) None before) (interval_in sent.octets))
-    (least (fold (λ (t : Option ℕ) (s : Sent). least t s.time) None before) sent.time)) latest
+    let same : tally_for all ≡ Some (one_more (unwrap_or (tally_for before) no_packets) sent.time sent.octets sent.has_trailer) = cc in
+    same
 
 -- the same sender has one tally
 same-tally : (senders : Senders) (k q : Origin) → is_at (origin_cmp k) q ≡ true → tally_of senders k ≡ tally_of senders q
@@ -148,7 +133,6 @@ with_one before senders one passed is are = unchanged before senders one (λ ori
 with_one before senders one untold is are = unchanged before senders one (λ origin. ap (here origin (time_of one.came)) is) are
 with_one before senders one (left reason missed) is are = unchanged before senders one (λ origin. ap (here origin (time_of one.came)) is) are
 with_one before senders one (refused lack) is are = unchanged before senders one (λ origin. ap (here origin (time_of one.came)) is) are
-with_one before senders one (lacked place sender lack) is are = unchanged before senders one (λ origin. ap (here origin (time_of one.came)) is) are
 with_one before senders one (found place sender packet has_trailer) is are =
     with_packet before senders one (record { place = place; sender = sender }) (record { time = time_of one.came; octets = packet; has_trailer = has_trailer }) (λ origin. ap (here origin (time_of one.came)) is) are
 

@@ -1,22 +1,20 @@
 -- Octets in pieces.
-use Rattle.std.proofs.Common.{◌≡◌, ◌≢◌, ◌≤◌, ◌<◌, ◌+◌, ◌-◌, ℕ, List, [], ◌++◌, length, take, drop, refl, sym, ap, subst, ◌∙◌, append_assoc, inl, inr, arith}
-use Rattle.std.specs.Prelude.{Ok, Err, Result, IfErr, OnOk, Option, Some, None, ◌⊎◌}
+use Rattle.std.proofs.Common.{◌≡◌, ◌≢◌, ◌≤◌, ◌+◌, ◌-◌, ℕ, List, [], ◌++◌, length, take, drop, refl, sym, ap, subst, ◌∙◌, append_assoc, inl, inr, arith}
+use Rattle.std.specs.Prelude.{Ok, Err, Result, OnOk, Option, Some, None, ◌⊎◌}
 use Rattle.std.proofs.lemmas.List.{append-nil, take-append-drop, take-append-le, length-append}
 use Rattle.babel_capture.specs.declared.fault.Fault.{Fault}
 use Rattle.babel_capture.specs.declared.fault.Fault.TheVariants as faults
 use Rattle.babel_capture.specs.declared.wanted.Wanted.{Wanted}
 use Rattle.babel_capture.specs.Blocks.{IsEnd, IsPartial, header_of, octets_of, start, context_behind}
-use Rattle.babel_capture.specs.Capture.{CaptureFault, account_of, HasFailed, HasGiven, HasGivenTo, HasRead, IsRead, IsReadToCut, IsShortBy, State}
+use Rattle.babel_capture.specs.Capture.{CaptureFault, HasFailed, HasRead, HasReadTo, IsRead, IsReadToCut, IsShortBy, State}
 use Rattle.babel_capture.specs.Context.{Before}
-use Rattle.babel_capture.specs.Gathering.{with_taken}
 use Rattle.babel_capture.specs.Lengths.{header_len, block_len}
-use Rattle.babel_capture.specs.Reading.{Account, Progress, LeadTo, HasStarted, HasTaken, IsPending, NeedsMemory, Stops, StopsAt, without_dump}
+use Rattle.babel_capture.specs.Reading.{Progress, LeadTo, HasStarted, HasTaken, IsPending, NeedsMemory, PieceFails, PieceNeedsMemory, Stops, StopsAt}
 use Rattle.babel_capture.specs.Counts.{Made}
-use Rattle.babel_capture.specs.Sinking.{FeedMore, LeadMore, Sinks}
+use Rattle.babel_capture.specs.Sinking.{FeedMore, LeadMore, Sinks, StopLead, StopMore}
 use Rattle.babel_capture.specs.Tallies.{Senders, senders_of}
-use Rattle.babel_capture.proofs.EndLaws.{ends-gone}
 use Rattle.babel_capture.proofs.OneCapture.{some_header}
-use Rattle.babel_capture.proofs.ReadingLaws.{sinks-none}
+use Rattle.babel_capture.proofs.SinkLaws.{sinks-as, sinks-none}
 use Rattle.babel_capture.specs.Window.{Extent}
 
 -- ---- what is pending
@@ -46,14 +44,19 @@ none-kept : (progress : Progress) (rest pending : List ℕ) → IsPending progre
 none-kept progress rest pending (inl same, size) none = same ∙ none
 none-kept progress rest pending (inr (end, told), size) none = absurd (not-end progress.context progress.at (subst (IsEnd progress.context progress.at) none end))
 
-fed-is : (account : Account) (progress : Progress) (pending fed : List ℕ) → ¬ IsEnd progress.context progress.at pending → (taken : HasTaken account progress pending fed) → fed ≡ taken.read ++ pending
-fed-is account progress pending fed not taken = taken.whole ∙ ap (λ (t : List ℕ). taken.read ++ t) (sym (kept-all progress taken.rest pending taken.kept not))
+fed-is : (limit : Extent) (progress : Progress) (pending fed : List ℕ) → ¬ IsEnd progress.context progress.at pending → (taken : HasTaken limit progress pending fed) → fed ≡ taken.read ++ pending
+fed-is limit progress pending fed not taken = taken.whole ∙ ap (λ (t : List ℕ). taken.read ++ t) (sym (kept-all progress taken.rest pending taken.kept not))
+
+all-fed : (limit : Extent) (old : Progress) (pending fed piece all : List ℕ) → ¬ IsEnd old.context old.at pending → all ≡ pending ++ piece → (taken : HasTaken limit old pending fed)
+    → fed ++ piece ≡ taken.read ++ all
+all-fed limit old pending fed piece all not is taken =
+    ap (λ (t : List ℕ). t ++ piece) (fed-is limit old pending fed not taken) ∙ append_assoc taken.read pending piece ∙ ap (λ (t : List ℕ). taken.read ++ t) (sym is)
 
 pub none-ends : (progress : Progress) (pending : List ℕ) → pending ≡ [] → ¬ IsEnd progress.context progress.at pending
 none-ends progress pending none end = not-end progress.context progress.at (subst (IsEnd progress.context progress.at) none end)
 
 -- what comes after the end is passed over, and counted
-module _ (account : Account) (old : Progress) (pending fed piece : List ℕ) (told : IsEnd old.context old.at pending) (taken : HasTaken account old pending fed) where
+module _ (limit : Extent) (old : Progress) (pending fed piece : List ℕ) (told : IsEnd old.context old.at pending) (taken : HasTaken limit old pending fed) where
   end-now : IsEnd old.context old.at (taken.rest ++ piece)
   end-now = end-longer old.context old.at taken.rest piece (kept-end old taken.rest pending taken.kept told)
 
@@ -64,8 +67,8 @@ module _ (account : Account) (old : Progress) (pending fed piece : List ℕ) (to
   size-now = omega (arith, taken.kept.1, length-append taken.rest piece)
 
   end-more : (new : Progress) → new ≡ record old { passed = old.passed + length piece } → length pending + (old.passed + length piece) ≤ old.context.limit - old.at
-      → (now : HasTaken account new pending (fed ++ piece)) × (now.leads.gathered.made ≡ taken.leads.gathered.made ++ [])
-  end-more new is few = subst (λ (p : Progress). (now : HasTaken account p pending (fed ++ piece)) × (now.leads.gathered.made ≡ taken.leads.gathered.made ++ [])) (sym is) (
+      → (now : HasTaken limit new pending (fed ++ piece)) × (now.leads.gathered.made ≡ taken.leads.gathered.made ++ [])
+  end-more new is few = subst (λ (p : Progress). (now : HasTaken limit p pending (fed ++ piece)) × (now.leads.gathered.made ≡ taken.leads.gathered.made ++ [])) (sym is) (
     record {
       read = taken.read;
       rest = taken.rest ++ piece;
@@ -77,7 +80,6 @@ module _ (account : Account) (old : Progress) (pending fed piece : List ℕ) (to
         place = taken.leads.place;
         context = taken.leads.context;
         gathered = taken.leads.gathered;
-        ends = taken.leads.ends;
         names = taken.leads.names;
       };
       partial = inr (inr (end-now, omega (arith, few, size-now)));
@@ -86,29 +88,14 @@ module _ (account : Account) (old : Progress) (pending fed piece : List ℕ) (to
     sym (append-nil taken.leads.gathered.made),
   )
 
-  end-stops : (fault : Fault) → fault ≡ faults.TooLong old.at → old.context.limit - old.at < length pending + (old.passed + length piece)
-      → Stops account.limit old.gathering.wanted (fed ++ piece) fault
-  end-stops fault told_so past = record {
-    blocks = taken.leads.blocks;
-    rest = taken.rest ++ piece;
-    made = taken.leads.gathered.made;
-    whole = whole-now ∙ ap (λ (t : List ℕ). t ++ (taken.rest ++ piece)) taken.leads.whole;
-    are_blocks = taken.leads.are_blocks;
-    taken = taken.leads.gathered.taken;
-    stops = inl (inr (subst (λ (c : Before). IsEnd c (length (octets_of taken.leads.blocks)) (taken.rest ++ piece)
-        × (c.limit - length (octets_of taken.leads.blocks) < length (taken.rest ++ piece)) × (fault ≡ faults.TooLong (length (octets_of taken.leads.blocks)))) taken.leads.context
-        (subst (λ (n : ℕ). IsEnd old.context n (taken.rest ++ piece) × (old.context.limit - n < length (taken.rest ++ piece)) × (fault ≡ faults.TooLong n))
-        (taken.leads.place ∙ ap length taken.leads.whole) (end-now, omega (arith, past, size-now), told_so))));
-  }
-
 pub feed-next : (piece pending all left : List ℕ) (used : ℕ) (old new : Progress) (more : List Made) → ¬ IsEnd old.context old.at pending → new.passed ≡ old.passed → all ≡ pending ++ piece → left ≡ drop used all
     → LeadMore old new (take used all) more → IsPartial new.context new.at (drop used all) → FeedMore old pending new left piece more
-feed-next piece pending all left used old new more not passed is_all is_left took partial account fed taken =
-    let led = took account taken.read taken.leads in (
+feed-next piece pending all left used old new more not passed is_all is_left took partial limit fed taken =
+    let led = took limit taken.read taken.leads in (
       record {
         read = taken.read ++ take used all;
         rest = left;
-        whole = ap (λ (t : List ℕ). t ++ piece) (fed-is account old pending fed not taken) ∙ append_assoc taken.read pending piece ∙ ap (λ (t : List ℕ). taken.read ++ t) (sym is_all ∙ sym (take-append-drop used all))
+        whole = all-fed limit old pending fed piece all not is_all taken ∙ ap (λ (t : List ℕ). taken.read ++ t) (sym (take-append-drop used all))
             ∙ sym (append_assoc taken.read (take used all) (drop used all)) ∙ ap (λ (t : List ℕ). (taken.read ++ take used all) ++ t) (sym is_left);
         leads = led.0;
         partial = subst (λ (t : List ℕ). IsPartial new.context new.at t) (sym is_left) partial;
@@ -120,31 +107,39 @@ feed-next piece pending all left used old new more not passed is_all is_left too
 pub sinks-next : {S : Type 0} (has : S → S → List Made → Type 0) (before after : S) (piece pending all left : List ℕ) (used : ℕ) (old new : Progress) → ¬ IsEnd old.context old.at pending → new.passed ≡ old.passed
     → all ≡ pending ++ piece → left ≡ drop used all → Sinks has before after (LeadMore old new (take used all)) → IsPartial new.context new.at (drop used all)
     → Sinks has before after (FeedMore old pending new left piece)
-sinks-next has before after piece pending all left used old new not passed is_all is_left sinks partial = record {
-  more = sinks.more;
-  took = sinks.took;
-  are_read = feed-next piece pending all left used old new sinks.more not passed is_all is_left sinks.are_read partial;
-}
+sinks-next has before after piece pending all left used old new not passed is_all is_left sinks partial =
+    sinks-as has before after _ _ (λ more goes. feed-next piece pending all left used old new more not passed is_all is_left goes partial) sinks
+
+-- where a piece stops, nothing was read of it, or what its octets led to
+pub stop-none : (old : Progress) (pending piece : List ℕ) → StopMore old pending piece []
+stop-none old pending piece limit fed taken = rw (append-nil taken.leads.gathered.made) (record {
+  blocks = taken.leads.blocks;
+  rest = taken.rest ++ piece;
+  whole = ap (λ (t : List ℕ). t ++ piece) (taken.whole ∙ ap (λ (t : List ℕ). t ++ taken.rest) taken.leads.whole) ∙ append_assoc (octets_of taken.leads.blocks) taken.rest piece;
+  are_blocks = taken.leads.are_blocks;
+  taken = taken.leads.gathered.taken;
+})
+
+pub sinks-stop : {S : Type 0} (has : S → S → List Made → Type 0) (before after : S) (old : Progress) (pending piece all : List ℕ) → ¬ IsEnd old.context old.at pending → all ≡ pending ++ piece
+    → Sinks has before after (StopLead old all) → Sinks has before after (StopMore old pending piece)
+sinks-stop has before after old pending piece all not is = sinks-as has before after _ _ (λ more stops limit fed taken.
+    rw (all-fed limit old pending fed piece all not is taken) (stops limit taken.read taken.leads))
 
 -- ---- memory
 
 -- where nothing is pending, what is needed for a piece is needed after the octets that were read
-pub needs-here : (old : Progress) (pending piece : List ℕ) → pending ≡ [] → ((account : Account) (read : List ℕ) → LeadTo account read old → NeedsMemory account.limit old.gathering.wanted read piece)
-    → (account : Account) (fed : List ℕ) → HasTaken account old pending fed → NeedsMemory account.limit old.gathering.wanted fed piece
-needs-here old pending piece none needs account fed taken =
-    subst (λ (t : List ℕ). NeedsMemory account.limit old.gathering.wanted t piece) (sym (fed-is account old pending fed (none-ends old pending none) taken ∙ ap (λ (t : List ℕ). taken.read ++ t) none ∙ append-nil taken.read))
-    (needs account taken.read taken.leads)
+pub needs-here : (old : Progress) (pending piece : List ℕ) → pending ≡ [] → ((limit : Extent) (read : List ℕ) → LeadTo limit read old → NeedsMemory limit old.gathering.wanted read piece)
+    → PieceNeedsMemory old pending piece
+needs-here old pending piece none needs limit fed taken =
+    subst (λ (t : List ℕ). NeedsMemory limit old.gathering.wanted t piece) (sym (fed-is limit old pending fed (none-ends old pending none) taken ∙ ap (λ (t : List ℕ). taken.read ++ t) none ∙ append-nil taken.read))
+    (needs limit taken.read taken.leads)
 
-pub needs-fed : (state : State) (fault : Fault) (piece : List ℕ) → state.fault ≡ None
-    → (fault ≡ faults.Memory → (state.pending ≢ []) ⊎ ((account : Account) (fed : List ℕ) → HasTaken account state.progress state.pending fed
-    → NeedsMemory account.limit state.progress.gathering.wanted fed piece))
+pub needs-fed : (state : State) (fault : Fault) (piece : List ℕ) → state.fault ≡ None → (fault ≡ faults.Memory → (state.pending ≢ []) ⊎ PieceNeedsMemory state.progress state.pending piece)
     → fault ≡ faults.Memory → (state.fault ≡ Some faults.Memory) ⊎ (state.pending ≢ []) ⊎ ((fed : List ℕ) → HasRead state fed → NeedsMemory state.limit state.progress.gathering.wanted fed piece)
-needs-fed state fault piece is needs memory = by (needs memory)
-  where
-    by : (state.pending ≢ []) ⊎ ((account : Account) (fed : List ℕ) → HasTaken account state.progress state.pending fed → NeedsMemory account.limit state.progress.gathering.wanted fed piece)
-        → (state.fault ≡ Some faults.Memory) ⊎ (state.pending ≢ []) ⊎ ((fed : List ℕ) → HasRead state fed → NeedsMemory state.limit state.progress.gathering.wanted fed piece)
-    by (inl some) = inr (inl some)
-    by (inr needed) = inr (inr (λ fed read. needed (account_of state []) fed (subst (λ (f : Option Fault). HasGivenTo state [] f fed) is read)))
+needs-fed state fault piece is needs memory = elim (needs memory) [
+  | inl some ↦ inr (inl some)
+  | inr needed ↦ inr (inr (λ fed read. needed state.limit fed (subst (λ (f : Option Fault). HasReadTo state f fed) is read)))
+]
 
 -- ---- a fault stays, however the octets go on
 
@@ -183,24 +178,19 @@ stops-more limit wanted octets more fault stops = record {
 
 -- from here the octets lead there; or they have this fault
 abbrev pub Takes : Progress → List ℕ → Progress → List ℕ → List ℕ → Type 0
-Takes old before new after piece = (account : Account) (fed : List ℕ) → HasTaken account old before fed → HasTaken account new after (fed ++ piece)
+Takes old before new after piece = (limit : Extent) (fed : List ℕ) → HasTaken limit old before fed → HasTaken limit new after (fed ++ piece)
 
 -- they do, where a sink takes their packets
 pub takes-sunk : {S : Type 0} (has : S → S → List Made → Type 0) (before after : S) (old new : Progress) (pending left piece : List ℕ) → Sinks has before after (FeedMore old pending new left piece)
     → Takes old pending new left piece
-takes-sunk has before after old new pending left piece sinks account fed taken = (sinks.are_read account fed taken).0
-
-abbrev pub Fails : Progress → List ℕ → List ℕ → Fault → Type 0
-Fails old before piece fault = (fault ≡ faults.Memory) ⊎ ((account : Account) (fed : List ℕ) → HasTaken account old before fed → Stops account.limit old.gathering.wanted (fed ++ piece) fault)
+takes-sunk has before after old new pending left piece sinks limit fed taken = (sinks.are_read limit fed taken).0
 
 pub fails-here : (old : Progress) (pending piece all : List ℕ) (fault : Fault) → ¬ IsEnd old.context old.at pending → all ≡ pending ++ piece
-    → (fault ≡ faults.Memory) ⊎ ((account : Account) (read : List ℕ) → LeadTo account read old → Stops account.limit old.gathering.wanted (read ++ all) fault)
-    → Fails old pending piece fault
+    → (fault ≡ faults.Memory) ⊎ ((limit : Extent) (read : List ℕ) → LeadTo limit read old → Stops limit old.gathering.wanted (read ++ all) fault)
+    → PieceFails old pending piece fault
 fails-here old pending piece all fault not is (inl memory) = inl memory
-fails-here old pending piece all fault not is (inr stops) = inr (λ account fed taken.
-    subst (λ (t : List ℕ). Stops account.limit old.gathering.wanted t fault) (sym (ap (λ (t : List ℕ). t ++ piece) (fed-is account old pending fed not taken)
-    ∙ append_assoc taken.read pending piece ∙ ap (λ (t : List ℕ). taken.read ++ t) (sym is)))
-    (stops account taken.read taken.leads))
+fails-here old pending piece all fault not is (inr stops) = inr (λ limit fed taken.
+    subst (λ (t : List ℕ). Stops limit old.gathering.wanted t fault) (sym (all-fed limit old pending fed piece all not is taken)) (stops limit taken.read taken.leads))
 
 -- octets after the end are passed over, or go past the limit
 pub passed-over : {A S : Type 0} (has : S → S → List Made → Type 0) (sink : S) (r : Result A Fault) (old new : Progress) (pending kept piece : List ℕ) → IsEnd old.context old.at pending → kept ≡ pending
@@ -208,15 +198,8 @@ pub passed-over : {A S : Type 0} (has : S → S → List Made → Type 0) (sink 
     → OnOk r (Sinks has sink sink (FeedMore old pending new pending piece))
 passed-over has sink (Ok value) old new pending kept piece told same (is, few) =
     sinks-none has sink (FeedMore old pending new pending piece)
-    (λ account fed taken. end-more account old pending fed piece told taken new is (subst (λ (t : List ℕ). length t + (old.passed + length piece) ≤ old.context.limit - old.at) same few))
+    (λ limit fed taken. end-more limit old pending fed piece told taken new is (subst (λ (t : List ℕ). length t + (old.passed + length piece) ≤ old.context.limit - old.at) same few))
 passed-over has sink (Err fault) old new pending kept piece told same is = tt
-
-pub not-passed : {A : Type 0} (r : Result A Fault) (old : Progress) (pending kept piece : List ℕ) → IsEnd old.context old.at pending → kept ≡ pending
-    → IfErr r (λ fault. (fault ≡ faults.TooLong old.at) × (old.context.limit - old.at < length kept + (old.passed + length piece)))
-    → IfErr r (λ fault. Fails old pending piece fault)
-not-passed (Ok value) old pending kept piece told same is = tt
-not-passed (Err fault) old pending kept piece told same (is, past) = inr (λ account fed taken.
-    end-stops account old pending fed piece told taken fault is (subst (λ (t : List ℕ). old.context.limit - old.at < length t + (old.passed + length piece)) same past))
 
 module _ (front back piece : List ℕ) (whole : front ++ back ≡ piece) where
   behind : (fed : List ℕ) → (fed ++ front) ++ back ≡ fed ++ piece
@@ -224,45 +207,54 @@ module _ (front back piece : List ℕ) (whole : front ++ back ≡ piece) where
 
   pub feed-both : (old next new : Progress) (before between after : List ℕ) (one two : List Made) → FeedMore old before next between front one → FeedMore next between new after back two
       → FeedMore old before new after piece (one ++ two)
-  feed-both old next new before between after one two goes goes_on account fed taken =
-      let first = goes account fed taken in
-      let second = goes_on account (fed ++ front) first.0 in
-      subst (λ (t : List ℕ). (now : HasTaken account new after t) × (now.leads.gathered.made ≡ taken.leads.gathered.made ++ (one ++ two))) (behind fed)
+  feed-both old next new before between after one two goes goes_on limit fed taken =
+      let first = goes limit fed taken in
+      let second = goes_on limit (fed ++ front) first.0 in
+      subst (λ (t : List ℕ). (now : HasTaken limit new after t) × (now.leads.gathered.made ≡ taken.leads.gathered.made ++ (one ++ two))) (behind fed)
       (second.0, second.1 ∙ ap (λ (m : List Made). m ++ two) first.1 ∙ append_assoc taken.leads.gathered.made one two)
 
-  pub fails-first : (old : Progress) (before : List ℕ) (fault : Fault) → Fails old before front fault → Fails old before piece fault
+  pub fails-first : (old : Progress) (before : List ℕ) (fault : Fault) → PieceFails old before front fault → PieceFails old before piece fault
   fails-first old before fault (inl memory) = inl memory
-  fails-first old before fault (inr stops) = inr (λ account fed taken.
-      subst (λ (t : List ℕ). Stops account.limit old.gathering.wanted t fault) (behind fed) (stops-more account.limit old.gathering.wanted (fed ++ front) back fault (stops account fed taken)))
+  fails-first old before fault (inr stops) = inr (λ limit fed taken.
+      subst (λ (t : List ℕ). Stops limit old.gathering.wanted t fault) (behind fed) (stops-more limit old.gathering.wanted (fed ++ front) back fault (stops limit fed taken)))
 
   pub fails-later : (old next : Progress) (before between : List ℕ) (fault : Fault) → next.gathering.wanted ≡ old.gathering.wanted → Takes old before next between front
-      → Fails next between back fault → Fails old before piece fault
+      → PieceFails next between back fault → PieceFails old before piece fault
   fails-later old next before between fault same one (inl memory) = inl memory
-  fails-later old next before between fault same one (inr stops) = inr (λ account fed taken.
-      subst (λ (w : Wanted). Stops account.limit w (fed ++ piece) fault) same
-      (subst (λ (t : List ℕ). Stops account.limit next.gathering.wanted t fault) (behind fed) (stops account (fed ++ front) (one account fed taken))))
+  fails-later old next before between fault same one (inr stops) = inr (λ limit fed taken.
+      subst (λ (w : Wanted). Stops limit w (fed ++ piece) fault) same
+      (subst (λ (t : List ℕ). Stops limit next.gathering.wanted t fault) (behind fed) (stops limit (fed ++ front) (one limit fed taken))))
+
+  pub stop-first : (old : Progress) (before : List ℕ) (more : List Made) → StopMore old before front more → StopMore old before piece more
+  stop-first old before more stops limit fed taken =
+      let at_front = stops limit fed taken in
+      record {
+        blocks = at_front.blocks;
+        rest = at_front.rest ++ back;
+        whole = sym (behind fed) ∙ ap (λ (t : List ℕ). t ++ back) at_front.whole ∙ append_assoc (octets_of at_front.blocks) at_front.rest back;
+        are_blocks = at_front.are_blocks;
+        taken = at_front.taken;
+      }
+
+  pub stop-later : (old next : Progress) (before between : List ℕ) (one two : List Made) → next.gathering.wanted ≡ old.gathering.wanted → FeedMore old before next between front one
+      → StopMore next between back two → StopMore old before piece (one ++ two)
+  stop-later old next before between one two same goes stops limit fed taken =
+      let first = goes limit fed taken in
+      rw (sym same, sym (behind fed), sym (append_assoc taken.leads.gathered.made one two), sym first.1) (stops limit (fed ++ front) first.0)
 
 pub split-whole : (n : ℕ) (front back piece : List ℕ) → front ≡ take n piece → back ≡ drop n piece → front ++ back ≡ piece
 split-whole n front back piece is_front is_back = ap (λ (t : List ℕ). t ++ back) is_front ∙ ap (λ (t : List ℕ). take n piece ++ t) is_back ∙ take-append-drop n piece
 
-pub err-map : {A : Type 0} (P Q : Fault → Type 0) (r : Result A Fault) → ((fault : Fault) → P fault → Q fault) → IfErr r P → IfErr r Q
-err-map P Q (Ok value) follows holds = tt
-err-map P Q (Err fault) follows holds = follows fault holds
-
-pub ok-map : {A : Type 0} (P Q : Type 0) (r : Result A Fault) → (P → Q) → OnOk r P → OnOk r Q
-ok-map P Q (Ok value) follows holds = follows holds
-ok-map P Q (Err fault) follows holds = tt
-
 -- ---- the end
 
-module _ (account : Account) (progress : Progress) (pending fed : List ℕ) (taken : HasTaken account progress pending fed) where
+module _ (limit : Extent) (progress : Progress) (pending fed : List ℕ) (taken : HasTaken limit progress pending fed) where
   place_is : progress.at ≡ length (octets_of taken.leads.blocks)
   place_is = taken.leads.place ∙ ap length taken.leads.whole
 
-  context_started : HasStarted progress.context → HasStarted (context_behind (start account.limit) taken.leads.blocks)
+  context_started : HasStarted progress.context → HasStarted (context_behind (start limit) taken.leads.blocks)
   context_started started = subst HasStarted taken.leads.context started
 
-  ends-short : (fault : Fault) → IsShortBy progress.context progress.at taken.rest fault → CaptureFault account.limit progress.gathering.wanted fed fault
+  ends-short : (fault : Fault) → IsShortBy progress.context progress.at taken.rest fault → CaptureFault limit progress.gathering.wanted fed fault
   ends-short fault short = inr (record {
     blocks = taken.leads.blocks;
     rest = taken.rest;
@@ -270,13 +262,13 @@ module _ (account : Account) (progress : Progress) (pending fed : List ℕ) (tak
     whole = taken.whole ∙ ap (λ (t : List ℕ). t ++ taken.rest) taken.leads.whole;
     are_blocks = taken.leads.are_blocks;
     taken = taken.leads.gathered.taken;
-    partial = subst (λ (n : ℕ). IsPartial (context_behind (start account.limit) taken.leads.blocks) n taken.rest) place_is
+    partial = subst (λ (n : ℕ). IsPartial (context_behind (start limit) taken.leads.blocks) n taken.rest) place_is
         (subst (λ (c : Before). IsPartial c progress.at taken.rest) taken.leads.context taken.partial);
-    short = subst (λ (n : ℕ). IsShortBy (context_behind (start account.limit) taken.leads.blocks) n taken.rest fault) place_is
+    short = subst (λ (n : ℕ). IsShortBy (context_behind (start limit) taken.leads.blocks) n taken.rest fault) place_is
         (subst (λ (c : Before). IsShortBy c progress.at taken.rest fault) taken.leads.context short);
   })
 
-  read-before : HasStarted progress.context → IsRead account.limit taken.read (with_taken account.taken progress.gathering)
+  read-before : HasStarted progress.context → IsRead limit taken.read progress.gathering
   read-before started = record {
     blocks = taken.leads.blocks;
     whole = taken.leads.whole;
@@ -286,25 +278,25 @@ module _ (account : Account) (progress : Progress) (pending fed : List ℕ) (tak
     names = taken.leads.names;
   }
 
-pub not-started : (account : Account) (progress : Progress) (pending fed : List ℕ) → ¬ HasStarted progress.context → HasTaken account progress pending fed
-    → CaptureFault account.limit progress.gathering.wanted fed faults.NotCapture
-not-started account progress pending fed not taken = ends-short account progress pending fed taken faults.NotCapture (inl (not, refl))
+pub not-started : (limit : Extent) (progress : Progress) (pending fed : List ℕ) → ¬ HasStarted progress.context → HasTaken limit progress pending fed
+    → CaptureFault limit progress.gathering.wanted fed faults.NotCapture
+not-started limit progress pending fed not taken = ends-short limit progress pending fed taken faults.NotCapture (inl (not, refl))
 
-pub cut-short : (account : Account) (progress : Progress) (pending fed : List ℕ) → HasStarted progress.context → pending ≢ [] → HasTaken account progress pending fed
-    → CaptureFault account.limit progress.gathering.wanted fed (faults.CutShort progress.at)
-cut-short account progress pending fed started some taken = ends-short account progress pending fed taken (faults.CutShort progress.at)
+pub cut-short : (limit : Extent) (progress : Progress) (pending fed : List ℕ) → HasStarted progress.context → pending ≢ [] → HasTaken limit progress pending fed
+    → CaptureFault limit progress.gathering.wanted fed (faults.CutShort progress.at)
+cut-short limit progress pending fed started some taken = ends-short limit progress pending fed taken (faults.CutShort progress.at)
     (inr (started, (λ none. some (none-kept progress taken.rest pending taken.kept none)), refl))
 
-pub all-read : (account : Account) (progress : Progress) (pending fed : List ℕ) → HasStarted progress.context → pending ≡ [] → HasTaken account progress pending fed
-    → IsRead account.limit fed (with_taken account.taken progress.gathering)
-all-read account progress pending fed started none taken =
-    subst (λ (t : List ℕ). IsRead account.limit t (with_taken account.taken progress.gathering)) (sym (append-nil taken.read) ∙ ap (λ (t : List ℕ). taken.read ++ t) (sym (none-left progress taken.rest pending taken.kept none)) ∙ sym taken.whole)
-    (read-before account progress pending fed taken started)
+pub all-read : (limit : Extent) (progress : Progress) (pending fed : List ℕ) → HasStarted progress.context → pending ≡ [] → HasTaken limit progress pending fed
+    → IsRead limit fed progress.gathering
+all-read limit progress pending fed started none taken =
+    subst (λ (t : List ℕ). IsRead limit t progress.gathering) (sym (append-nil taken.read) ∙ ap (λ (t : List ℕ). taken.read ++ t) (sym (none-left progress taken.rest pending taken.kept none)) ∙ sym taken.whole)
+    (read-before limit progress pending fed taken started)
 
-pub read-to-cut : (account : Account) (progress : Progress) (pending fed : List ℕ) (cut : Option ℕ) → HasStarted progress.context
-    → ((pending ≡ []) × (cut ≡ None)) ⊎ ((pending ≢ []) × (cut ≡ Some progress.at)) → HasTaken account progress pending fed
-    → IsReadToCut account.limit fed (with_taken account.taken progress.gathering) cut
-read-to-cut account progress pending fed cut started which taken = record {
+pub read-to-cut : (limit : Extent) (progress : Progress) (pending fed : List ℕ) (cut : Option ℕ) → HasStarted progress.context
+    → ((pending ≡ []) × (cut ≡ None)) ⊎ ((pending ≢ []) × (cut ≡ Some progress.at)) → HasTaken limit progress pending fed
+    → IsReadToCut limit fed progress.gathering cut
+read-to-cut limit progress pending fed cut started which taken = record {
   read = taken.read;
   rest = taken.rest;
   whole = taken.whole;
@@ -316,7 +308,7 @@ read-to-cut account progress pending fed cut started which taken = record {
     gathered = taken.leads.gathered;
     names = taken.leads.names;
   };
-  partial = subst (λ (n : ℕ). IsPartial (context_behind (start account.limit) taken.leads.blocks) n taken.rest) taken.leads.place
+  partial = subst (λ (n : ℕ). IsPartial (context_behind (start limit) taken.leads.blocks) n taken.rest) taken.leads.place
       (subst (λ (c : Before). IsPartial c progress.at taken.rest) taken.leads.context taken.partial);
   where_cut = subst (λ (n : ℕ). ((taken.rest ≡ []) × (cut ≡ None)) ⊎ ((taken.rest ≢ []) × (cut ≡ Some n))) taken.leads.place (elim which [
     | inl none ↦ inl (none-left progress taken.rest pending taken.kept none.0, none.1)
@@ -324,78 +316,35 @@ read-to-cut account progress pending fed cut started which taken = record {
   ]);
 }
 
--- ---- the dump is taken out
-
-out_of : (taken : List ℕ) (state : State) (fault : Option Fault) (fed : List ℕ) → HasGivenTo state taken fault fed
-    → HasGivenTo (record state { progress = without_dump state.progress }) (taken ++ state.progress.gathering.dump) fault fed
-out_of taken state None fed given = record {
-  read = given.read;
-  rest = given.rest;
-  whole = given.whole;
-  leads = record {
-    blocks = given.leads.blocks;
-    whole = given.leads.whole;
-    are_blocks = given.leads.are_blocks;
-    place = given.leads.place;
-    context = given.leads.context;
-    gathered = record {
-      made = given.leads.gathered.made;
-      taken = given.leads.gathered.taken;
-      dump = append-nil (taken ++ state.progress.gathering.dump) ∙ given.leads.gathered.dump;
-      dumps = given.leads.gathered.dumps;
-      report = given.leads.gathered.report;
-      senders = given.leads.gathered.senders;
-    };
-    ends = ends-gone state.progress.gathering.wanted taken state.progress.gathering.dump given.leads.gathered.made given.leads.gathered.dump;
-    names = given.leads.names;
-  };
-  partial = given.partial;
-  kept = given.kept;
-}
-out_of taken state (Some fault) fed given = given
-
-pub taken_out : (state new : State) (out taken fed : List ℕ) → new ≡ record state { progress = without_dump state.progress } → out ≡ state.progress.gathering.dump
-    → HasGiven state taken fed → HasGiven new (taken ++ out) fed
-taken_out state new out taken fed is is_out given = rw (is, is_out) (out_of taken state state.fault fed given)
-
 -- ---- after a fault
 
 pub failed-more : (state : State) (fault : Fault) (fed piece : List ℕ) → HasFailed state fault fed → HasFailed state fault (fed ++ piece)
 failed-more state fault fed piece (inl memory) = inl memory
 failed-more state fault fed piece (inr stops) = inr (stops-more state.limit state.progress.gathering.wanted fed piece fault stops)
 
-pub stays-given : (state : State) (fault : Fault) (taken fed piece : List ℕ) → state.fault ≡ Some fault → HasGiven state taken fed → HasGiven state taken (fed ++ piece)
-stays-given state fault taken fed piece is read =
-    subst (λ (f : Option Fault). HasGivenTo state taken f (fed ++ piece)) (sym is)
-    (failed-more state fault fed piece (subst (λ (f : Option Fault). HasGivenTo state taken f fed) is read))
-
 pub stays-read : (state : State) (fault : Fault) (fed piece : List ℕ) → state.fault ≡ Some fault → HasRead state fed → HasRead state (fed ++ piece)
-stays-read state fault = stays-given state fault []
+stays-read state fault fed piece is read =
+    subst (λ (f : Option Fault). HasReadTo state f (fed ++ piece)) (sym is) (failed-more state fault fed piece (subst (λ (f : Option Fault). HasReadTo state f fed) is read))
 
-pub failed-given : (state : State) (fault : Fault) (taken fed : List ℕ) → state.fault ≡ Some fault → fault ≢ faults.Memory → HasGiven state taken fed
+pub failed-fault : (state : State) (fault : Fault) (fed : List ℕ) → state.fault ≡ Some fault → fault ≢ faults.Memory → HasRead state fed
     → CaptureFault state.limit state.progress.gathering.wanted fed fault
-failed-given state fault taken fed is not read = by (subst (λ (f : Option Fault). HasGivenTo state taken f fed) is read)
+failed-fault state fault fed is not read = by (subst (λ (f : Option Fault). HasReadTo state f fed) is read)
   where
     by : HasFailed state fault fed → CaptureFault state.limit state.progress.gathering.wanted fed fault
     by (inl memory) = absurd (not memory)
     by (inr stops) = inl stops
 
-pub failed-fault : (state : State) (fault : Fault) (fed : List ℕ) → state.fault ≡ Some fault → fault ≢ faults.Memory → HasRead state fed
-    → CaptureFault state.limit state.progress.gathering.wanted fed fault
-failed-fault state fault = failed-given state fault []
-
-pub failed-next : (state : State) (fault : Fault) (piece : List ℕ) → state.fault ≡ None
-    → (fault ≡ faults.Memory) ⊎ ((account : Account) (fed : List ℕ) → HasTaken account state.progress state.pending fed → Stops account.limit state.progress.gathering.wanted (fed ++ piece) fault)
+pub failed-next : (state : State) (fault : Fault) (piece : List ℕ) → state.fault ≡ None → PieceFails state.progress state.pending piece fault
     → fault ≢ faults.Memory → (fed more : List ℕ) → HasRead state fed → CaptureFault state.limit state.progress.gathering.wanted ((fed ++ piece) ++ more) fault
 failed-next state fault piece is (inl memory) not fed more read = absurd (not memory)
 failed-next state fault piece is (inr stops) not fed more read =
-    inl (stops-more state.limit state.progress.gathering.wanted (fed ++ piece) more fault (stops (account_of state []) fed (subst (λ (f : Option Fault). HasGivenTo state [] f fed) is read)))
+    inl (stops-more state.limit state.progress.gathering.wanted (fed ++ piece) more fault (stops state.limit fed (subst (λ (f : Option Fault). HasReadTo state f fed) is read)))
 
 -- ---- a piece more, without a fault
 
-pub given-more : {S : Type 0} (has : S → S → List Made → Type 0) (before after : S) (old new : State) (piece : List ℕ) → old.fault ≡ None → new.fault ≡ None → new.limit ≡ old.limit
-    → Sinks has before after (FeedMore old.progress old.pending new.progress new.pending piece) → (taken fed : List ℕ) → HasGiven old taken fed → HasGiven new taken (fed ++ piece)
-given-more has before after old new piece sound sound_too limit sinks taken fed given =
-    subst (λ (f : Option Fault). HasGivenTo new taken f (fed ++ piece)) (sym sound_too)
-    (subst (λ (l : Extent). HasTaken (record { limit = l; taken = taken }) new.progress new.pending (fed ++ piece)) (sym limit)
-    (sinks.are_read (account_of old taken) fed (subst (λ (f : Option Fault). HasGivenTo old taken f fed) sound given)).0)
+pub read-more : {S : Type 0} (has : S → S → List Made → Type 0) (before after : S) (old new : State) (piece : List ℕ) → old.fault ≡ None → new.fault ≡ None → new.limit ≡ old.limit
+    → Sinks has before after (FeedMore old.progress old.pending new.progress new.pending piece) → (fed : List ℕ) → HasRead old fed → HasRead new (fed ++ piece)
+read-more has before after old new piece sound sound_too limit sinks fed read =
+    subst (λ (f : Option Fault). HasReadTo new f (fed ++ piece)) (sym sound_too)
+    (subst (λ (l : Extent). HasTaken l new.progress new.pending (fed ++ piece)) (sym limit)
+    (sinks.are_read old.limit fed (subst (λ (f : Option Fault). HasReadTo old f fed) sound read)).0)

@@ -1,7 +1,8 @@
 -- Tallies with one packet more are the stated ones, of a new sender and of one that is there.
-use Rattle.std.proofs.Common.{◌+◌, ◌≡◌, ℕ, Bool, cond, List, length, arith, Option, None, Some, sym, ap, subst, ◌∙◌, rules}
+use Rattle.std.proofs.Common.{◌≡◌, ℕ, Bool, true, List, Option, None, Some, refl, sym, ap, subst, ◌∙◌, rules}
 use Rattle.std.specs.Cmp.{IsTotalOrder}
 use Rattle.std.specs.declared.cmp.Ordering.{Ordering}
+use Rattle.std.specs.declared.cmp.Ordering.TheVariants.{Equal}
 use Rattle.std.proofs.Math.Path.{fun_ext}
 use Rattle.std.specs.BTreeMap.{insert_entry, is_at}
 use Rattle.std.specs.List.Sorted.{IsStrictlySortedBy}
@@ -9,13 +10,18 @@ use Rattle.std.specs.Map.{keys_of, lookup, set_value}
 use Rattle.std.proofs.lemmas.Cmp.{nat_cmp_total, on_total, then_total}
 use Rattle.std.specs.Cmp.Lexicographic.{options_total}
 use Rattle.babel_prefix.specs.TotalOrder.{address_total}
-use Rattle.std.specs.Option.{unwrap_or}
+use Rattle.std.specs.Option.{option_cmp, unwrap_or}
+use Rattle.std.specs.Ordering.{nat_cmp}
+use Rattle.std.proofs.lemmas.Map.Lookups.{exact_unsigned}
+use Rattle.babel_prefix.specs.Address.{Address}
+use Rattle.babel_prefix.specs.Order.{address_cmp}
+use Rattle.babel_prefix.proofs.Insertion.{equal_of}
+use Rattle.babel_prefix.proofs.OrderLaws.{address_equality, then_parts}
 use Rattle.babel_capture.specs.contracts.tallies.OriginOrd.TheImpl.{ghosts}
 use Rattle.babel_capture.specs.declared.place.Place.{Place}
 use Rattle.babel_capture.specs.declared.place.Vlans.{Vlans}
 use Rattle.babel_capture.specs.declared.tallies.Origin.{Origin}
 use Rattle.babel_capture.specs.declared.tallies.Tally.{Tally}
-use Rattle.babel_capture.specs.Updates.{interval_in, updates_in}
 use Rattle.babel_capture.specs.Tallies.{Senders, no_packets, one_more, origin_cmp, place_cmp, vlans_cmp, tallied, tally_of}
 use Rattle.babel_capture.proofs.Entries.{set_value-insert}
 
@@ -26,31 +32,17 @@ origin_order = fun_ext (λ a. fun_ext (λ b. one a b))
     one : (a b : Origin) → ghosts.cmp a b ≡ origin_cmp a b
     one a b = search rules
 
--- as the map's calls say them
-pub tallied-by : (senders after : Senders) (origin : Origin) (time : Option ℕ) (packet : List ℕ) (has_trailer : Bool) (tally : Tally)
-    → tally ≡ one_more (unwrap_or (lookup (is_at (ghosts.cmp origin)) senders) no_packets) time packet has_trailer
-    → after ≡ insert_entry ghosts.cmp senders origin tally → after ≡ tallied senders origin time packet has_trailer
-tallied-by senders after origin time packet has_trailer tally is entries =
-    subst (λ (k : Origin → Origin → Ordering). after ≡ insert_entry k senders origin (one_more (unwrap_or (lookup (is_at (k origin)) senders) no_packets) time packet has_trailer)) origin_order
-    (entries ∙ ap (insert_entry ghosts.cmp senders origin) is)
+pub put-by : (senders : Senders) (origin : Origin) (tally : Tally) → insert_entry ghosts.cmp senders origin tally ≡ insert_entry origin_cmp senders origin tally
+put-by senders origin tally = ap (λ (k : Origin → Origin → Ordering). insert_entry k senders origin tally) origin_order
 
 pub unknown-by : (senders : Senders) (origin : Origin) → lookup (is_at (ghosts.cmp origin)) senders ≡ tally_of senders origin
 unknown-by senders origin = ap (λ (k : Origin → Origin → Ordering). lookup (is_at (k origin)) senders) origin_order
 
--- the first packet of a sender
-pub first_by : (senders after : Senders) (origin : Origin) (time : Option ℕ) (packet : List ℕ) (has_trailer : Bool) (count trailers : ℕ) (interval : Option ℕ) → tally_of senders origin ≡ None
-    → count ≡ updates_in packet → trailers ≡ cond has_trailer 1 0 → interval ≡ interval_in packet
-    → after ≡ insert_entry ghosts.cmp senders origin (record { packets = 1; octets = length packet; updates = count; trailers = trailers; interval = interval; first = time; last = time })
-    → after ≡ tallied senders origin time packet has_trailer
-first_by senders after origin time packet has_trailer count trailers interval none is_count is_trailers is_interval entries =
-    let of : ℕ → ℕ → ℕ → Option ℕ → Tally = λ o u t i. record { packets = 1; octets = o; updates = u; trailers = t; interval = i; first = time; last = time } in
-    let is : of (length packet) count trailers interval ≡ one_more (unwrap_or (lookup (is_at (ghosts.cmp origin)) senders) no_packets) time packet has_trailer =
-    ap (λ (n : ℕ). of n count trailers interval) (omega arith)
-    ∙ ap (λ (n : ℕ). of (0 + length packet) n trailers interval) (omega (arith, is_count))
-    ∙ ap (λ (n : ℕ). of (0 + length packet) (0 + updates_in packet) n interval) (omega (arith, is_trailers))
-    ∙ ap (of (0 + length packet) (0 + updates_in packet) (0 + cond has_trailer 1 0)) is_interval
-    ∙ ap (λ (t : Option Tally). one_more (unwrap_or t no_packets) time packet has_trailer) (sym (unknown-by senders origin ∙ none)) in
-    tallied-by senders after origin time packet has_trailer (of (length packet) count trailers interval) is entries
+-- one packet more of a sender, by its tally before it
+pub tallied-as : (senders after : Senders) (origin : Origin) (time : Option ℕ) (packet : List ℕ) (has_trailer : Bool) (before : Option Tally) (tally : Tally) → tally_of senders origin ≡ before
+    → tally ≡ one_more (unwrap_or before no_packets) time packet has_trailer → after ≡ insert_entry origin_cmp senders origin tally → after ≡ tallied senders origin time packet has_trailer
+tallied-as senders after origin time packet has_trailer before tally was is put =
+    put ∙ ap (insert_entry origin_cmp senders origin) (is ∙ ap (λ (t : Option Tally). one_more (unwrap_or t no_packets) time packet has_trailer) (sym was))
 
 vlans_total : IsTotalOrder vlans_cmp
 vlans_total =
@@ -66,10 +58,39 @@ place_total =
 pub origin_total : IsTotalOrder origin_cmp
 origin_total = then_total (on_total (λ (o : Origin). o.place) place_total) (on_total (λ (o : Origin). o.sender) address_total)
 
+-- ---- the order of origins tells any two apart
+
+link_exact : (a b : Option ℕ) → option_cmp nat_cmp a b ≡ Equal → a ≡ b
+link_exact None None e = refl
+link_exact None (Some b) e = absurd cc
+link_exact (Some a) None e = absurd cc
+link_exact (Some a) (Some b) e = ap Some (exact_unsigned a b e)
+
+vlans_exact : (a b : Vlans) → vlans_cmp a b ≡ Equal → a ≡ b
+vlans_exact a b e =
+    let one = then_parts (nat_cmp a.first b.first) _ e in
+    let two = then_parts (nat_cmp a.second b.second) _ one.1 in
+    let three = then_parts (nat_cmp a.third b.third) (nat_cmp a.fourth b.fourth) two.1 in
+    let of : ℕ → ℕ → ℕ → ℕ → Vlans = λ p q r s. record { first = p; second = q; third = r; fourth = s } in
+    ap (λ n. of n a.second a.third a.fourth) (exact_unsigned a.first b.first one.0) ∙ ap (λ n. of b.first n a.third a.fourth) (exact_unsigned a.second b.second two.0)
+    ∙ ap (λ n. of b.first b.second n a.fourth) (exact_unsigned a.third b.third three.0) ∙ ap (λ n. of b.first b.second b.third n) (exact_unsigned a.fourth b.fourth three.1)
+
+pub place_exact : (a b : Place) → place_cmp a b ≡ Equal → a ≡ b
+place_exact a b e =
+    let one = then_parts (nat_cmp a.interface b.interface) _ e in
+    let two = then_parts (option_cmp nat_cmp a.link b.link) (vlans_cmp a.vlans b.vlans) one.1 in
+    let of : ℕ → Option ℕ → Vlans → Place = λ i l v. record { interface = i; link = l; vlans = v } in
+    ap (λ i. of i a.link a.vlans) (exact_unsigned a.interface b.interface one.0) ∙ ap (λ l. of b.interface l a.vlans) (link_exact a.link b.link two.0)
+    ∙ ap (λ v. of b.interface b.link v) (vlans_exact a.vlans b.vlans two.1)
+
+pub origin_exact : (a b : Origin) → is_at (origin_cmp a) b ≡ true → a ≡ b
+origin_exact a b at =
+    let parts = then_parts (place_cmp a.place b.place) (address_cmp a.sender b.sender) (equal_of (origin_cmp a b) at) in
+    let of : Place → Address → Origin = λ p s. record { place = p; sender = s } in
+    ap (λ p. of p a.sender) (place_exact a.place b.place parts.0) ∙ ap (of b.place) ((address_equality a.sender b.sender).0 parts.1)
+
 -- a tally that is there already is written in its place
-pub updated-by : (senders after : Senders) (origin : Origin) (time : Option ℕ) (packet : List ℕ) (has_trailer : Bool) (before tally : Tally)
-    → lookup (is_at (ghosts.cmp origin)) senders ≡ Some before → tally ≡ one_more before time packet has_trailer → IsStrictlySortedBy ghosts.cmp (keys_of senders)
-    → after ≡ set_value (is_at (ghosts.cmp origin)) senders tally → after ≡ tallied senders origin time packet has_trailer
-updated-by senders after origin time packet has_trailer before tally found is sorted entries =
-    tallied-by senders after origin time packet has_trailer tally (is ∙ ap (λ (t : Option Tally). one_more (unwrap_or t no_packets) time packet has_trailer) (sym found))
-    (entries ∙ set_value-insert (subst IsTotalOrder (sym origin_order) origin_total) origin tally before senders sorted found)
+pub written-by : (senders : Senders) (origin : Origin) (before tally : Tally) → lookup (is_at (ghosts.cmp origin)) senders ≡ Some before → IsStrictlySortedBy ghosts.cmp (keys_of senders)
+    → set_value (is_at (ghosts.cmp origin)) senders tally ≡ insert_entry origin_cmp senders origin tally
+written-by senders origin before tally found sorted =
+    set_value-insert (subst IsTotalOrder (sym origin_order) origin_total) origin tally before senders sorted found ∙ put-by senders origin tally

@@ -1,12 +1,12 @@
 -- TLVs counted one by one: how many are Updates, and how many octets they are.
-use Rattle.std.proofs.Common.{◌≡◌, ℕ, zero, suc, ◌+◌, ◌-◌, ◌≤◌, Bool, true, false, cond, List, [], ◌∷◌, length, take, refl, ap, sym, ◌∙◌, length-append, arith, nat_lt, if◌then◌else◌, ◌==◌}
-use Rattle.std.specs.Prelude.{None, Option, count_by}
+use Rattle.std.proofs.Common.{◌≡◌, ℕ, zero, suc, ◌+◌, ◌-◌, ◌≤◌, Bool, true, false, cond, List, [], ◌∷◌, length, take, refl, ap, ◌∙◌, length-append, arith, nat_lt, if◌then◌else◌, ◌==◌}
+use Rattle.std.specs.Prelude.{count_by}
 use Rattle.std.specs.List.{flat_map}
 use Rattle.std.proofs.lemmas.List.{length-take}
 use Rattle.std.proofs.lemmas.Bool.Decides.{nat_tests}
 use Rattle.std.proofs.lemmas.List.Sums.{sum_by-append}
 use Rattle.babel_tlv.specs.Framing.{TlvAt, laid_out, tlv_octets, tlvs_of, tlvs_past}
-use Rattle.babel_capture.specs.Updates.{greatest_of, interval_of, is_update, updates_of}
+use Rattle.babel_capture.specs.Updates.{is_update}
 
 pub laid_out_len : (kind : ℕ) (body : List ℕ) → length (laid_out kind body) ≡ (if kind == 0 then 1 else 2 + length body)
 laid_out_len zero body = refl
@@ -60,18 +60,3 @@ past-few zero at (suc kind ∷ len ∷ octets) =
 
 pub octets-few : (at : ℕ) (octets : List ℕ) → length (flat_map tlv_octets (tlvs_of at octets)) ≤ length octets
 octets-few at octets = (let few = past-few 0 at octets in omega arith)
-
--- all of them, where they are the body to its end
-pub updates-all : (body : List ℕ) (tlvs left : List TlvAt) (count len : ℕ) → left ≡ [] → count + count_by is_update left ≡ count_by is_update tlvs
-    → len + length (flat_map tlv_octets left) ≡ length (flat_map tlv_octets tlvs) → len ≡ length body → count ≡ updates_of body tlvs
-updates-all body tlvs left count len none counted octets all =
-    let here : length (flat_map tlv_octets tlvs) ≡ length body = omega (arith, octets, all, ap (λ (t : List TlvAt). length (flat_map tlv_octets t)) none) in
-    let same : (length (flat_map tlv_octets tlvs) == length body) ≡ true = grind (arith, nat_tests) in
-    rw same (omega (arith, counted, ap (count_by is_update) none))
-
-pub interval-all : (body : List ℕ) (tlvs left : List TlvAt) (interval : Option ℕ) (len : ℕ) → left ≡ [] → greatest_of interval left ≡ greatest_of None tlvs
-    → len + length (flat_map tlv_octets left) ≡ length (flat_map tlv_octets tlvs) → len ≡ length body → interval ≡ interval_of body tlvs
-interval-all body tlvs left interval len none found octets all =
-    let here : length (flat_map tlv_octets tlvs) ≡ length body = omega (arith, octets, all, ap (λ (t : List TlvAt). length (flat_map tlv_octets t)) none) in
-    let same : (length (flat_map tlv_octets tlvs) == length body) ≡ true = grind (arith, nat_tests) in
-    rw same (ap (greatest_of interval) (sym none) ∙ found)

@@ -10,7 +10,7 @@ use Rattle.babel_capture.specs.Blocks.{names_of, octets_of, sightings_of}
 use Rattle.babel_capture.specs.Context.{Before}
 use Rattle.babel_capture.specs.Counts.{Made}
 use Rattle.babel_capture.specs.Gathering.{Gathering, IsGathered, AreTaken}
-use Rattle.babel_capture.specs.Reading.{Account, Progress, HasStarted, HasTaken, Stops}
+use Rattle.babel_capture.specs.Reading.{Progress, HasStarted, HasTaken, Stops}
 use Rattle.babel_capture.specs.Window.{Extent, moment_up_to}
 use Rattle.babel_capture.specs.declared.timing.Timing.{Timing}
 
@@ -80,19 +80,10 @@ abbrev pub HasFailed : State → Fault → List ℕ → Type 0
 HasFailed state fault fed = (fault ≡ faults.Memory)
     ⊎ Stops state.limit state.progress.gathering.wanted fed fault
 
-abbrev pub account_of : State → (taken : List ℕ) → Account
-account_of state taken = record { limit = state.limit; taken = taken }
+abbrev pub HasReadTo : State → Option Fault → List ℕ → Type 0
+HasReadTo state None fed = HasTaken state.limit state.progress state.pending fed
+HasReadTo state (Some fault) fed = HasFailed state fault fed
 
-abbrev pub HasGivenTo : State → (taken : List ℕ) → Option Fault → List ℕ → Type 0
-HasGivenTo state taken None fed =
-    HasTaken (account_of state taken) state.progress state.pending fed
-HasGivenTo state taken (Some fault) fed = HasFailed state fault fed
-
--- the reader stands where these octets, fed since it was made, have led it, and these were taken
--- out of its dump
-abbrev pub HasGiven : State → (taken : List ℕ) → List ℕ → Type 0
-HasGiven state taken fed = HasGivenTo state taken state.fault fed
-
--- it stands so, and nothing was taken out of its dump
+-- the reader stands where these octets, fed since it was made, have led it
 abbrev pub HasRead : State → List ℕ → Type 0
-HasRead state fed = HasGiven state [] fed
+HasRead state fed = HasReadTo state state.fault fed

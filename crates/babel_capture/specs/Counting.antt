@@ -2,11 +2,11 @@
 use Rattle.std.specs.Prelude.{ℕ, ◌+◌, Bool, if◌then◌else◌, List, slice_set, Option, None, Some}
 use Rattle.babel_capture.specs.declared.link.Link.{Link}
 use Rattle.babel_capture.specs.declared.reason.Reason.{Reason}
-use Rattle.babel_capture.specs.Findings.{Found, passed, untold, left, refused, lacked, found}
+use Rattle.babel_capture.specs.Findings.{Found, untold, left, found}
 use Rattle.babel_capture.specs.Counts.{Counts, reason_place, count_at, is_cooked_link}
-use Rattle.babel_capture.specs.Sections.{sectioned, with_section}
+use Rattle.babel_capture.specs.Sections.{sectioned}
 use Rattle.babel_capture.specs.Times.{Came}
-use Rattle.babel_capture.specs.Timing.{greatest, timed, with_time}
+use Rattle.babel_capture.specs.Timing.{greatest, timed}
 use Rattle.babel_capture.specs.Updates.{interval_in}
 
 -- one more datagram left out, with this number
@@ -49,24 +49,13 @@ packet_counted counts link interval has_trailer =
 
 -- the counts with what is made of one packet more, of this link type
 abbrev pub counted : Counts → Link → Found → Counts
-counted counts link passed = counted_with counts None
 counted counts link untold = short_counted counts
 counted counts link (left reason missed) = counted_with counts (Some reason)
-counted counts link (refused lack) = counted_with counts None
-counted counts link (lacked place sender lack) = counted_with counts None
 counted counts link (found place sender packet has_trailer) =
     packet_counted counts link (interval_in packet) has_trailer
+counted counts link what = counted_with counts None
 
--- the counts with the time of the next packet, which is not skipped, and with its section
-abbrev pub counted_then : Counts → Option ℕ → Counts
-counted_then counts time =
-    record counts { timing = with_time counts.timing (counts.packets + 1) time }
-
-abbrev pub counted_in : Counts → Option ℕ → Counts
-counted_in counts section =
-    record counts { sections = with_section counts.sections section }
-
--- with both
+-- the counts with the time and the section of the next packet
 abbrev pub counted_at : Counts → Came → Counts
 counted_at counts came = record counts {
   timing = timed counts.timing (counts.packets + 1) came;

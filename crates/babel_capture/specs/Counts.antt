@@ -9,7 +9,7 @@ use Rattle.babel_capture.specs.declared.reason.Reason.{Reason}
 use Rattle.babel_capture.specs.declared.reason.Reason.TheVariants as reasons
 use Rattle.babel_capture.specs.declared.sections.Sections.{Sections}
 use Rattle.babel_capture.specs.declared.timing.Timing.{Timing}
-use Rattle.babel_capture.specs.Findings.{Found, passed, untold, left, refused, lacked, found}
+use Rattle.babel_capture.specs.Findings.{Found, untold, left, found}
 use Rattle.babel_capture.specs.Sections.{no_sections, sectioned}
 use Rattle.babel_capture.specs.Times.{Came}
 use Rattle.babel_capture.specs.Timing.{greatest, no_times, timed}
@@ -94,12 +94,8 @@ timing_of made = fold (λ timing one. timed timing one.number one.came) no_times
 
 -- the Interval of the packet, if one was found
 abbrev pub interval_found : Found → Option ℕ
-interval_found passed = None
-interval_found untold = None
-interval_found (left reason missed) = None
-interval_found (refused lack) = None
-interval_found (lacked place sender lack) = None
 interval_found (found place sender packet has_trailer) = interval_in packet
+interval_found what = None
 
 abbrev pub interval_made : List Made → Option ℕ
 interval_made made = fold (λ interval one. greatest interval (interval_found one.what)) None made

@@ -1,6 +1,6 @@
 -- What is made of the packets of a capture. It is this project's own, but for what a Babel packet
 -- is: RFC 8966, 4.2.
-use Rattle.std.specs.Prelude.{◌≡◌, ◌≢◌, ℕ, ◌<◌, Bool, List, length, slice_index}
+use Rattle.std.specs.Prelude.{◌≡◌, ◌≢◌, ℕ, ◌<◌, Bool, List, [], length, slice_index}
 use Rattle.std.specs.Prelude.{Option, Some, None, ◌⊎◌, nat_lt}
 use Rattle.babel_prefix.specs.Address.{Address}
 use Rattle.babel_tlv.specs.Framing.{framed}
@@ -8,25 +8,24 @@ use Rattle.babel_tlv.specs.FrameFaults.{BeginsPacket, HasHeader, LacksBody}
 use Rattle.babel_capture.specs.declared.finding.Finding.{Finding}
 use Rattle.babel_capture.specs.declared.finding.Finding.TheVariants as findings
 use Rattle.babel_capture.specs.declared.lack.Lack.{Lack}
+use Rattle.babel_capture.specs.declared.missed.Missed.{Missed}
 use Rattle.babel_capture.specs.declared.place.Place.{Place}
 use Rattle.babel_capture.specs.declared.reason.Reason.{Reason}
 use Rattle.babel_capture.specs.declared.reason.Reason.TheVariants as reasons
 use Rattle.babel_capture.specs.declared.tallies.Origin.{Origin}
 use Rattle.babel_capture.specs.declared.wanted.Wanted.{Wanted}
-use Rattle.babel_capture.specs.declared.wanted.Wanted.TheVariants as wanteds
 use Rattle.babel_capture.specs.Lack.{lack_reason}
 use Rattle.babel_capture.specs.Sight.{Sight, Carried, other, too_short, datagram}
 use Rattle.babel_capture.specs.Sight.{other_port, not_link_local, lacking, carries}
 
 -- nothing; a frame that is too short to tell; a datagram left out, for a reason, and whose it is
--- where it is missed; one that is refused, for what it lacks; one that the dump of its sender at its
--- place lacks; or a Babel packet, of a sender at a place, and whether octets come after its body
+-- where it is missed; one that is refused, for what it lacks; or a Babel packet, of a sender at a
+-- place, and whether octets come after its body
 pub data Found : Type 0 where
   passed : Found
   untold : Found
   left : (reason : Reason) (missed : Option Origin) → Found
   refused : (lack : Lack) → Found
-  lacked : (place : Place) (sender : Address) (lack : Lack) → Found
   found : (place : Place) (sender : Address) (packet : List ℕ) (has_trailer : Bool) → Found
 
 -- what the code makes of a packet
@@ -35,9 +34,27 @@ finding_of findings.Passed = passed
 finding_of findings.Short = untold
 finding_of (findings.Left reason missed) = left reason missed
 finding_of (findings.Refused lack) = refused lack
-finding_of (findings.Lacking place sender lack) = lacked place sender lack
-finding_of (findings.Packet place sender packet has_trailer) =
-    found place sender packet.now has_trailer
+finding_of (findings.Packet origin octets has_trailer) =
+    found origin.place origin.sender octets.now has_trailer
+
+-- the octets of the packet, if one was found, and whose it is
+abbrev pub octets_found : Found → List ℕ
+octets_found (found place sender packet has_trailer) = packet
+octets_found what = []
+
+abbrev pub origin_found : Found → Option Origin
+origin_found (found place sender packet has_trailer) =
+    Some (record { place = place; sender = sender })
+origin_found what = None
+
+-- the datagram that is missed
+abbrev pub missed_in : Found → Option Missed
+missed_in (left reason (Some origin)) = Some (record { origin = origin; reason = reason })
+missed_in what = None
+
+-- nobody is named, and no place
+abbrev pub everyone : Wanted
+everyone = record { sender = None; place = None }
 
 -- it is this one, if one is named
 abbrev pub IsOrAny : {A : Type 0} → Option A → A → Type 0
@@ -46,19 +63,15 @@ IsOrAny (Some named) one = one ≡ named
 
 -- this sender is wanted at this place
 abbrev pub IsWanted : Wanted → Address → Place → Type 0
-IsWanted wanteds.Everyone sender place = Unit {0}
-IsWanted wanteds.Each sender place = Unit {0}
-IsWanted (wanteds.Sender wanted None ends) sender place = sender ≡ wanted
-IsWanted (wanteds.Sender wanted (Some there) ends) sender place = (sender ≡ wanted) × (place ≡ there)
-IsWanted (wanteds.InTurn wanted there) sender place = IsOrAny wanted sender × IsOrAny there place
+IsWanted wanted sender place = IsOrAny wanted.sender sender × IsOrAny wanted.place place
 
 -- one claim or the other, as this holds or not
 abbrev pub Either : Type 0 → Type 0 → Type 0 → Type 0
 Either holds met unmet = (holds × met) ⊎ ((¬ holds) × unmet)
 
 -- RFC 8966, 4.2: the payload begins with a packet, which is found without what comes after it, as
--- the trailer of RFC 8967, 3; or
--- it is left out, being shorter than its header says, or for its magic or its version
+-- the trailer of RFC 8967, 3; or it is left out, being shorter than its header says, or for its
+-- magic or its version
 abbrev pub PayloadIs : Place → Address → List ℕ → Found → Type 0
 PayloadIs place sender payload what =
     ((body : List ℕ) × BeginsPacket payload body × (what
@@ -68,22 +81,19 @@ PayloadIs place sender payload what =
     ⊎ (HasHeader payload × (slice_index payload 0 ≡ 42) × (slice_index payload 1 ≢ 2)
     × (what ≡ left reasons.BadVersion None))
 
--- A datagram that lacks something is left out where no sender's dump is wanted, and missed where
--- packets are told as they come. It refuses the capture where one sender's dump is wanted; where
--- those of all senders are, the dump of its own lacks it.
-abbrev pub LackIs : Wanted → Place → Address → Lack → Found → Type 0
-LackIs wanteds.Everyone place sender lack what = what ≡ left (lack_reason lack) None
-LackIs wanteds.Each place sender lack what = what ≡ lacked place sender lack
-LackIs (wanteds.Sender wanted there ends) place sender lack what = what ≡ refused lack
-LackIs (wanteds.InTurn None there) place sender lack what =
-    what ≡ left (lack_reason lack) (Some (record { place = place; sender = sender }))
-LackIs (wanteds.InTurn (Some wanted) there) place sender lack what = what ≡ refused lack
+-- a datagram that lacks something refuses the capture where a sender is named, and else it is left
+-- out, and missed
+abbrev pub lack_found : (named : Option Address) → Place → Address → Lack → Found
+lack_found None place sender lack =
+    left (lack_reason lack) (Some (record { place = place; sender = sender }))
+lack_found (Some named) place sender lack = refused lack
 
 -- what is made of a wanted datagram
 abbrev pub CarriedIs : Wanted → Place → Address → Carried → Found → Type 0
 CarriedIs wanted place sender other_port what = what ≡ left reasons.OtherPort None
 CarriedIs wanted place sender not_link_local what = what ≡ left reasons.NotLinkLocal None
-CarriedIs wanted place sender (lacking lack) what = LackIs wanted place sender lack what
+CarriedIs wanted place sender (lacking lack) what =
+    what ≡ lack_found wanted.sender place sender lack
 CarriedIs wanted place sender (carries payload) what = PayloadIs place sender payload what
 
 -- what is made of a packet

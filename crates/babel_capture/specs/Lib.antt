@@ -6,7 +6,6 @@ pub mod Context
 pub mod Counts
 pub mod Counting
 pub mod Dumps
-pub mod EachDump
 pub mod Ethernet
 pub mod Findings
 pub mod Frame
@@ -21,14 +20,12 @@ pub mod Layers
 pub mod Lengths
 pub mod Link
 pub mod LinkHeaders
-pub mod NotedEnds
 pub mod Numbers
 pub mod OneCapture
 pub mod Options
 pub mod OneFault
 pub mod OneOrigin
 pub mod Octets
-pub mod PacketEnds
 pub mod Packets
 pub mod PcapFiles
 pub mod PcapngFiles

@@ -1,14 +1,10 @@
 -- How far a capture was read, block by block.
-use Rattle.std.specs.Prelude.{◌≡◌, ◌≢◌, ◌≤◌, ◌<◌, ◌-◌, ℕ, if◌then◌else◌, List, [], ◌++◌, length}
+use Rattle.std.specs.Prelude.{◌≡◌, ◌≢◌, ◌≤◌, ◌<◌, ◌-◌, ℕ, List, [], ◌++◌, length}
 use Rattle.std.specs.Prelude.{Ok, Err, ◌+◌, ◌⊎◌}
 use Rattle.babel_capture.specs.declared.fault.Fault.{Fault}
 use Rattle.babel_capture.specs.declared.fault.Fault.TheVariants as faults
 use Rattle.babel_capture.specs.declared.layout.Layout.{Layout}
 use Rattle.babel_capture.specs.declared.layout.Layout.TheVariants as layouts
-use Rattle.babel_capture.specs.declared.packet_end.PacketEnd.{PacketEnd}
-use Rattle.babel_capture.specs.declared.sink.BabelPacket.{BabelPacket}
-use Rattle.babel_capture.specs.declared.sink.Record.{Record}
-use Rattle.std.specs.Option.{option_map}
 use Rattle.babel_capture.specs.declared.wanted.Wanted.{Wanted}
 use Rattle.babel_capture.specs.Blocks.{BlockAt, HasHeader, IsEnd, IsPartial, header_of, BeginsBlock}
 use Rattle.babel_capture.specs.Blocks.{AreBlocks, start, context_behind, names_of, octets_of}
@@ -17,50 +13,27 @@ use Rattle.babel_capture.specs.Contents.{Content, block_said}
 use Rattle.babel_capture.specs.Context.{Before}
 use Rattle.babel_capture.specs.Counts.{Made}
 use Rattle.babel_capture.specs.Gathering.{AreTaken, BlockNeedsMemory, Gathering, IsGathered}
-use Rattle.babel_capture.specs.Gathering.{IsRefused, with_taken}
+use Rattle.babel_capture.specs.Gathering.{IsRefused}
 use Rattle.babel_capture.specs.Lengths.{block_len}
-use Rattle.babel_capture.specs.PacketEnds.{AreEnds, are_noted, end_at}
 use Rattle.babel_capture.specs.Tallies.{Senders, senders_of}
 use Rattle.babel_capture.specs.Window.{Extent}
 
--- what the blocks so far say of the capture, what was gathered of their packets, where each packet
--- of the dump ends, where the next block begins, and how many octets after the end of what is read
--- were passed over
+-- what the blocks so far say of the capture, what was gathered of their packets, where the next
+-- block begins, and how many octets after the end of what is read were passed over
 pub record Progress : Type 0 where
   pub context : Before
   pub gathering : Gathering
-  pub ends : List PacketEnd
   pub at : ℕ
   pub passed : ℕ
 
--- with nothing of the dump
-abbrev pub without_dump : Progress → Progress
-without_dump progress =
-    record progress { gathering = record progress.gathering { dump = [] }; ends = [] }
-
--- its ends, with that of the packet that was added to the dump last, if they are noted
-abbrev pub with_end : Progress → Record → List PacketEnd
-with_end progress told =
-    if are_noted progress.gathering.wanted
-    then progress.ends
-    ++ end_at (length progress.gathering.dump) told.number told.time
-    (option_map (λ (packet : BabelPacket). packet.origin) told.packet)
-    else progress.ends
-
--- how much is read, and what was taken out of the dump until now
-pub record Account : Type 0 where
-  pub limit : Extent
-  pub taken : List ℕ
-
 -- the octets are blocks, and this is how far they lead
-pub record LeadTo (account : Account) (octets : List ℕ) (progress : Progress) : Type 0 where
+pub record LeadTo (limit : Extent) (octets : List ℕ) (progress : Progress) : Type 0 where
   pub blocks : List BlockAt
   pub whole : octets ≡ octets_of blocks
-  pub are_blocks : AreBlocks (start account.limit) 0 blocks
+  pub are_blocks : AreBlocks (start limit) 0 blocks
   pub place : progress.at ≡ length octets
-  pub context : progress.context ≡ context_behind (start account.limit) blocks
-  pub gathered : IsGathered (sightings_of blocks) (with_taken account.taken progress.gathering)
-  pub ends : AreEnds progress.gathering.wanted account.taken gathered.made progress.ends
+  pub context : progress.context ≡ context_behind (start limit) blocks
+  pub gathered : IsGathered (sightings_of blocks) progress.gathering
   pub names : progress.gathering.names ≡ names_of blocks
 
 -- a whole block that can't be read, or whose packet is refused
@@ -136,10 +109,22 @@ IsPending progress rest pending =
     × (length rest ≡ length pending + progress.passed)
 
 -- the octets are blocks that lead so far, and less than another
-pub record HasTaken (account : Account) (progress : Progress) (pending fed : List ℕ) : Type 0 where
+pub record HasTaken (limit : Extent) (progress : Progress) (pending fed : List ℕ) : Type 0 where
   pub read : List ℕ
   pub rest : List ℕ
   pub whole : fed ≡ read ++ rest
-  pub leads : LeadTo account read progress
+  pub leads : LeadTo limit read progress
   pub partial : IsPartial progress.context progress.at rest
   pub kept : IsPending progress rest pending
+
+-- after a piece memory is wanted; or the octets so far have this fault, with those of the piece
+abbrev pub PieceFails : Progress → (pending piece : List ℕ) → Fault → Type 0
+PieceFails progress pending piece fault = (fault ≡ faults.Memory)
+    ⊎ ((limit : Extent) (fed : List ℕ) → HasTaken limit progress pending fed
+    → Stops limit progress.gathering.wanted (fed ++ piece) fault)
+
+-- memory is needed for a piece
+abbrev pub PieceNeedsMemory : Progress → (pending piece : List ℕ) → Type 0
+PieceNeedsMemory progress pending piece =
+    (limit : Extent) (fed : List ℕ) → HasTaken limit progress pending fed
+    → NeedsMemory limit progress.gathering.wanted fed piece

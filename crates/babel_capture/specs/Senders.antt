@@ -8,8 +8,7 @@ use Rattle.std.specs.Map.{keys_of}
 use Rattle.babel_capture.specs.declared.tallies.Origin.{Origin}
 use Rattle.babel_capture.specs.declared.tallies.Tally.{Tally}
 use Rattle.babel_capture.specs.Counts.{Made, has_trailer}
-use Rattle.babel_capture.specs.Findings.{Found, passed, untold, left, refused, lacked, found}
-use Rattle.babel_capture.specs.Gathering.{octets_found}
+use Rattle.babel_capture.specs.Findings.{Found, found, octets_found}
 use Rattle.babel_capture.specs.Times.{time_of}
 use Rattle.babel_capture.specs.Timing.{greatest, least}
 use Rattle.babel_capture.specs.Updates.{interval_in, updates_in}
@@ -17,13 +16,13 @@ use Rattle.babel_capture.specs.Tallies.{Senders, origin_cmp, tally_of}
 
 -- a packet of this sender at this place was found
 abbrev pub is_from : Origin → Found → Bool
-is_from origin passed = false
-is_from origin untold = false
-is_from origin (left reason missed) = false
-is_from origin (refused lack) = false
-is_from origin (lacked place sender lack) = false
 is_from origin (found place sender packet has_trailer) =
     is_at (origin_cmp origin) (record { place = place; sender = sender })
+is_from origin what = false
+
+-- what was made of its packets
+abbrev pub made_from : Origin → List Made → List Made
+made_from origin made = filter (λ one. is_from origin one.what) made
 
 -- a packet, when it came, and whether octets come after its body
 pub record Sent : Type 0 where
@@ -40,7 +39,7 @@ sent_of one = record {
 }
 
 abbrev pub packets_from : Origin → List Made → List Sent
-packets_from origin made = map sent_of (filter (λ one. is_from origin one.what) made)
+packets_from origin made = map sent_of (made_from origin made)
 
 -- how many packets these are, of how many octets and with how many Updates in all, how many have
 -- octets after the body, the greatest Interval of the Updates, and the earliest and the latest time;

@@ -1,14 +1,27 @@
 -- What a sink is told of the packets of a capture, and what it took: this project's own.
-use Rattle.std.specs.Prelude.{◌≡◌, ℕ, List, [], ◌∷◌, ◌++◌, Option, None, Some}
+use Rattle.std.specs.Prelude.{◌≡◌, ℕ, List, [], ◌++◌, Option, None, Some}
+use Rattle.babel_capture.specs.declared.missed.Missed.{Missed}
 use Rattle.babel_capture.specs.declared.sink.BabelPacket.{BabelPacket}
 use Rattle.babel_capture.specs.declared.sink.Record.{Record}
-use Rattle.babel_capture.specs.Blocks.{Sighting}
+use Rattle.babel_capture.specs.declared.sink.Said.{Said}
+use Rattle.babel_capture.specs.declared.sink.Said.TheVariants as saids
+use Rattle.babel_capture.specs.declared.wanted.Wanted.{Wanted}
+use Rattle.babel_capture.specs.Blocks.{AreBlocks, BlockAt, Sighting, octets_of, sightings_of, start}
 use Rattle.babel_capture.specs.Counts.{Made}
-use Rattle.babel_capture.specs.Findings.{Found}
-use Rattle.babel_capture.specs.Gathering.{Gathering, IsGathered, missed_in, octets_found}
-use Rattle.babel_capture.specs.Gathering.{origin_found, with_taken}
-use Rattle.babel_capture.specs.Reading.{Account, HasTaken, LeadTo, Progress}
+use Rattle.babel_capture.specs.Findings.{Found, missed_in, octets_found, origin_found}
+use Rattle.babel_capture.specs.Gathering.{AreTaken, Gathering, IsGathered}
+use Rattle.babel_capture.specs.Reading.{HasTaken, LeadTo, Progress}
 use Rattle.babel_capture.specs.Times.{time_of}
+use Rattle.babel_capture.specs.Window.{Extent}
+
+-- the Babel packet that is told, and the datagram that is told to be missed
+abbrev pub packet_said : Said → Option BabelPacket
+packet_said (saids.Packet packet) = Some packet
+packet_said said = None
+
+abbrev pub missed_said : Said → Option Missed
+missed_said (saids.Missed missed) = Some missed
+missed_said said = None
 
 -- it is the Babel packet that was found, if one was
 abbrev pub IsPacketOf : Found → Option BabelPacket → Type 0
@@ -20,13 +33,8 @@ IsPacketOf what (Some packet) =
 pub record IsTold (one : Made) (told : Record) : Type 0 where
   pub number : told.number ≡ one.number
   pub time : told.time ≡ time_of one.came
-  pub packet : IsPacketOf one.what told.packet
-  pub missed : told.missed ≡ missed_in one.what
-
--- of a block with these packets, one or none
-abbrev pub AreTold : Option Record → List Made → Type 0
-AreTold None made = made ≡ []
-AreTold (Some told) made = (one : Made) × (made ≡ one ∷ []) × IsTold one told
+  pub packet : IsPacketOf one.what (packet_said told.said)
+  pub missed : missed_said told.said ≡ missed_in one.what
 
 -- a sink took some packets, which are those that are read besides
 pub record Sinks {S : Type 0} (has : S → S → List Made → Type 0) (old new : S)
@@ -38,21 +46,40 @@ pub record Sinks {S : Type 0} (has : S → S → List Made → Type 0) (old new 
 -- with these packets more what is gathered goes from the one to the other
 abbrev pub GatherMore : (old new : Gathering) → List Sighting → List Made → Type 0
 GatherMore old new sightings more =
-    (taken : List ℕ) (before : List Sighting) (was : IsGathered before (with_taken taken old))
-    → (now : IsGathered (before ++ sightings) (with_taken taken new))
-    × (now.made ≡ was.made ++ more)
+    (before : List Sighting) (was : IsGathered before old)
+    → (now : IsGathered (before ++ sightings) new) × (now.made ≡ was.made ++ more)
 
 -- and with the blocks of these octets
 abbrev pub LeadMore : (old new : Progress) → List ℕ → List Made → Type 0
 LeadMore old new octets more =
-    (account : Account) (read : List ℕ) (was : LeadTo account read old)
-    → (now : LeadTo account (read ++ octets) new)
-    × (now.gathered.made ≡ was.gathered.made ++ more)
+    (limit : Extent) (read : List ℕ) (was : LeadTo limit read old)
+    → (now : LeadTo limit (read ++ octets) new) × (now.gathered.made ≡ was.gathered.made ++ more)
 
 -- and with this piece, before and after which these octets are pending
 abbrev pub FeedMore : (old : Progress) (before : List ℕ) (new : Progress) (after : List ℕ)
     → (piece : List ℕ) → List Made → Type 0
 FeedMore old before new after piece more =
-    (account : Account) (fed : List ℕ) (was : HasTaken account old before fed)
-    → (now : HasTaken account new after (fed ++ piece))
+    (limit : Extent) (fed : List ℕ) (was : HasTaken limit old before fed)
+    → (now : HasTaken limit new after (fed ++ piece))
     × (now.leads.gathered.made ≡ was.leads.gathered.made ++ more)
+
+-- octets begin with blocks whose packets are these, and are taken
+pub record StopsBehind (limit : Extent) (wanted : Wanted) (octets : List ℕ)
+    (made : List Made) : Type 0 where
+  pub blocks : List BlockAt
+  pub rest : List ℕ
+  pub whole : octets ≡ octets_of blocks ++ rest
+  pub are_blocks : AreBlocks (start limit) 0 blocks
+  pub taken : AreTaken wanted (sightings_of blocks) made
+
+-- up to a fault of these octets
+abbrev pub StopLead : (old : Progress) → List ℕ → List Made → Type 0
+StopLead old octets more =
+    (limit : Extent) (read : List ℕ) (was : LeadTo limit read old)
+    → StopsBehind limit old.gathering.wanted (read ++ octets) (was.gathered.made ++ more)
+
+-- up to a fault of this piece
+abbrev pub StopMore : (old : Progress) → (before piece : List ℕ) → List Made → Type 0
+StopMore old before piece more =
+    (limit : Extent) (fed : List ℕ) (was : HasTaken limit old before fed)
+    → StopsBehind limit old.gathering.wanted (fed ++ piece) (was.leads.gathered.made ++ more)

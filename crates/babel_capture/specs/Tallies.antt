@@ -16,7 +16,7 @@ use Rattle.babel_capture.specs.Counts.{Made}
 use Rattle.babel_capture.specs.Times.{time_of}
 use Rattle.babel_capture.specs.Timing.{greatest, least}
 use Rattle.babel_capture.specs.Updates.{interval_in, updates_in}
-use Rattle.babel_capture.specs.Findings.{Found, passed, untold, left, refused, lacked, found}
+use Rattle.babel_capture.specs.Findings.{Found, found}
 
 -- by the outer number, none first, then by the others
 abbrev pub vlans_cmp : Vlans → Vlans → Ordering
@@ -87,13 +87,9 @@ tallied senders origin time packet has_trailer =
 
 -- with what was made of one packet of the capture, which came then
 abbrev pub senders_with : Senders → Option ℕ → Found → Senders
-senders_with senders time passed = senders
-senders_with senders time untold = senders
-senders_with senders time (left reason missed) = senders
-senders_with senders time (refused lack) = senders
-senders_with senders time (lacked place sender lack) = senders
 senders_with senders time (found place sender packet has_trailer) =
     tallied senders (record { place = place; sender = sender }) time packet has_trailer
+senders_with senders time what = senders
 
 -- each sender at each place of which a packet was found, by place, then by address
 abbrev pub senders_of : List Made → Senders

@@ -1,15 +1,13 @@
 ghost use Rattle.std.specs.Prelude.{◌≡◌, ◌≢◌, ◌++◌, ◌⊎◌, ℕ, List, [], Some, None, Err, IfOk, IfErr};
 ghost use Rattle.std.specs.Prelude.{IfSome, OnOk};
-ghost use Rattle.babel_capture.specs.Capture.{CaptureFault, HasGiven, HasRead, IsRead, IsReadToCut};
+ghost use Rattle.babel_capture.specs.Capture.{CaptureFault, HasRead, IsRead, IsReadToCut};
 ghost use Rattle.babel_capture.specs.Capture.{moment_read};
-ghost use Rattle.babel_capture.specs.Gathering.{with_taken};
-ghost use Rattle.babel_capture.specs.Reading.{NeedsMemory, without_dump};
-ghost use Rattle.babel_capture.specs.Sinking.{FeedMore, Sinks};
+ghost use Rattle.babel_capture.specs.Reading.{NeedsMemory};
+ghost use Rattle.babel_capture.specs.Sinking.{FeedMore, Sinks, StopMore};
 ghost use Rattle.babel_capture.specs.Window.{all_times};
 
 use crate::fault::Fault;
 use crate::gathered::Gathered;
-use crate::packet_end::PacketEnd;
 use crate::reader::Reader;
 use crate::sink::Sink;
 use crate::stream::Stream;
@@ -47,7 +45,6 @@ impl Capture {
     /// A reader that was fed nothing, of so many octets at most.
     pub fn new(alloc: Global, limit: u64, wanted: Wanted) -> Capture
         ensures read { HasRead result [] }
-        ensures dump { result.progress.gathering.dump ≡ [] }
         ensures made { (result.limit ≡ all_times limit)
             × (result.progress.gathering.wanted ≡ wanted) × (result.fault ≡ None) }
     {
@@ -66,7 +63,6 @@ impl Capture {
         wanted: Wanted,
     ) -> Capture
         ensures read { HasRead result [] }
-        ensures dump { result.progress.gathering.dump ≡ [] }
         ensures made { (result.limit
             ≡ record { octets = limit; window = window; to_cut = to_cut })
             × (result.progress.gathering.wanted ≡ wanted) × (result.fault ≡ None) }
@@ -86,11 +82,8 @@ impl Capture {
     /// packet before that is told to the sink, in order. Of the piece only octets of a block that is
     /// not whole in it are copied, so that the memory taken goes with the largest block.
     pub fn feed<S: Sink>(&mut self, piece: &[u8], sink: &mut S) -> Result<(), Fault>
-        // The reader stands where the octets that it was fed before, and these, lead it, whatever
-        // was taken out of its dump.
+        // The reader stands where the octets that it was fed before, and these, lead it.
         ensures fed { (fed : List ℕ) → HasRead self.old fed → HasRead self.new (fed ++ piece.now) }
-        ensures given { (taken fed : List ℕ) → HasGiven self.old taken fed
-            → HasGiven self.new taken (fed ++ piece.now) }
         ensures same { (self.new.limit ≡ self.old.limit)
             × (self.new.progress.gathering.wanted ≡ self.old.progress.gathering.wanted) }
 
@@ -106,7 +99,7 @@ impl Capture {
 
         // Out of memory was answered before, or a block did not come in one piece, or memory is
         // needed for a block of this piece: it is not whole, or describes an interface, or has a
-        // packet that is added to the dump or whose sender is listed.
+        // packet whose sender is listed.
         ensures memory { IfErr result (λ fault. fault ≡ Fault.Memory
             → (self.old.fault ≡ Some Fault.Memory) ⊎ (self.old.pending ≢ [])
             ⊎ ((fed : List ℕ) → HasRead self.old fed → NeedsMemory self.old.limit
@@ -117,6 +110,10 @@ impl Capture {
         ensures sunk { OnOk result (Sinks S.has sink.old sink.new
             (FeedMore self.old.progress self.old.pending self.new.progress self.new.pending
             piece.now)) }
+
+        // At a fault the sink took the packets of blocks before it, from the first on.
+        ensures stopped { self.old.fault ≡ None → IfErr result (λ _. Sinks S.has sink.old sink.new
+            (StopMore self.old.progress self.old.pending piece.now)) }
     {
         if let Some(fault) = self.fault {
             return Err(fault);
@@ -130,19 +127,11 @@ impl Capture {
         }
     }
 
-    /// What the packets give that were read so far, but for what was taken of their dump.
+    /// What the packets give that were read so far.
     pub fn gathered(&self) -> &Gathered
         ensures { result.now ≡ self.now.progress.gathering }
     {
         self.stream.reader.gathered()
-    }
-
-    /// Where each packet of the dump ends, of those that were not taken out, and which packet of
-    /// the capture it came from, where `Wanted` asks for it.
-    pub fn ends(&self) -> &[PacketEnd]
-        ensures { result.now ≡ self.now.progress.ends }
-    {
-        self.stream.reader.ends()
     }
 
     /// The moment up to which packets were read, in nanoseconds since the start of 1970: the last
@@ -172,17 +161,6 @@ impl Capture {
         self.stream.reader.start()
     }
 
-    /// Takes the octets of the dump that were gathered since the last call, with the ends of their
-    /// packets.
-    pub fn take_dump(&mut self) -> Vec<u8>
-        ensures taken { result.items ≡ self.old.progress.gathering.dump }
-        ensures rest { self.new ≡ record self.old { progress = without_dump self.old.progress } }
-        ensures given { (taken fed : List ℕ) → HasGiven self.old taken fed
-            → HasGiven self.new (taken ++ result.items) fed }
-    {
-        self.stream.reader.take_dump()
-    }
-
     /// What the packets of all octets that were fed give; the fault that was answered before if
     /// there was one, `NotCapture` if the octets end before their first block is whole, `CutShort`
     /// if they end within a later one.
@@ -209,12 +187,12 @@ impl Capture {
     /// Where the octets that were fed end within a block: its offset. The fault that was answered
     /// before if there was one, `NotCapture` if they end before their first block is whole.
     pub fn cut(&self) -> Result<Option<u64>, Fault>
-        ensures ok { IfOk result (λ cut. (taken fed : List ℕ) → HasGiven self.now taken fed
-            → IsReadToCut self.now.limit fed (with_taken taken self.now.progress.gathering) cut) }
+        ensures ok { IfOk result (λ cut. (fed : List ℕ) → HasRead self.now fed
+            → IsReadToCut self.now.limit fed self.now.progress.gathering cut) }
         ensures not_cut { self.now.fault ≡ None
             → IfErr result (λ fault. fault ≡ Fault.NotCapture) }
-        ensures fault { IfErr result (λ fault. fault ≢ Fault.Memory → (taken fed : List ℕ)
-            → HasGiven self.now taken fed
+        ensures fault { IfErr result (λ fault. fault ≢ Fault.Memory → (fed : List ℕ)
+            → HasRead self.now fed
             → CaptureFault self.now.limit self.now.progress.gathering.wanted fed fault) }
         ensures stays { IfSome self.now.fault (λ fault. result ≡ Err fault) }
 

@@ -1,16 +1,17 @@
 ghost use Rattle.std.specs.Prelude.{◌≡◌, None};
-ghost use Rattle.babel_capture.specs.Findings.{CarriedIs, Finds, LackIs, PayloadIs, finding_of};
-ghost use Rattle.babel_capture.specs.Findings.{left};
+ghost use Rattle.babel_capture.specs.Findings.{CarriedIs, Finds, PayloadIs, finding_of};
+ghost use Rattle.babel_capture.specs.Findings.{lack_found, left, missed_in};
 ghost use Rattle.babel_capture.specs.Sight.{flaw_of, sight_of};
+ghost use Rattle.babel_capture.specs.Sinking.{IsPacketOf, missed_said, packet_said};
 
 use crate::flaw::Flaw;
 use crate::lack::Lack;
-use crate::place::Place;
+use crate::missed::Missed;
 use crate::reason::Reason;
 use crate::seen::Seen;
+use crate::sink::{BabelPacket, Said};
 use crate::tallies::Origin;
 use crate::wanted::Wanted;
-use babel_prefix::Addr;
 use babel_tlv::{Fault, Frame, frame};
 
 /// What is made of a packet of a capture.
@@ -20,32 +21,39 @@ pub enum Finding<'a> {
     Passed,
     /// It is too short to tell.
     Short,
-    /// It is left out, and missed of this sender, if of one: it lacks something, and packets of
-    /// each sender are told as they come.
+    /// It is left out, and missed of this sender, if it lacks something.
     Left {
         reason: Reason,
         missed: Option<Origin>,
     },
-    /// It lacks something, and the dump of its sender alone is wanted.
+    /// It lacks something, and its sender is named.
     Refused(Lack),
-    /// It lacks something, and the dump of each sender is wanted.
-    Lacking {
-        place: Place,
-        sender: Addr,
-        lack: Lack,
-    },
     /// A Babel packet: RFC 8966, 4.2. `has_trailer` says whether octets come after its body.
     Packet {
-        place: Place,
-        sender: Addr,
-        packet: &'a [u8],
+        origin: Origin,
+        octets: &'a [u8],
         has_trailer: bool,
     },
 }
 
-impl Finding<'static> {
+impl<'a> Finding<'a> {
+    /// What a sink is told of it.
+    pub fn said(&self) -> Said<'a>
+        ensures packet { IsPacketOf (finding_of self.now) (packet_said result) }
+        ensures missed { missed_said result ≡ missed_in (finding_of self.now) }
+    {
+        match *self {
+            Finding::Packet { origin, octets, .. } => Said::Packet(BabelPacket { origin, octets }),
+            Finding::Left {
+                reason,
+                missed: Some(origin),
+            } => Said::Missed(Missed { origin, reason }),
+            _ => Said::Nothing,
+        }
+    }
+
     /// It is left out for this reason, and not missed.
-    fn left(reason: Reason) -> Finding<'static>
+    fn left(reason: Reason) -> Finding<'a>
         ensures { finding_of result ≡ left reason None }
     {
         Finding::Left {
@@ -56,14 +64,13 @@ impl Finding<'static> {
 }
 
 /// What is made of a datagram's payload: the packet without what comes after its body.
-fn payload_finding<'a>(place: Place, sender: Addr, payload: &'a [u8]) -> Finding<'a>
-    ensures { PayloadIs place sender payload.now (finding_of result) }
+fn payload_finding<'a>(origin: Origin, payload: &'a [u8]) -> Finding<'a>
+    ensures { PayloadIs origin.place origin.sender payload.now (finding_of result) }
 {
     match frame(payload, 0) {
         Frame::Whole { used, .. } => Finding::Packet {
-            place,
-            sender,
-            packet: &payload[..used],
+            origin,
+            octets: &payload[..used],
             has_trailer: used < payload.len(),
         },
         Frame::More => Finding::left(Reason::Truncated),
@@ -86,7 +93,7 @@ impl Wanted {
                 flaw,
             } => {
                 if self.takes(sender, place) {
-                    self.flaw_finding(place, sender, flaw)
+                    self.flaw_finding(Origin { place, sender }, flaw)
                 } else {
                     Finding::Passed
                 }
@@ -97,7 +104,7 @@ impl Wanted {
                 payload,
             } => {
                 if self.takes(sender, place) {
-                    payload_finding(place, sender, payload)
+                    payload_finding(Origin { place, sender }, payload)
                 } else {
                     Finding::Passed
                 }
@@ -106,32 +113,28 @@ impl Wanted {
     }
 
     /// What is made of a wanted datagram that can't be read.
-    fn flaw_finding(&self, place: Place, sender: Addr, flaw: Flaw) -> Finding<'static>
-        ensures { CarriedIs self.now place sender (flaw_of flaw) (finding_of result) }
+    fn flaw_finding(&self, origin: Origin, flaw: Flaw) -> Finding<'static>
+        ensures { CarriedIs self.now origin.place origin.sender (flaw_of flaw)
+            (finding_of result) }
     {
         match flaw {
             Flaw::OtherPort => Finding::left(Reason::OtherPort),
             Flaw::NotLinkLocal => Finding::left(Reason::NotLinkLocal),
-            Flaw::Lacking(lack) => self.lack_finding(place, sender, lack),
+            Flaw::Lacking(lack) => self.lack_finding(origin, lack),
         }
     }
 
     /// What is made of a wanted datagram that lacks something.
-    fn lack_finding(&self, place: Place, sender: Addr, lack: Lack) -> Finding<'static>
-        ensures { LackIs self.now place sender lack (finding_of result) }
+    fn lack_finding(&self, origin: Origin, lack: Lack) -> Finding<'static>
+        ensures { finding_of result
+            ≡ lack_found self.now.sender origin.place origin.sender lack }
     {
-        match self {
-            Wanted::Everyone => Finding::left(lack.reason()),
-            Wanted::InTurn { sender: None, .. } => Finding::Left {
-                reason: lack.reason(),
-                missed: Some(Origin { place, sender }),
-            },
-            Wanted::Each => Finding::Lacking {
-                place,
-                sender,
-                lack,
-            },
-            Wanted::Sender { .. } | Wanted::InTurn { .. } => Finding::Refused(lack),
+        if self.sender.is_some() {
+            return Finding::Refused(lack);
+        }
+        Finding::Left {
+            reason: lack.reason(),
+            missed: Some(origin),
         }
     }
 }

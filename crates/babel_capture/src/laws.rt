@@ -1,13 +1,12 @@
 //! What follows from the definitions alone.
 ghost use Rattle.std.specs.Prelude.{◌≡◌, ◌≢◌, ℕ, ◌+◌, ◌<◌, ◌≤◌, ◌++◌, ◌⊎◌, List, [], length, take};
 ghost use Rattle.babel_capture.specs.Capture.{CaptureFault, IsRead};
-ghost use Rattle.babel_capture.specs.EachDump.{EachIsOwn, LackingIsNone};
-ghost use Rattle.babel_capture.specs.Findings.{Finds, Found};
-ghost use Rattle.babel_capture.specs.Gathering.{Gathering, octets_found};
+ghost use Rattle.babel_capture.specs.Dumps.{dump_of};
+ghost use Rattle.babel_capture.specs.Findings.{Finds, Found, octets_found};
+ghost use Rattle.babel_capture.specs.Gathering.{Gathering};
 ghost use Rattle.babel_capture.specs.OneCapture.{CaptureIsOne, CutCaptureIsOne};
 ghost use Rattle.babel_capture.specs.OneFault.{CutIsTheFault, FaultIsOne, ReadHasNoFault};
-ghost use Rattle.babel_capture.specs.NotedEnds.{EndsChangeNothing};
-ghost use Rattle.babel_capture.specs.OneOrigin.{NamedIsOne};
+ghost use Rattle.babel_capture.specs.OneOrigin.{AloneIsTheSame, MissingIsNone, NamedIsOne};
 ghost use Rattle.babel_capture.specs.Packets.{ArePackets, IsPastEnd};
 ghost use Rattle.babel_capture.specs.PcapFiles.{IsPcap, IsReadAs, PcapFile};
 ghost use Rattle.babel_capture.specs.PcapFiles.{packets_in, packets_of, pcap_octets};
@@ -128,15 +127,15 @@ pub fn found_is_a_packet()
 /// The dump of a capture is whole Babel packets, end to end.
 pub fn dump_is_packets()
     ensures { (limit : Extent) (octets : List ℕ) (gathering : Gathering)
-        → IsRead limit octets gathering → ArePackets gathering.dump }
+        → (read : IsRead limit octets gathering) → ArePackets (dump_of read.gathered.made) }
 {}
 
 /// The dump of a capture has no fault of framing but a TLV past the end of its packet: no packet of
 /// it is truncated, or has a wrong magic or version.
 pub fn dump_is_framed()
     ensures { (limit : Extent) (octets : List ℕ) (gathering : Gathering)
-        → IsRead limit octets gathering
-        → (fault : DumpFault) → FrameFault gathering.dump fault → IsPastEnd fault }
+        → (read : IsRead limit octets gathering) → (fault : DumpFault)
+        → FrameFault (dump_of read.gathered.made) fault → IsPastEnd fault }
 {}
 
 /// The senders that are counted of a capture are those of whom a packet was found: each once at
@@ -175,17 +174,12 @@ pub fn outcome_is_one()
     ensures fault { FaultIsOne }
 {}
 
-/// Where the dumps of all senders are wanted, each is that of its sender at its place: what the
-/// same octets give where that alone is wanted, and its packets are those found there, each with
-/// its time; and where it lacks something, they give none.
-pub fn each_is_own()
-    ensures whole { EachIsOwn }
-    ensures lacking { LackingIsNone }
-{}
-
-/// Whether the ends of a sender's packets are noted changes nothing of what is gathered.
-pub fn ends_change_nothing()
-    ensures { EndsChangeNothing }
+/// What is found of one sender at one place is the same where it alone is wanted as where nobody is
+/// named, each packet with its number and time; and where a datagram of it is missed, nothing is
+/// read where it alone is wanted.
+pub fn alone_is_the_same()
+    ensures whole { AloneIsTheSame }
+    ensures missing { MissingIsNone }
 {}
 
 /// Where the datagrams of one sender at one place are wanted, there is one tally at most.

@@ -1,5 +1,5 @@
 //! Captures of packets, as tcpdump and Wireshark write them (draft-ietf-opsawg-pcap,
-//! draft-ietf-opsawg-pcapng): who sent Babel datagrams, and the dump of one sender, or of each.
+//! draft-ietf-opsawg-pcapng): who sent Babel datagrams, and the packets of each sender, or of one.
 //!
 //! A `Capture` is read in pieces of any size. It tells its blocks, and each captured packet to the
 //! layer of frames, which looks into one frame and takes no memory; and then, where it lies, to a
@@ -10,7 +10,6 @@ mod block;
 mod capture;
 mod clock;
 mod context;
-mod dumps;
 mod ethernet;
 mod fault;
 mod field;
@@ -30,7 +29,6 @@ mod missed;
 mod options;
 mod order;
 mod outside;
-mod packet_end;
 mod part;
 mod place;
 mod reader;
@@ -49,7 +47,6 @@ mod wanted;
 mod window;
 
 pub use capture::Capture;
-pub use dumps::{LackAt, TimedPacket};
 pub use fault::Fault;
 pub use flaw::Flaw;
 pub use frame::look;
@@ -58,12 +55,11 @@ pub use headers::MAX_EXTENSION_HEADERS;
 pub use lack::Lack;
 pub use link::Link;
 pub use missed::Missed;
-pub use packet_end::PacketEnd;
 pub use place::{MAX_TAGS, Place, Vlans};
 pub use reason::Reason;
 pub use report::Report;
 pub use seen::Seen;
-pub use sink::{BabelPacket, NoSink, Record, Sink};
+pub use sink::{BabelPacket, NoSink, Record, Said, Sink};
 pub use tallies::{MAX_SENDERS, Origin, Tally};
 pub use time::Time;
 pub use timing::Timing;

@@ -1,7 +1,3 @@
-ghost use Rattle.std.specs.Prelude.{◌≡◌};
-ghost use Rattle.babel_capture.specs.Findings.{left};
-ghost use Rattle.babel_capture.specs.Gathering.{missed_in};
-
 use crate::reason::Reason;
 use crate::tallies::Origin;
 
@@ -12,16 +8,4 @@ pub struct Missed {
     pub origin: Origin,
     /// What it lacks.
     pub reason: Reason,
-}
-
-impl Missed {
-    /// That of a datagram that is left out for this reason, if it is missed of a sender.
-    pub(crate) fn of(reason: Reason, sender: Option<Origin>) -> Option<Missed>
-        ensures { result ≡ missed_in (left reason sender) }
-    {
-        match sender {
-            Some(origin) => Some(Missed { origin, reason }),
-            None => None,
-        }
-    }
 }

@@ -1,4 +1,5 @@
 use crate::block::Packet;
+use crate::finding::Finding;
 use crate::seen::Seen;
 use crate::time::Time;
 use crate::wanted::Wanted;
@@ -21,17 +22,30 @@ impl Outside {
         self.first
     }
 
-    /// Notes a packet that was passed over, and is seen so.
-    pub(crate) fn pass(&mut self, wanted: &Wanted, packet: &Packet<'_>, seen: &Seen<'_>) {
-        if self.first.is_none() && wanted.names(seen) {
-            self.first = packet.time();
+    /// Notes a packet that is seen so, if it is passed over, as what is made of it tells.
+    pub(crate) fn note(
+        &mut self,
+        wanted: &Wanted,
+        packet: &Packet<'_>,
+        seen: &Seen<'_>,
+        finding: &Finding<'_>,
+    ) {
+        if let Finding::Passed = finding {
+            self.pass(wanted, packet, seen);
         }
     }
 
     /// Notes a packet that was passed over for its time.
     pub(crate) fn pass_skipped(&mut self, wanted: &Wanted, packet: &Packet<'_>) {
-        if self.first.is_none() && wanted.is_named() {
+        if self.first.is_none() && wanted.sender.is_some() {
             self.pass(wanted, packet, &packet.look());
+        }
+    }
+
+    /// Notes a packet that is passed over.
+    fn pass(&mut self, wanted: &Wanted, packet: &Packet<'_>, seen: &Seen<'_>) {
+        if self.first.is_none() && wanted.names(seen) {
+            self.first = packet.time();
         }
     }
 }

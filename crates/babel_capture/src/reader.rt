@@ -1,23 +1,21 @@
 ghost use Rattle.std.specs.Prelude.{◌≡◌, ◌↔◌, IsTrue, ◌≤◌, ◌<◌, ◌+◌, ◌-◌, ◌^◌, ◌++◌, ◌⊎◌, ℕ, List};
 ghost use Rattle.std.specs.Prelude.{[], length, take, drop, OnOk, IfOk, IfErr, IfSome, IfNone, Err};
-ghost use Rattle.std.specs.Prelude.{Ok, None, true, ◌≢◌};
-ghost use Rattle.babel_capture.specs.PacketEnds.{are_noted};
+ghost use Rattle.std.specs.Prelude.{Ok};
 ghost use Rattle.babel_capture.specs.Blocks.{BeginsBlock, IsBlock, IsEnd, IsPartial};
 ghost use Rattle.babel_capture.specs.Blocks.{start};
 ghost use Rattle.babel_capture.specs.Contents.{Content, block_said, content_of};
 ghost use Rattle.babel_capture.specs.Gathering.{BlockNeedsMemory};
-ghost use Rattle.babel_capture.specs.Reading.{Account, BlockFails, HasStarted};
-ghost use Rattle.babel_capture.specs.Reading.{HeaderFails, LeadTo};
-ghost use Rattle.babel_capture.specs.Reading.{NeedsMemory, Stops, with_end, without_dump};
-ghost use Rattle.babel_capture.specs.Sinking.{LeadMore, Sinks};
+ghost use Rattle.babel_capture.specs.Reading.{BlockFails, HasStarted, HeaderFails, LeadTo};
+ghost use Rattle.babel_capture.specs.Reading.{NeedsMemory, Stops};
+ghost use Rattle.babel_capture.specs.Sinking.{LeadMore, Sinks, StopLead};
+ghost use Rattle.babel_capture.specs.Window.{Extent};
 
 use crate::block::read_block;
 use crate::context::Context;
 use crate::fault::Fault;
 use crate::gathered::Gathered;
 use crate::layout::Layout;
-use crate::packet_end::PacketEnd;
-use crate::sink::{Record, Sink};
+use crate::sink::Sink;
 use crate::time::Time;
 use crate::wanted::Wanted;
 use crate::window::Window;
@@ -29,7 +27,6 @@ use std::marker::Model;
 pub struct Reader {
     context: Context,
     gathered: Gathered,
-    ends: Vec<PacketEnd>,
     at: u64,
     passed: u64,
 }
@@ -44,7 +41,6 @@ impl Model for Reader {
     ghost view = { λ r. record {
       context = r.context;
       gathering = r.gathered;
-      ends = r.ends.items;
       at = r.at;
       passed = r.passed;
     } };
@@ -56,20 +52,16 @@ impl Reader {
     /// Nothing was read yet, of so many octets at most and of packets of this window; with
     /// `to_cut`, up to a record that a full disk leaves.
     pub fn new(alloc: Global, limit: u64, window: &Window, to_cut: bool, wanted: Wanted) -> Reader
-        ensures none { LeadTo (record {
-          limit = record { octets = limit; window = window.now; to_cut = to_cut };
-          taken = [];
-        }) [] result }
+        ensures none { LeadTo (record { octets = limit; window = window.now; to_cut = to_cut })
+            [] result }
         ensures context { result.context ≡ start
             (record { octets = limit; window = window.now; to_cut = to_cut }) }
         ensures wanted { result.gathering.wanted ≡ wanted }
-        ensures dump { result.gathering.dump ≡ [] }
         ensures passed { result.passed ≡ 0 }
     {
         Reader {
             context: Context::new(alloc, limit, window, to_cut),
             gathered: Gathered::new(alloc, wanted),
-            ends: Vec::new(alloc),
             at: 0,
             passed: 0,
         }
@@ -93,6 +85,7 @@ impl Reader {
         ensures passed { self.new.passed ≡ self.old.passed }
         ensures ok { OnOk result (Sinks S.has sink.old sink.new
             (LeadMore self.old self.new block.now)) }
+        ensures stopped { IfErr result (λ _. sink.new ≡ sink.old) }
         ensures err { IfErr result (λ fault. (fault ≡ Fault.Memory)
             ⊎ BlockFails self.old.gathering.wanted self.old.gathering.senders self.old.context
             self.old.at block.now fault) }
@@ -104,39 +97,7 @@ impl Reader {
         let at = self.at;
         self.at += block.len() as u64;
         self.context.take(&said)?;
-        match self.gathered.take_said(at, &said) {
-            Ok(Some(told)) => {
-                self.note_end(&told)?;
-                sink.take(&told);
-                Ok(())
-            }
-            Ok(None) => Ok(()),
-            Err(fault) => Err(fault),
-        }
-    }
-
-    /// Notes where the dump ends, if that is noted and this packet, which was taken last, was added
-    /// to it.
-    fn note_end(&mut self, told: &Record<'_>) -> Result<(), Fault>
-        ensures others { (self.new.context ≡ self.old.context)
-            × (self.new.gathering ≡ self.old.gathering) × (self.new.at ≡ self.old.at)
-            × (self.new.passed ≡ self.old.passed) }
-        ensures ends { OnOk result (self.new.ends ≡ with_end self.old told.now) }
-        ensures err { IfErr result (λ fault. (fault ≡ Fault.Memory)
-            × (are_noted self.old.gathering.wanted ≡ true) × (told.now.packet ≢ None)) }
-    {
-        if told.packet.is_none() || !self.gathered.wanted().are_noted() {
-            return Ok(());
-        }
-        let end = PacketEnd {
-            end: self.gathered.dump().len(),
-            number: told.number,
-            time: told.time,
-        };
-        match self.ends.push(end) {
-            Ok(()) => Ok(()),
-            Err(_) => Err(Fault::Memory),
-        }
+        self.gathered.take_said(at, &said, sink)
     }
 
     /// The whole block that the octets begin with; `None` if they are less than a block.
@@ -201,13 +162,14 @@ impl Reader {
             (LeadMore self.old self.new (take used octets.now))) }
         ensures partial { IfOk result (λ used. IsPartial self.new.context self.new.at
             (drop used octets.now)) }
+        ensures stopped { IfErr result (λ _. Sinks S.has sink.old sink.new
+            (StopLead self.old octets.now)) }
         ensures stops { IfErr result (λ fault. (fault ≡ Fault.Memory)
-            ⊎ ((account : Account) (read : List ℕ) → LeadTo account read self.old
-            → Stops account.limit self.old.gathering.wanted (read ++ octets.now) fault)) }
+            ⊎ ((limit : Extent) (read : List ℕ) → LeadTo limit read self.old
+            → Stops limit self.old.gathering.wanted (read ++ octets.now) fault)) }
         ensures memory { IfErr result (λ fault. fault ≡ Fault.Memory
-            → (account : Account) (read : List ℕ)
-            → LeadTo account read self.old
-            → NeedsMemory account.limit self.old.gathering.wanted read octets.now) }
+            → (limit : Extent) (read : List ℕ) → LeadTo limit read self.old
+            → NeedsMemory limit self.old.gathering.wanted read octets.now) }
     {
         let mut used = 0;
         while let Some(block) = self.first_block(&octets[used..])? {
@@ -236,22 +198,6 @@ impl Reader {
         ensures { result.now ≡ self.now.gathering }
     {
         &self.gathered
-    }
-
-    /// Where each packet of the dump ends, of those that were not taken out.
-    pub fn ends(&self) -> &[PacketEnd]
-        ensures { result.now ≡ self.now.ends }
-    {
-        &self.ends
-    }
-
-    /// Takes the dump out of what was gathered, with the ends of its packets.
-    pub fn take_dump(&mut self) -> Vec<u8>
-        ensures taken { result.items ≡ self.old.gathering.dump }
-        ensures rest { self.new ≡ without_dump self.old }
-    {
-        self.ends.clear();
-        self.gathered.take_dump()
     }
 
     /// What was gathered.

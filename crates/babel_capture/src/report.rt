@@ -1,8 +1,11 @@
-ghost use Rattle.std.specs.Prelude.{◌≡◌, ◌+◌, ◌^◌, ◌<◌, [], IfSome};
-ghost use Rattle.babel_capture.specs.Counts.{Counts, count_at, counts_of, reason_place};
-ghost use Rattle.babel_capture.specs.Counting.{counted_in, counted_then, counted_with, one_more};
-ghost use Rattle.babel_capture.specs.Counting.{packet_counted, short_counted};
+ghost use Rattle.std.specs.Prelude.{◌≡◌, ◌+◌, ◌^◌, ◌<◌, [], IfSome, None};
+ghost use Rattle.babel_capture.specs.Counts.{Counts, count_at, counts_of, interval_found};
+ghost use Rattle.babel_capture.specs.Counts.{reason_place};
+ghost use Rattle.babel_capture.specs.Counting.{counted, counted_at, counted_with, one_more};
+ghost use Rattle.babel_capture.specs.Findings.{finding_of};
+ghost use Rattle.babel_capture.specs.Times.{kept};
 
+use crate::finding::Finding;
 use crate::link::Link;
 use crate::reason::Reason;
 use crate::sections::Sections;
@@ -134,58 +137,46 @@ impl Report {
         }
     }
 
-    /// Notes the time of the next packet.
-    pub(crate) fn take_time(&mut self, time: Option<Time>)
-        requires { self.old.packets + 1 < 2 ^ 64 }
-        ensures { self.new ≡ counted_then self.old time }
-    {
-        self.timing = self.timing.with(self.packets + 1, time);
-    }
-
-    /// Counts a packet, the section where it came, if it is a datagram of Babel, and the datagram
-    /// that is left out for this reason, if for any.
-    pub(crate) fn count(&mut self, section: Option<u64>, left_out: Option<Reason>)
-        requires { self.old.packets + 1 < 2 ^ 64 }
-        ensures { self.new ≡ counted_with (counted_in self.old section) left_out }
-    {
-        self.packets += 1;
-        self.sections = self.sections.with(section);
-        if let Some(reason) = left_out {
-            let place = place_of(reason);
-            self.left_out[place] = one_more_of(self.left_out[place], self.packets);
-        }
-    }
-
-    /// Counts a frame that is too short to tell.
-    pub(crate) fn count_short(&mut self, section: Option<u64>)
-        requires { self.old.packets + 1 < 2 ^ 64 }
-        ensures { self.new ≡ short_counted (counted_in self.old section) }
-    {
-        self.packets += 1;
-        self.sections = self.sections.with(section);
-        self.short += 1;
-    }
-
-    /// Counts a Babel packet that was found in a frame of this link type, with this Interval, and
-    /// whether octets come after its body.
-    pub(crate) fn count_packet(
+    /// Counts a packet of an interface of this link type, which came then, and in this section, if
+    /// it is a datagram of Babel, and of which this is made; a packet that is found has this
+    /// Interval.
+    pub(crate) fn count(
         &mut self,
-        section: Option<u64>,
         link: Link,
+        time: Option<Time>,
+        section: Option<u64>,
+        finding: &Finding<'_>,
         interval: Option<u16>,
-        has_trailer: bool,
     )
-        requires { self.old.packets + 1 < 2 ^ 64 }
-        ensures { self.new
-            ≡ packet_counted (counted_in self.old section) link interval has_trailer }
+        requires room { self.old.packets + 1 < 2 ^ 64 }
+        requires interval { interval ≡ interval_found (finding_of finding.now) }
+        ensures { self.new ≡ counted (counted_at self.old (kept time section)) link
+            (finding_of finding.now) }
     {
         self.packets += 1;
+        self.timing = self.timing.with(self.packets, time);
         self.sections = self.sections.with(section);
-        self.interval = greater(self.interval, interval);
-        self.trailers += u64::from(has_trailer);
-        if link == Link::Cooked {
-            self.cooked += 1;
+        match finding {
+            Finding::Passed | Finding::Refused(_) => {}
+            Finding::Short => self.short += 1,
+            Finding::Left { reason, .. } => {
+                let place = place_of(*reason);
+                self.left_out[place] = one_more_of(self.left_out[place], self.packets);
+            }
+            Finding::Packet { has_trailer, .. } => {
+                self.interval = greater(self.interval, interval);
+                self.trailers += u64::from(*has_trailer);
+                self.cooked += u64::from(link == Link::Cooked);
+            }
         }
+    }
+
+    /// Counts a packet that is skipped.
+    pub(crate) fn count_skipped(&mut self)
+        requires { self.old.packets + 1 < 2 ^ 64 }
+        ensures { self.new ≡ counted_with self.old None }
+    {
+        self.packets += 1;
     }
 }
 

@@ -1,5 +1,5 @@
 //! What takes the packets of a capture, one after another, as they are read.
-ghost use Rattle.std.specs.Prelude.{◌≡◌, ◌∷◌, ◌++◌, ⊤, [], List, None};
+ghost use Rattle.std.specs.Prelude.{◌∷◌, ◌++◌, ⊤, [], List};
 ghost use Rattle.babel_capture.specs.Counts.{Made};
 ghost use Rattle.babel_capture.specs.Sinking.{IsTold};
 
@@ -14,11 +14,19 @@ pub struct Record<'a> {
     pub number: u64,
     /// When it came, where its record has a time of the years 1970 to 9999 and is not skipped.
     pub time: Option<Time>,
-    /// The Babel packet in it, where there is one that is wanted.
-    pub packet: Option<BabelPacket<'a>>,
-    /// The datagram in it that lacks something and is left out, under `Wanted::InTurn` without a
-    /// named sender.
-    pub missed: Option<Missed>,
+    /// What is found in it.
+    pub said: Said<'a>,
+}
+
+/// What is found in a packet of a capture.
+#[derive(Clone, Copy)]
+pub enum Said<'a> {
+    /// Nothing that is wanted.
+    Nothing,
+    /// A Babel packet that is wanted.
+    Packet(BabelPacket<'a>),
+    /// A wanted datagram that lacks something and is left out, where no sender is named.
+    Missed(Missed),
 }
 
 /// A Babel packet of a capture: RFC 8966, 4.2.
@@ -28,21 +36,6 @@ pub struct BabelPacket<'a> {
     pub origin: Origin,
     /// Its header and its body.
     pub octets: &'a [u8],
-}
-
-impl<'a> Record<'a> {
-    /// A packet of the capture in which nothing is found.
-    pub(crate) fn plain(number: u64, time: Option<Time>) -> Record<'a>
-        ensures counted { (result.number ≡ number) × (result.time ≡ time) }
-        ensures nothing { (result.packet ≡ None) × (result.missed ≡ None) }
-    {
-        Record {
-            number,
-            time,
-            packet: None,
-            missed: None,
-        }
-    }
 }
 
 /// What takes packets one after another. One that can't take a packet keeps why, and takes none of

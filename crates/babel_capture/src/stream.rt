@@ -1,9 +1,9 @@
 ghost use Rattle.std.specs.Prelude.{◌≡◌, ◌≢◌, ◌≤◌, ◌++◌, ◌⊎◌, ℕ, List, [], drop, length, vec_len};
 ghost use Rattle.std.specs.Prelude.{OnOk, IfOk, IfErr};
 ghost use Rattle.babel_capture.specs.Capture.{CaptureFault, IsRead, IsReadToCut};
-ghost use Rattle.babel_capture.specs.Gathering.{with_taken};
-ghost use Rattle.babel_capture.specs.Reading.{Account, HasTaken, NeedsMemory, Stops};
-ghost use Rattle.babel_capture.specs.Sinking.{FeedMore, Sinks};
+ghost use Rattle.babel_capture.specs.Reading.{HasTaken, PieceFails, PieceNeedsMemory};
+ghost use Rattle.babel_capture.specs.Sinking.{FeedMore, Sinks, StopMore};
+ghost use Rattle.babel_capture.specs.Window.{Extent};
 
 use crate::fault::Fault;
 use crate::gathered::Gathered;
@@ -42,35 +42,20 @@ impl Stream {
         ensures ok { OnOk result (Sinks S.has sink.old sink.new
             (FeedMore self.old.reader self.old.pending.items self.new.reader
             self.new.pending.items piece.now)) }
-        ensures err { IfErr result (λ fault. (fault ≡ Fault.Memory)
-            ⊎ ((account : Account) (fed : List ℕ)
-            → HasTaken account self.old.reader self.old.pending.items fed
-            → Stops account.limit self.old.reader.gathering.wanted (fed ++ piece.now) fault)) }
+        ensures stopped { IfErr result (λ _. Sinks S.has sink.old sink.new
+            (StopMore self.old.reader self.old.pending.items piece.now)) }
+        ensures err { IfErr result
+            (PieceFails self.old.reader self.old.pending.items piece.now) }
         ensures memory { IfErr result (λ fault. fault ≡ Fault.Memory
-            → (self.old.pending.items ≢ []) ⊎ ((account : Account) (fed : List ℕ)
-            → HasTaken account self.old.reader self.old.pending.items fed
-            → NeedsMemory account.limit self.old.reader.gathering.wanted fed piece.now)) }
+            → (self.old.pending.items ≢ [])
+            ⊎ PieceNeedsMemory self.old.reader self.old.pending.items piece.now) }
     {
         if self.pending.is_empty() {
             return self.take_in_place(piece, sink);
         }
         let (header, rest) = piece.split_at(self.lacking_of(piece));
         self.take_behind(header, sink)?;
-        self.take_past_header(rest, sink)
-    }
-
-    /// Takes octets where the header of the block that is pending is whole, if one is.
-    fn take_past_header<S: Sink>(&mut self, piece: &[u8], sink: &mut S) -> Result<(), Fault>
-        ensures wanted { self.new.reader.gathering.wanted ≡ self.old.reader.gathering.wanted }
-        ensures ok { OnOk result (Sinks S.has sink.old sink.new
-            (FeedMore self.old.reader self.old.pending.items self.new.reader
-            self.new.pending.items piece.now)) }
-        ensures err { IfErr result (λ fault. (fault ≡ Fault.Memory)
-            ⊎ ((account : Account) (fed : List ℕ)
-            → HasTaken account self.old.reader self.old.pending.items fed
-            → Stops account.limit self.old.reader.gathering.wanted (fed ++ piece.now) fault)) }
-    {
-        let (block, rest) = piece.split_at(self.lacking_of(piece));
+        let (block, rest) = rest.split_at(self.lacking_of(rest));
         self.take_behind(block, sink)?;
         self.take_in_place(rest, sink)
     }
@@ -90,10 +75,10 @@ impl Stream {
         ensures ok { OnOk result (Sinks S.has sink.old sink.new
             (FeedMore self.old.reader self.old.pending.items self.new.reader
             self.new.pending.items piece.now)) }
-        ensures err { IfErr result (λ fault. (fault ≡ Fault.Memory)
-            ⊎ ((account : Account) (fed : List ℕ)
-            → HasTaken account self.old.reader self.old.pending.items fed
-            → Stops account.limit self.old.reader.gathering.wanted (fed ++ piece.now) fault)) }
+        ensures stopped { IfErr result (λ _. Sinks S.has sink.old sink.new
+            (StopMore self.old.reader self.old.pending.items piece.now)) }
+        ensures err { IfErr result
+            (PieceFails self.old.reader self.old.pending.items piece.now) }
     {
         if self.reader.is_end(&self.pending) {
             return self.reader.pass_over(&self.pending, piece);
@@ -110,14 +95,13 @@ impl Stream {
         ensures ok { OnOk result (Sinks S.has sink.old sink.new
             (FeedMore self.old.reader self.old.pending.items self.new.reader
             self.new.pending.items piece.now)) }
-        ensures err { IfErr result (λ fault. (fault ≡ Fault.Memory)
-            ⊎ ((account : Account) (fed : List ℕ)
-            → HasTaken account self.old.reader self.old.pending.items fed
-            → Stops account.limit self.old.reader.gathering.wanted (fed ++ piece.now) fault)) }
+        ensures stopped { IfErr result (λ _. Sinks S.has sink.old sink.new
+            (StopMore self.old.reader self.old.pending.items piece.now)) }
+        ensures err { IfErr result
+            (PieceFails self.old.reader self.old.pending.items piece.now) }
         ensures memory { IfErr result (λ fault. fault ≡ Fault.Memory
-            → (self.old.pending.items ≢ []) ⊎ ((account : Account) (fed : List ℕ)
-            → HasTaken account self.old.reader self.old.pending.items fed
-            → NeedsMemory account.limit self.old.reader.gathering.wanted fed piece.now)) }
+            → (self.old.pending.items ≢ [])
+            ⊎ PieceNeedsMemory self.old.reader self.old.pending.items piece.now) }
     {
         if !self.pending.is_empty() {
             return self.take_behind(piece, sink);
@@ -134,12 +118,9 @@ impl Stream {
     /// No octets yet, of so many at most and of packets of this window; with `to_cut`, up to a
     /// record that a full disk leaves.
     pub fn new(alloc: Global, limit: u64, window: &Window, to_cut: bool, wanted: Wanted) -> Stream
-        ensures none { HasTaken (record {
-          limit = record { octets = limit; window = window.now; to_cut = to_cut };
-          taken = [];
-        }) result.reader result.pending.items [] }
+        ensures none { HasTaken (record { octets = limit; window = window.now; to_cut = to_cut })
+            result.reader result.pending.items [] }
         ensures wanted { result.reader.gathering.wanted ≡ wanted }
-        ensures dump { result.reader.gathering.dump ≡ [] }
     {
         Stream {
             reader: Reader::new(alloc, limit, window, to_cut, wanted),
@@ -149,13 +130,13 @@ impl Stream {
 
     /// What the packets of a whole capture give.
     pub fn finish(self) -> Result<Gathered, Fault>
-        ensures ok { IfOk result (λ gathered. (account : Account) (fed : List ℕ)
-            → HasTaken account self.reader self.pending.items fed
-            → IsRead account.limit fed (with_taken account.taken gathered)) }
+        ensures ok { IfOk result (λ gathered. (limit : Extent) (fed : List ℕ)
+            → HasTaken limit self.reader self.pending.items fed
+            → IsRead limit fed gathered) }
         ensures wanted { IfOk result (λ gathered. gathered.wanted ≡ self.reader.gathering.wanted) }
-        ensures fault { IfErr result (λ fault. (account : Account) (fed : List ℕ)
-            → HasTaken account self.reader self.pending.items fed
-            → CaptureFault account.limit self.reader.gathering.wanted fed fault) }
+        ensures fault { IfErr result (λ fault. (limit : Extent) (fed : List ℕ)
+            → HasTaken limit self.reader self.pending.items fed
+            → CaptureFault limit self.reader.gathering.wanted fed fault) }
         ensures memory { IfErr result (λ fault. fault ≢ Fault.Memory) }
     {
         if !self.reader.has_started() {
@@ -171,14 +152,13 @@ impl Stream {
 
     /// The offset of a block that is not whole, if the octets end within one.
     pub fn cut(&self) -> Result<Option<u64>, Fault>
-        ensures ok { IfOk result (λ cut. (account : Account) (fed : List ℕ)
-            → HasTaken account self.now.reader self.now.pending.items fed
-            → IsReadToCut account.limit fed
-            (with_taken account.taken self.now.reader.gathering) cut) }
+        ensures ok { IfOk result (λ cut. (limit : Extent) (fed : List ℕ)
+            → HasTaken limit self.now.reader self.now.pending.items fed
+            → IsReadToCut limit fed self.now.reader.gathering cut) }
         ensures err { IfErr result (λ fault. fault ≡ Fault.NotCapture) }
-        ensures fault { IfErr result (λ fault. (account : Account) (fed : List ℕ)
-            → HasTaken account self.now.reader self.now.pending.items fed
-            → CaptureFault account.limit self.now.reader.gathering.wanted fed fault) }
+        ensures fault { IfErr result (λ fault. (limit : Extent) (fed : List ℕ)
+            → HasTaken limit self.now.reader self.now.pending.items fed
+            → CaptureFault limit self.now.reader.gathering.wanted fed fault) }
     {
         if !self.reader.has_started() {
             return Err(Fault::NotCapture);

@@ -1,13 +1,18 @@
-ghost use Rattle.std.specs.Prelude.{◌≡◌, ◌≤◌, ◌⊎◌, [], length, IfErr, IfNone, IfSome, None, OnOk};
-ghost use Rattle.babel_capture.specs.Tallies.{CountNeedsMemory, IsOneTooMany, Overflows, one_more};
-ghost use Rattle.babel_capture.specs.Tallies.{tallied, tally_of};
+ghost use Rattle.std.specs.Prelude.{◌≡◌, ◌≤◌, ◌⊎◌, [], length, IfErr, IfNone, IfOk, IfSome, None};
+ghost use Rattle.std.specs.Prelude.{OnOk};
+ghost use Rattle.babel_capture.specs.Counts.{interval_found};
+ghost use Rattle.babel_capture.specs.Findings.{finding_of};
+ghost use Rattle.babel_capture.specs.Gathering.{FoundNeedsMemory, RefusesFound};
+ghost use Rattle.babel_capture.specs.Tallies.{CountNeedsMemory, IsOneTooMany, Overflows};
+ghost use Rattle.babel_capture.specs.Tallies.{no_packets, one_more, senders_with, tallied, tally_of};
 ghost use Rattle.babel_capture.specs.Updates.{interval_in, updates_in};
 
 use crate::fault::Fault;
+use crate::finding::Finding;
 use crate::place::Place;
 use crate::time::Time;
 use crate::timing::{earlier, later};
-use crate::updates::{Updates, greater};
+use crate::updates::{Updates, greater, updates_in};
 use babel_prefix::Addr;
 use std::alloc::Global;
 use std::collections::BTreeMap;
@@ -41,6 +46,21 @@ pub struct Tally {
 }
 
 impl Tally {
+    /// That of no packets.
+    fn none() -> Tally
+        ensures { result ≡ no_packets }
+    {
+        Tally {
+            packets: 0,
+            octets: 0,
+            updates: 0,
+            trailers: 0,
+            interval: None,
+            first: None,
+            last: None,
+        }
+    }
+
     /// With one packet more, with these Updates, and whether octets come after its body; `None` if
     /// its packets, their octets or their Updates are more than 2^64 - 1.
     fn with(
@@ -101,47 +121,40 @@ impl Tallies {
         &self.tallies
     }
 
-    /// Counts the first packet of a sender.
-    #[tactic(auto, using(crate::proofs::TallyLaws::first_by))]
-    fn add_first(
+    /// Counts the packet in the block at this offset, if one is found there: the greatest Interval
+    /// of its Updates that announce.
+    pub fn take(
         &mut self,
         at: u64,
-        origin: Origin,
         time: Option<Time>,
-        packet: &[u8],
-        updates: &Updates,
-        has_trailer: bool,
-    ) -> Result<(), Fault>
-        requires none { tally_of self.old origin ≡ None }
-        requires count { updates.now.count ≡ updates_in packet.now }
-        requires interval { updates.now.interval ≡ interval_in packet.now }
-        ensures ok { OnOk result (self.new ≡ tallied self.old origin time packet.now has_trailer) }
-        ensures few { OnOk result (length self.new ≤ 65536) }
+        finding: &Finding<'_>,
+    ) -> Result<Option<u16>, Fault>
+        ensures ok { OnOk result
+            (self.new ≡ senders_with self.old time (finding_of finding.now)) }
+        ensures interval { IfOk result
+            (λ interval. interval ≡ interval_found (finding_of finding.now)) }
+        ensures few { OnOk result (length self.old ≤ 65536 → length self.new ≤ 65536) }
         ensures err { IfErr result (λ fault. (fault ≡ Fault.Memory)
-            ⊎ ((fault ≡ Fault.TooManySenders at) × IsOneTooMany self.old origin)) }
+            ⊎ RefusesFound self.old at (finding_of finding.now) fault) }
+        ensures memory { IfErr result (λ fault. fault ≡ Fault.Memory
+            → FoundNeedsMemory self.old (finding_of finding.now)) }
     {
-        if self.tallies.len() >= MAX_SENDERS {
-            return Err(Fault::TooManySenders { at });
-        }
-        let last = time;
-        let tally = Tally {
-            packets: 1,
-            octets: packet.len() as u64,
-            updates: updates.count,
-            trailers: u64::from(has_trailer),
-            interval: updates.interval,
-            first: time,
-            last,
+        let Finding::Packet {
+            origin,
+            octets,
+            has_trailer,
+        } = finding
+        else {
+            return Ok(None);
         };
-        match self.tallies.insert(origin, tally) {
-            Ok(_) => Ok(()),
-            Err(_) => Err(Fault::Memory),
-        }
+        let updates = updates_in(octets);
+        self.add(at, *origin, time, octets, &updates, *has_trailer)?;
+        Ok(updates.interval)
     }
 
     /// Counts a packet with these Updates, which is in the block at this offset, and whether octets
     /// come after its body.
-    pub fn add(
+    fn add(
         &mut self,
         at: u64,
         origin: Origin,
@@ -160,7 +173,16 @@ impl Tallies {
             → CountNeedsMemory (tally_of self.old origin) packet.now has_trailer) }
     {
         let Some(tally) = self.tallies.get_mut(&origin) else {
-            return self.add_first(at, origin, time, packet, updates, has_trailer);
+            if self.tallies.len() >= MAX_SENDERS {
+                return Err(Fault::TooManySenders { at });
+            }
+            let Some(first) = Tally::none().with(time, packet, updates, has_trailer) else {
+                return Err(Fault::Memory);
+            };
+            match self.tallies.insert(origin, first) {
+                Ok(_) => return Ok(()),
+                Err(_) => return Err(Fault::Memory),
+            }
         };
         let Some(more) = tally.with(time, packet, updates, has_trailer) else {
             return Err(Fault::Memory);

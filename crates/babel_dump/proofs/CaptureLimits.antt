@@ -13,7 +13,8 @@ use Rattle.babel_capture.specs.Blocks.{AreBlocks, BlockAt, IsPartial, context_be
 use Rattle.babel_capture.specs.Contents.{Content, context_after, describes, file, holds, nothing, section, skips, started_with}
 use Rattle.babel_capture.specs.Context.{Before}
 use Rattle.babel_capture.specs.Lengths.{block_len, header_len, layout_len, len_within}
-use Rattle.babel_capture.specs.Reading.{Account, HasTaken, Progress}
+use Rattle.babel_capture.specs.Reading.{HasTaken, Progress}
+use Rattle.babel_capture.specs.Window.{Extent}
 
 not_past : (b : Bool) (at len n : ℕ) → (if b then Err (faults.TooLong at) else Ok n) ≡ Ok len → (b ≡ false) × (n ≡ len)
 not_past true at len n is = absurd cc
@@ -77,12 +78,12 @@ partial_short before at pending within (inr (inl (header, less))) =
     omega (arith, below, within)
 
 -- octets without a fault are fewer than the limit and 24
-pub taken_within : (account : Account) (progress : Progress) (pending fed : List ℕ) → HasTaken account progress pending fed → length fed < account.limit.octets + 24
-taken_within account progress pending fed taken =
-    let behind : progress.context.limit ≡ account.limit.octets =
-    ap (λ (c : Before). c.limit) taken.leads.context ∙ limit_behind (start account.limit) taken.leads.blocks in
-    let blocks : 0 + length (octets_of taken.leads.blocks) ≤ account.limit.octets =
-    blocks_within (start account.limit) 0 taken.leads.blocks (omega arith) taken.leads.are_blocks in
+pub taken_within : (extent : Extent) (progress : Progress) (pending fed : List ℕ) → HasTaken extent progress pending fed → length fed < extent.octets + 24
+taken_within extent progress pending fed taken =
+    let behind : progress.context.limit ≡ extent.octets =
+    ap (λ (c : Before). c.limit) taken.leads.context ∙ limit_behind (start extent) taken.leads.blocks in
+    let blocks : 0 + length (octets_of taken.leads.blocks) ≤ extent.octets =
+    blocks_within (start extent) 0 taken.leads.blocks (omega arith) taken.leads.are_blocks in
     let place : progress.at ≡ length (octets_of taken.leads.blocks) = taken.leads.place ∙ ap length taken.leads.whole in
     let read : length taken.read ≡ progress.at = sym taken.leads.place in
     let short : progress.at + length taken.rest < progress.context.limit + 24 =

@@ -1,17 +1,14 @@
 -- What a teller tells in a run of events, and how far a capture was followed.
-use Rattle.std.proofs.Common.{◌≡◌, ℕ, Bool, List, [], ◌∷◌, ◌++◌, length, Option, None, refl, sym, ap, subst, ◌∙◌, arith, length-append}
+use Rattle.std.proofs.Common.{◌≡◌, ℕ, Bool, List, [], Option, None, refl, sym, ap, subst, ◌∙◌}
 use Rattle.std.specs.Prelude.{Result, Ok, Err, OnOk}
 use Rattle.std.specs.declared.cmp.Ordering.{Ordering}
 use Rattle.babel_capture.specs.declared.fault.Fault.{Fault}
 use Rattle.babel_capture.specs.declared.tallies.Origin.{Origin}
-use Rattle.babel_capture.specs.Blocks.{AreBlocks, BlockAt, octets_of, sightings_of, start}
-use Rattle.babel_capture.specs.Capture.{HasGivenTo, HasRead, State, account_of}
-use Rattle.babel_capture.specs.Context.{Before}
+use Rattle.babel_capture.specs.Capture.{HasRead, HasReadTo}
 use Rattle.babel_capture.specs.Counts.{Made}
-use Rattle.babel_capture.specs.Gathering.{AreMade}
 use Rattle.babel_capture.specs.Reading.{HasTaken}
 use Rattle.babel_capture.specs.Window.{Extent}
-use Rattle.babel_capture.proofs.OneCapture.{some_header}
+use Rattle.babel_dump.proofs.CaptureFeeding.{unread}
 use Rattle.babel_tlv.specs.declared.start.Start.{Start}
 use Rattle.babel_tlv.specs.Context.{first_context}
 use Rattle.babel_tlv.specs.declared.view.View.{View}
@@ -71,43 +68,21 @@ module _ (cmp : Speaker → Speaker → Ordering) (order : cmp ≡ speaker_cmp) 
       let two = subst (λ (f : Option ℕ). TellsEnds speaker_cmp f teller.interest.asked until rows after old new) suits.factor one in
       subst (λ (a : AskedFor). TellsEnds speaker_cmp events.expiry a until rows after old new) suits.asked two
 
--- ---- a capture of which nothing was read
-
-no_parts : {A : Type 0} (a b : List A) → a ++ b ≡ [] → (a ≡ []) × (b ≡ [])
-no_parts [] b is = (refl, is)
-no_parts (x ∷ a) b is = absurd (let bad : x ∷ (a ++ b) ≡ [] = is in cc)
-
-no_blocks : (before : Before) (at : ℕ) (blocks : List BlockAt) → AreBlocks before at blocks → octets_of blocks ≡ [] → blocks ≡ []
-no_blocks before at [] are none = refl
-no_blocks before at (block ∷ blocks) (here, is, said, are) none =
-    absurd (let len : length (block.octets ++ octets_of blocks) ≡ 0 = ap length none in omega (arith, len, is.header, some_header before.layout, length-append block.octets (octets_of blocks)))
-
-pub record IsUnread (events : Events) (state : State) : Type 0 where
-  pub read : HasTaken (record { limit = followed_extent events; taken = [] }) state.progress state.pending []
-  pub made : read.leads.gathered.made ≡ []
-
-unread : (events : Events) (state : State) → HasTaken (record { limit = followed_extent events; taken = [] }) state.progress state.pending [] → IsUnread events state
-unread events state is =
-    let blocks : is.leads.blocks ≡ [] =
-    no_blocks (start (followed_extent events)) 0 is.leads.blocks is.leads.are_blocks (sym is.leads.whole ∙ (no_parts is.read is.rest (sym is.whole)).0) in
-    let made : is.leads.gathered.made ≡ [] =
-    subst (λ (bs : List BlockAt). AreMade state.progress.gathering.wanted (sightings_of bs) is.leads.gathered.made) blocks is.leads.gathered.taken.are_made in
-    record { read = is; made = made }
-
+-- nothing was read
 pub followed_none : (events : Events) (followed : Followed) → HasRead followed.capture [] → followed.capture.limit ≡ followed_extent events
     → followed.capture.progress.gathering.wanted ≡ followed_by events → followed.capture.fault ≡ None → followed.follower.events.now ≡ events → HasHeard events [] [] followed.follower.hearing
     → followed.follower.told.items ≡ [] → followed.follower.fault ≡ None → IsFollowed events [] [] followed
 followed_none events followed read limit wanted fault events_are heard told sound =
-    let taken : HasTaken (account_of followed.capture []) followed.capture.progress followed.capture.pending [] = subst (λ (f : Option Fault). HasGivenTo followed.capture [] f []) fault read in
-    let begun = unread events followed.capture
-    (subst (λ (e : Extent). HasTaken (record { limit = e; taken = [] }) followed.capture.progress followed.capture.pending []) limit taken) in
+    let taken : HasTaken followed.capture.limit followed.capture.progress followed.capture.pending [] = subst (λ (f : Option Fault). HasReadTo followed.capture f []) fault read in
+    let begun = subst (λ (e : Extent). HasTaken e followed.capture.progress followed.capture.pending []) limit taken in
+    let none : begun.leads.gathered.made ≡ [] = unread _ followed.capture.progress followed.capture.pending begun in
     record {
-      read = begun.read;
+      read = begun;
       no_fault = fault;
       limit = limit;
       wanted = wanted;
       events_are = events_are;
       sound = sound;
-      has_heard = subst (λ (t : List (Telling Speaker)). HasHeard events begun.read.leads.gathered.made t followed.follower.hearing) (sym told)
-          (subst (λ (m : List Made). HasHeard events m [] followed.follower.hearing) (sym begun.made) heard);
+      has_heard = subst (λ (t : List (Telling Speaker)). HasHeard events begun.leads.gathered.made t followed.follower.hearing) (sym told)
+          (subst (λ (m : List Made). HasHeard events m [] followed.follower.hearing) (sym none) heard);
     }

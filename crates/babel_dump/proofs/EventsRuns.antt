@@ -5,8 +5,8 @@ use Rattle.std.specs.List.Sorted.{IsStrictlySortedBy}
 use Rattle.std.proofs.lemmas.List.{append-nil, map-append}
 use Rattle.babel_capture.specs.declared.tallies.Origin.{Origin}
 use Rattle.babel_capture.specs.Counts.{Made}
-use Rattle.babel_capture.specs.Findings.{Found, passed, untold, left, refused, lacked, found}
-use Rattle.babel_capture.specs.Gathering.{octets_found, origin_found}
+use Rattle.babel_capture.specs.Findings.{Found, passed, untold, left, refused, found}
+use Rattle.babel_capture.specs.Findings.{octets_found, origin_found}
 use Rattle.babel_capture.specs.Times.{time_of}
 use Rattle.babel_timeline.specs.declared.change.Change.{Change}
 use Rattle.babel_timeline.specs.declared.telling.Telling.{Telling}
@@ -44,7 +44,6 @@ says_nothing events time passed none = refl
 says_nothing events time untold none = refl
 says_nothing events time (left reason missed) none = refl
 says_nothing events time (refused lack) none = refl
-says_nothing events time (lacked place sender lack) none = refl
 says_nothing events time (found place sender packet has_trailer) none = absurd (let origin : Origin = record { place = place; sender = sender } in let bad : None ≡ Some origin = none in cc)
 
 pub says_packet : (events : Events) (time : ℕ) (what : Found) (origin : Origin) (packet : List ℕ) (said : List (Said Speaker)) → Some origin ≡ origin_found what → packet ≡ octets_found what
@@ -53,7 +52,6 @@ says_packet events time passed origin packet said is octets is_said = absurd (le
 says_packet events time untold origin packet said is octets is_said = absurd (let bad : Some origin ≡ None = is in cc)
 says_packet events time (left reason missed) origin packet said is octets is_said = absurd (let bad : Some origin ≡ None = is in cc)
 says_packet events time (refused lack) origin packet said is octets is_said = absurd (let bad : Some origin ≡ None = is in cc)
-says_packet events time (lacked place sender lack) origin packet said is octets is_said = absurd (let bad : Some origin ≡ None = is in cc)
 says_packet events time (found place sender found_octets has_trailer) origin packet said is octets is_said =
     let own : Origin = record { place = place; sender = sender } in
     let some : Some origin ≡ Some own = is in

@@ -4,9 +4,10 @@ use Rattle.std.specs.Prelude.{filter, cond}
 use Rattle.babel_tlv.specs.Pair.{Pair}
 use Rattle.babel_tlv.specs.Views.{keeps_all}
 use Rattle.babel_tlv.specs.declared.view.View.{View}
-use Rattle.babel_dump.specs.Command.{ListsPairs, Shows}
+use Rattle.babel_table.specs.Bounds.{Bounds}
+use Rattle.babel_table.specs.Rows.{Routes}
+use Rattle.babel_dump.specs.Command.{ListsPairs, Tells}
 use Rattle.babel_dump.specs.Filter.{is_kept, keeps_every, kept_pairs_in, kept_rows}
-use Rattle.babel_dump.specs.Given.{Input}
 use Rattle.babel_dump.specs.InFormat.{pairs_in, pairs_or_counts_in, report_in, show_in}
 use Rattle.babel_dump.specs.Summary.{shown_in}
 use Rattle.babel_dump.specs.declared.filter.Filter.{Filter}
@@ -33,23 +34,23 @@ pub fits : (asked : Filter) (all so_far left rest : List Pair) (row : Pair) → 
 fits asked all so_far left rest row whole is small =
     omega (arith, filter_few (is_kept asked) so_far, length-append so_far left, ap length whole, ap length is, small)
 
--- what is written by the filter that asks for nothing is what was written without one
-pub lists_every : (reader : Input) (view : View) (count : Bool) (format : Format) (text : List ℕ) (outcome : Outcome)
-    → ListsPairs reader view (kept_pairs_in format view keeps_every count) text outcome → ListsPairs reader view (pairs_or_counts_in format view count) text outcome
-lists_every reader view count format text outcome says = record {
-  table = says.table;
+-- what is found by the filter that asks for nothing is what is found without one
+pub lists_every : (limits : Bounds) (view : View) (count : Bool) (format : Format) (table : Routes) (text : List ℕ) (outcome : Outcome)
+    → ListsPairs limits view (kept_pairs_in format view keeps_every count) table text outcome → ListsPairs limits view (pairs_or_counts_in format view count) table text outcome
+lists_every limits view count format table text outcome says = record {
   canon = says.canon;
-  gave = says.gave;
-  text_is = says.text_is ∙ ap (λ (l : List Pair). pairs_or_counts_in format view count l (kept_rows keeps_every says.canon.pairs)) (every_kept says.table.rows)
-      ∙ ap (pairs_or_counts_in format view count says.table.rows) (every_kept says.canon.pairs);
-  outcome_is = says.outcome_is;
+  is_canon = says.is_canon;
+  fewest = says.fewest;
+  tells = record {
+    text_is = says.tells.text_is ∙ ap (λ (l : List Pair). pairs_or_counts_in format view count l (kept_rows keeps_every says.canon.pairs)) (every_kept table.rows)
+        ∙ ap (pairs_or_counts_in format view count table.rows) (every_kept says.canon.pairs);
+    outcome_is = says.tells.outcome_is;
+  };
 }
 
-pub shows_every : (reader : Input) (format : Format) (text : List ℕ) (outcome : Outcome)
-    → Shows reader (shown_in format keeps_every false false) text outcome → Shows reader (show_in format) text outcome
-shows_every reader format text outcome says = record {
-  table = says.table;
-  gave = says.gave;
-  text_is = says.text_is ∙ ap (λ (l : List Pair). pairs_in format keeps_all l ++ report_in format says.table.report) (every_kept says.table.rows);
+pub shows_every : (format : Format) (table : Routes) (text : List ℕ) (outcome : Outcome) → Tells table.report (shown_in format keeps_every false false table) 0 text outcome
+    → Tells table.report (show_in format table) 0 text outcome
+shows_every format table text outcome says = record {
+  text_is = says.text_is ∙ ap (λ (l : List Pair). pairs_in format keeps_all l ++ report_in format table.report) (every_kept table.rows);
   outcome_is = says.outcome_is;
 }

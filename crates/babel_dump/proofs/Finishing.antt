@@ -1,23 +1,25 @@
 -- A run that finished wrote what was found, or answered why nothing was found.
-use Rattle.std.proofs.Common.{◌≡◌, ℕ, Bool, true, false, List, Option, None, Some, Result, Ok, Err, arith, ap, sym, subst, refl, inl, inr}
-use Rattle.std.proofs.lemmas.Result.{IfOk-weaker}
+use Rattle.std.proofs.Common.{ℕ, List, Option, None, Some, Result, Ok, Err, arith, ap, sym, subst, refl, inl, inr}
+use Rattle.std.proofs.lemmas.Result.{IfErr-weaker}
 use Rattle.std.specs.Prelude.{IfOk, IfErr}
-use Rattle.babel_dump.specs.Command.{CompareCause}
-use Rattle.babel_dump.specs.Device.{AppendsPrefix}
-use Rattle.babel_dump.specs.Given.{Input, Reads}
+use Rattle.babel_dump.specs.Command.{CompareCause, IsFaultWith, SaysOf}
+use Rattle.babel_dump.specs.Given.{Input, IsFaultOfGiven, Reads}
 use Rattle.babel_dump.specs.JobRun.{CauseBy, OtherCalled, RanJob, other_calls}
 use Rattle.babel_dump.specs.Parts.{FoundBy, Gathered, Says}
-use Rattle.babel_dump.specs.Run.{Called, Calls, OfFirst, OfStatus, Output, Ran, RanAlone, UnlessWrite, calls_of, run_status}
+use Rattle.babel_dump.specs.Run.{Called, Calls, InputCause, OfFirst, OfStatus, Output, Ran, RanAlone, UnlessWrite, calls_of, run_status}
 use Rattle.babel_dump.specs.SlicedRows.{Finished, found_text}
-use Rattle.babel_dump.specs.Tasks.{ComparisonCause, finds_all}
+use Rattle.babel_table.specs.Rows.{Routes}
+use Rattle.babel_tlv.specs.declared.fault.Fault.{Fault}
 use Rattle.babel_tlv.specs.declared.view.View.{View}
 use Rattle.babel_dump.specs.declared.input_fault.InputFault.{InputFault}
+use Rattle.babel_dump.specs.declared.input_fault.InputFault.TheVariants as input_faults
 use Rattle.babel_dump.specs.declared.job.Job.{Job}
 use Rattle.babel_dump.specs.declared.job.Work.{Work}
 use Rattle.babel_dump.specs.declared.job.Work.TheVariants as works
 use Rattle.babel_dump.specs.declared.outcome.Outcome.{Outcome}
 use Rattle.babel_dump.specs.declared.run_fault.RunFault.{RunFault}
 use Rattle.babel_dump.specs.declared.run_fault.RunFault.TheVariants as run_faults
+use Rattle.babel_dump.specs.declared.run_fault.Side.TheVariants as sides
 use Rattle.babel_dump.specs.declared.slices.Found.{Found}
 
 -- no write failed where a fault has a cause that a failed write has not
@@ -69,13 +71,11 @@ called calls writer (Ok found) (Err fault) of_found finished =
 called calls writer (Err fault) result of_found finished =
     rw finished.0 (record { no_failure = tt; reads = of_found.reads; failures = of_found.failures; ends = of_found.ends })
 
--- a prefix of a text that an outcome is said in is one that its status is said in
-of_statuses : (writer : Output) (Holds : List ℕ → Outcome → Type 0) (fault : RunFault)
-    → UnlessWrite fault (writer.new ≡ writer.old) ((text : List ℕ) × (outcome : Outcome) × Holds text outcome × AppendsPrefix writer.old.taken writer.new.taken text)
-    → UnlessWrite fault (writer.new ≡ writer.old) ((text : List ℕ) × (status : ℕ) × OfStatus Holds text status × AppendsPrefix writer.old.taken writer.new.taken text)
-of_statuses writer Holds (run_faults.Input side fault) same = same
-of_statuses writer Holds (run_faults.Pairs fault) same = same
-of_statuses writer Holds run_faults.Write (text, outcome, says, prefix) = (text, outcome.status, (outcome, says, refl), prefix)
+-- what is known of a fault is known of it in weaker words
+unless_weaker : (fault : RunFault) {P Q R S : Type 0} → (P → Q) → (R → S) → UnlessWrite fault P R → UnlessWrite fault Q S
+unless_weaker (run_faults.Input side fault) weaker at_write = weaker
+unless_weaker (run_faults.Pairs fault) weaker at_write = weaker
+unless_weaker run_faults.Write weaker at_write = at_write
 
 -- the same of the status alone
 pub ran_status : (writer : Output) (Cause : RunFault → Type 0) (Holds : List ℕ → Outcome → Type 0) (result : Result Outcome RunFault)
@@ -94,7 +94,7 @@ ran_status writer Cause Holds (Err fault) run = record {
   flushed = tt;
   no_failure = tt;
   cause = run.cause;
-  prefix = of_statuses writer Holds fault run.prefix;
+  prefix = unless_weaker fault (λ same. same) (λ (text, outcome, says, prefix). (text, outcome.status, (outcome, says, refl), prefix)) run.prefix;
   one_failure = run.one_failure;
   one_flush = run.one_flush;
 }
@@ -103,13 +103,27 @@ pub called_status : (calls : Calls) (result : Result Outcome RunFault) → Calle
 called_status calls (Ok outcome) run = record { no_failure = run.no_failure; reads = run.reads; failures = run.failures; ends = run.ends }
 called_status calls (Err fault) run = record { no_failure = tt; reads = run.reads; failures = run.failures; ends = run.ends }
 
--- what was found says more
-pub says_weaker : (calls : Calls) (Cause : RunFault → Type 0) (Holds Others : List ℕ → Outcome → Type 0) (found : Result Found RunFault)
-    → ((text : List ℕ) (outcome : Outcome) → Holds text outcome → Others text outcome) → Gathered calls Cause (Says Holds) found → Gathered calls Cause (Says Others) found
-says_weaker calls Cause Holds Others found weaker gathered = record {
-  made = IfOk-weaker found (Says Holds) (Says Others) (λ f. weaker (found_text f) f.outcome) gathered.made;
-  cause = gathered.cause;
-  called = gathered.called;
+-- what a run promises, in weaker words
+ran_weaker : {A : Type 0} (writer : Output) (Cause Causes : RunFault → Type 0) (Holds Others : List ℕ → A → Type 0) (result : Result A RunFault)
+    → ((fault : RunFault) → Cause fault → Causes fault) → ((text : List ℕ) (answer : A) → Holds text answer → Others text answer)
+    → Ran writer Cause Holds result → Ran writer Causes Others result
+ran_weaker writer Cause Causes Holds Others (Ok answer) causes says run = record {
+  wrote = (run.wrote.0, says _ answer run.wrote.1, run.wrote.2);
+  flushed = run.flushed;
+  no_failure = run.no_failure;
+  cause = tt;
+  prefix = tt;
+  one_failure = run.one_failure;
+  one_flush = run.one_flush;
+}
+ran_weaker writer Cause Causes Holds Others (Err fault) causes says run = record {
+  wrote = tt;
+  flushed = tt;
+  no_failure = tt;
+  cause = unless_weaker fault (causes fault) (λ failed. failed) run.cause;
+  prefix = unless_weaker fault (λ same. same) (λ (text, answer, holds, prefix). (text, answer, says text answer holds, prefix)) run.prefix;
+  one_failure = run.one_failure;
+  one_flush = run.one_flush;
 }
 
 -- a run over one dump, whose status is answered alone
@@ -121,22 +135,54 @@ ran_alone reader writer Cause Holds found result gathered finished = (
   called_status _ result (called _ writer found result gathered.called finished),
 )
 
--- a comparison's fault is not that of a write
-pub not_compared : (reader other : Input) (untouched : Type 0) → CompareCause reader other untouched run_faults.Write → ⊥
-not_compared reader other untouched (inl cause) = cause
-not_compared reader other untouched (inr (memory, sound, other_sound)) = absurd cc
+-- a cause in weaker words
+pub cause_weaker : (reader : Input) (P Q : Fault → Type 0) → ((fault : Fault) → P fault → Q fault) → (fault : InputFault) → InputCause reader P fault → InputCause reader Q fault
+cause_weaker reader P Q weaker input_faults.Read cause = cause
+cause_weaker reader P Q weaker (input_faults.Dump fault) cause = λ not_memory. weaker fault (cause not_memory)
+cause_weaker reader P Q weaker fault cause = cause
 
-not_found : (all : Bool) (view : View) (reader other : Input) (untouched : Type 0) → ComparisonCause all view reader other untouched run_faults.Write → ⊥
-not_found false view reader other untouched cause = not_compared reader other untouched cause
-not_found true view reader other untouched (inl cause) = not_compared reader other untouched cause
-not_found true view reader other untouched (inr (many, have)) = absurd cc
+first_weaker : (reader : Input) (P Q : Fault → Type 0) → ((fault : Fault) → P fault → Q fault) → (fault : RunFault) → OfFirst (InputCause reader P) fault
+    → OfFirst (InputCause reader Q) fault
+first_weaker reader P Q weaker (run_faults.Input sides.First fault) cause = cause_weaker reader P Q weaker fault cause
+first_weaker reader P Q weaker (run_faults.Input sides.Other fault) cause = cause
+first_weaker reader P Q weaker (run_faults.Pairs fault) cause = cause
+first_weaker reader P Q weaker run_faults.Write cause = cause
+
+-- a fault of what a reader gave is one of a task
+pub given_weaker : (reader : Input) (Many : Routes → Type 0) (calls : Calls) (Made : Found → Type 0) (found : Result Found RunFault)
+    → Gathered calls (OfFirst (InputCause reader (IsFaultOfGiven reader))) Made found → Gathered calls (OfFirst (InputCause reader (IsFaultWith reader Many))) Made found
+given_weaker reader Many calls Made found gathered = record {
+  made = gathered.made;
+  cause = IfErr-weaker found _ _ (first_weaker reader _ _ (λ fault given. inl given)) gathered.cause;
+  called = gathered.called;
+}
+
+-- and of one that refuses no table it is that
+pub only_given : (reader : Input) (fault : Fault) → IsFaultWith reader (λ table. ⊥) fault → IsFaultOfGiven reader fault
+only_given reader fault (inl given) = given
+only_given reader fault (inr (many, never)) = absurd never.holds
+
+pub alone_weaker : (reader : Input) (writer : Output) (P Q : Fault → Type 0) (Finds Others : Routes → List ℕ → Outcome → Type 0) (result : Result ℕ RunFault)
+    → ((fault : Fault) → P fault → Q fault) → ((table : Routes) (text : List ℕ) (outcome : Outcome) → Finds table text outcome → Others table text outcome)
+    → RanAlone reader (InputCause reader P) writer (SaysOf reader Finds) result → RanAlone reader (InputCause reader Q) writer (SaysOf reader Others) result
+alone_weaker reader writer P Q Finds Others result causes finds (run, called) = (
+  ran_weaker writer _ _ _ _ result (first_weaker reader P Q causes)
+      (λ text status says. (says.0, record { table = says.1.table; gave = says.1.gave; holds = finds _ text says.0 says.1.holds }, says.2)) run,
+  called,
+)
+
+-- a comparison's fault is not that of a write
+pub not_compared : (reader other : Input) (view : View) (Many : Routes → Routes → Type 0) (untouched : Type 0) → CompareCause reader other view Many untouched run_faults.Write → ⊥
+not_compared reader other view Many untouched (inl cause) = cause
+not_compared reader other view Many untouched (inr (inl (memory, gave))) = cc
+not_compared reader other view Many untouched (inr (inr (many, gave))) = cc
 
 -- a job's fault is not that of a write
 no_write : (work : Work) (reader other : Reads) (untouched : Type 0) → CauseBy work reader other untouched run_faults.Write → ⊥
 no_write (works.Dump source task) reader other untouched cause = cause
 no_write (works.Each source pairs) reader other untouched (inl (refuses, unread)) = absurd cc
 no_write (works.Each source pairs) reader other untouched (inr (asked, no_failure, cause)) = cause
-no_write (works.Two first second view task) reader other untouched cause = not_found (finds_all task) view _ _ untouched cause
+no_write (works.Two first second view task) reader other untouched cause = not_compared _ _ view _ untouched cause
 no_write (works.Capture reading file task) reader other untouched cause = cause
 
 other_called : (calls : Option Calls) (untouched : Type 0) (writer : Output) (found : Result Found RunFault) (result : Result Outcome RunFault)

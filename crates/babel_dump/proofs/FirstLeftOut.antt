@@ -13,11 +13,10 @@ use Rattle.babel_capture.specs.declared.wanted.Wanted.{Wanted}
 use Rattle.babel_capture.specs.Blocks.{BlockAt, sightings_behind, sightings_in}
 use Rattle.babel_capture.specs.Contents.{Content, file, section, describes, holds, skips, nothing}
 use Rattle.babel_capture.specs.Counts.{Counts, Made, all_reasons, count_at, counts_of, is_left_for, left_for, reason_place}
-use Rattle.babel_capture.specs.Findings.{Found, passed, untold, left, refused, lacked, found}
-use Rattle.babel_capture.specs.Gathering.{AreMade, Gathering}
-use Rattle.babel_capture.specs.Window.{Extent}
-use Rattle.babel_dump.specs.CaptureGiven.{IsReadSo, extent_of}
-use Rattle.babel_dump.specs.FirstLeftOut.{IsFirstLeftOut, IsLeftFor, NoneIsLeftOut, RefusedIsFirst, made_of}
+use Rattle.babel_capture.specs.Findings.{Found, passed, untold, left, refused, found}
+use Rattle.babel_capture.specs.Gathering.{AreMade}
+use Rattle.babel_dump.specs.CaptureGiven.{made_in}
+use Rattle.babel_dump.specs.FirstLeftOut.{IsFirstLeftOut, IsLeftFor, NoneIsLeftOut, RefusedIsFirst}
 use Rattle.babel_dump.specs.LeftOut.{first_among, first_counted, left_out_for, sooner}
 use Rattle.babel_dump.specs.declared.left_out.LeftOutDatagram.{LeftOutDatagram}
 use Rattle.babel_dump.proofs.LeftOutLaws.{none_among}
@@ -79,7 +78,6 @@ for_is reason (left other missed) is = (missed, ap (λ (r : Reason). left r miss
 for_is reason passed is = absurd cc
 for_is reason untold is = absurd cc
 for_is reason (refused lack) is = absurd cc
-for_is reason (lacked place sender lack) is = absurd cc
 for_is reason (found place sender packet has_trailer) is = absurd cc
 
 -- the numbers of packets rise from one after this
@@ -206,16 +204,6 @@ rises_in wanted count (block ∷ blocks) made are = by (λ n m a. rises_in wante
         let next : RisesFrom one.number others = subst (λ (n : ℕ). RisesFrom n others) (sym number) (again (count + 1) others later) in
         subst (RisesFrom count) (sym is) (omega (arith, number), next)
 
-rises_of : (accept_cut : Bool) (limit : Extent) (octets : List ℕ) (gathering : Gathering) (cut : Option ℕ) (read : IsReadSo accept_cut limit octets gathering cut)
-    → RisesFrom 0 (made_of accept_cut limit octets gathering cut read)
-rises_of false limit octets gathering cut read = rises_in gathering.wanted 0 read.0.blocks read.0.gathered.made read.0.gathered.taken.are_made
-rises_of true limit octets gathering cut read = rises_in gathering.wanted 0 read.is_read.blocks read.is_read.gathered.made read.is_read.gathered.taken.are_made
-
-counted_in : (accept_cut : Bool) (limit : Extent) (octets : List ℕ) (gathering : Gathering) (cut : Option ℕ) (read : IsReadSo accept_cut limit octets gathering cut)
-    → gathering.report ≡ counts_of (made_of accept_cut limit octets gathering cut read)
-counted_in false limit octets gathering cut read = read.0.gathered.report
-counted_in true limit octets gathering cut read = read.is_read.gathered.report
-
 -- ---- the laws
 
 -- how many, and the number of the first
@@ -267,8 +255,6 @@ first_of made datagram rises least = by (find (tests_for least.reason) made) ref
 
 pub refused_is_first : RefusedIsFirst
 refused_is_first reader datagram gave =
-    let read = gave.given.is_read in
-    let made = made_of reader.reading.accept_cut (extent_of reader.reading) gave.given.octets gave.gathering gave.cut read in
-    let counted : gave.gathering.report ≡ counts_of made = counted_in reader.reading.accept_cut (extent_of reader.reading) gave.given.octets gave.gathering gave.cut read in
-    first_of made datagram (rises_of reader.reading.accept_cut (extent_of reader.reading) gave.given.octets gave.gathering gave.cut read)
-    (is_least (counts_of made) all_reasons datagram (sym (ap (λ (c : Counts). first_among c all_reasons) counted) ∙ gave.first))
+    let read = gave.given.is_read.is_read in
+    first_of (made_in gave.given) datagram (rises_in gave.gathering.wanted 0 read.blocks (made_in gave.given) read.gathered.taken.are_made)
+    (is_least (counts_of (made_in gave.given)) all_reasons datagram (sym (ap (λ (c : Counts). first_among c all_reasons) read.gathered.report) ∙ gave.first))

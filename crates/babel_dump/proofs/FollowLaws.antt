@@ -3,15 +3,16 @@ use Rattle.std.proofs.Common.{◌≡◌, ℕ, ◌+◌, List, ◌++◌, length, s
 use Rattle.babel_capture.specs.Blocks.{BlockAt, IsPartial, context_behind, octets_of, sightings_of, start}
 use Rattle.babel_capture.specs.Capture.{IsReadToCut}
 use Rattle.babel_capture.specs.Context.{Before}
-use Rattle.babel_capture.specs.Gathering.{AreMade, with_taken}
+use Rattle.babel_capture.specs.Gathering.{AreMade, Gathering}
 use Rattle.babel_capture.specs.Reading.{HasTaken, Progress}
 use Rattle.babel_capture.specs.Window.{Extent}
+use Rattle.babel_capture.specs.declared.wanted.Wanted.{Wanted}
 use Rattle.babel_capture.proofs.OneCapture.{blocks_one, made_one}
 
-pub same_made : (extent : Extent) (taken fed : List ℕ) (progress : Progress) (pending : List ℕ) (cut : Option ℕ) → (was : HasTaken (record { limit = extent; taken = taken }) progress pending fed)
-    → (is : IsReadToCut extent fed (with_taken taken progress.gathering) cut)
+pub same_made : (extent : Extent) (fed : List ℕ) (progress : Progress) (pending : List ℕ) (gathering : Gathering) (cut : Option ℕ) → gathering.wanted ≡ progress.gathering.wanted
+    → (was : HasTaken extent progress pending fed) → (is : IsReadToCut extent fed gathering cut)
     → (is.is_read.blocks ≡ was.leads.blocks) × (is.is_read.gathered.made ≡ was.leads.gathered.made)
-same_made extent taken fed progress pending cut was is = by blocks
+same_made extent fed progress pending gathering cut wanted was is = by blocks
   where
     partial : IsPartial (context_behind (start extent) was.leads.blocks) (0 + length (octets_of was.leads.blocks)) was.rest
     partial = subst (λ (n : ℕ). IsPartial (context_behind (start extent) was.leads.blocks) n was.rest) (omega (arith, was.leads.place, ap length was.leads.whole))
@@ -27,6 +28,7 @@ same_made extent taken fed progress pending cut was is = by blocks
     by : (is.is_read.blocks ≡ was.leads.blocks) × (is.rest ≡ was.rest) → (is.is_read.blocks ≡ was.leads.blocks) × (is.is_read.gathered.made ≡ was.leads.gathered.made)
     by (same, rest) = (
       same,
-      made_one progress.gathering.wanted (sightings_of is.is_read.blocks) is.is_read.gathered.made was.leads.gathered.made is.is_read.gathered.taken.are_made
+      made_one progress.gathering.wanted (sightings_of is.is_read.blocks) is.is_read.gathered.made was.leads.gathered.made
+          (subst (λ (w : Wanted). AreMade w (sightings_of is.is_read.blocks) is.is_read.gathered.made) wanted is.is_read.gathered.taken.are_made)
           (subst (λ (bs : List BlockAt). AreMade progress.gathering.wanted (sightings_of bs) was.leads.gathered.made) (sym same) was.leads.gathered.taken.are_made),
     )

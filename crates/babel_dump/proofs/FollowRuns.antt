@@ -10,10 +10,10 @@ use Rattle.babel_dump.specs.EventsRun.{AreLines, TellsEvents, WroteLines}
 use Rattle.babel_dump.specs.Followed.{Ends, Goes, HasFollowed, IsFollowed}
 use Rattle.babel_dump.specs.Run.{Output, output}
 use Rattle.babel_dump.specs.declared.events.Followed.{Followed}
-use Rattle.babel_dump.specs.declared.events_fault.EventsFault.{EventsFault}
 use Rattle.babel_dump.specs.declared.events_job.Events.{Events}
 use Rattle.babel_dump.specs.declared.events_outcome.EventsOutcome.{EventsOutcome}
 use Rattle.babel_dump.specs.declared.speaker.Speaker.{Speaker}
+use Rattle.babel_dump.specs.declared.trouble.Trouble.{Trouble}
 use Rattle.babel_dump.proofs.Devices.{gave_itself, gave_more, gave_none}
 
 -- ---- lines
@@ -88,7 +88,7 @@ followed_whole events followed a b c writer buf so_far gave spent met = record {
 -- ---- the run
 
 -- it was followed to its end, and ended
-pub followed_ended : (events : Events) (followed : Followed) (a b : InputState) (u v w : OutputState) (result : Result EventsOutcome EventsFault) → HasFollowed events a b (output u v) followed
+pub followed_ended : (events : Events) (followed : Followed) (a b : InputState) (u v w : OutputState) (result : Result EventsOutcome Trouble) → HasFollowed events a b (output u v) followed
     → IfOk result (λ answer. (fed : List ℕ) (told : List (Telling Speaker)) → IsFollowed events fed told followed → Ends events fed told (output v w) answer)
     → IfOk result (TellsEvents events a b (output u w))
 followed_ended events followed a b u v w (Err fault) has ends = tt

@@ -20,8 +20,8 @@ use Rattle.babel_prefix.proofs.Insertion.{equal_of, lookup-insert}
 use Rattle.babel_capture.specs.declared.missed.Missed.{Missed}
 use Rattle.babel_capture.specs.declared.tallies.Origin.{Origin}
 use Rattle.babel_capture.specs.Counts.{Made}
-use Rattle.babel_capture.specs.Gathering.{missed_in}
-use Rattle.babel_capture.specs.Gathering.{octets_found, origin_found}
+use Rattle.babel_capture.specs.Findings.{missed_in}
+use Rattle.babel_capture.specs.Findings.{octets_found, origin_found}
 use Rattle.babel_capture.specs.Times.{time_of}
 use Rattle.babel_tlv.specs.declared.start.Start.{Start}
 use Rattle.babel_tlv.specs.Framing.{ArePlaced, TlvAt, packet_octets}

@@ -1,11 +1,9 @@
 -- Steps, of which something comes, or a fault: where one thing comes of each, one comes of all.
-use Rattle.std.proofs.Common.{◌≡◌, ◌≤◌, ◌<◌, ◌⊎◌, Bool, true, List, length, Result, Ok, Err, arith, ap, inl, inr}
-use Rattle.babel_dump.specs.Command.{IsOfMany}
+use Rattle.std.proofs.Common.{◌≡◌, ◌⊎◌, Bool, true, Result, Ok, Err, ap, inl, inr}
 use Rattle.babel_dump.specs.declared.input_fault.InputFault.{InputFault}
 use Rattle.babel_dump.specs.declared.run_fault.RunFault.TheVariants as run_faults
 use Rattle.babel_dump.specs.declared.run_fault.RunFault.{RunFault}
 use Rattle.babel_dump.specs.declared.run_fault.Side.{Side}
-use Rattle.babel_table.specs.Bounds.{Bounds}
 
 abbrev pub IsOne : {A E : Type 0} → (Result A E → Type 0) → Type 0
 IsOne {A} {E} Comes = (x y : Result A E) → Comes x → Comes y → x ≡ y
@@ -44,17 +42,6 @@ checked_one a strict never one (Ok x) (Ok y) is is_too = let left = is.0 in let 
 checked_one a strict never one (Ok x) (Err f) is is_too = absurd (never f (is.1 is_too.0) is_too.1)
 checked_one a strict never one (Err e) (Ok y) is is_too = absurd (never e (is_too.1 is.0) is.1)
 checked_one a strict never one (Err e) (Err f) is is_too = ap (λ g. Err g) (one e f is.1 is_too.1)
-
--- a list that is no longer than the limit
-abbrev pub Few : {A : Type 0} → (List A → Type 0) → Bounds → Result (List A) RunFault → Type 0
-Few Are limits (Ok list) = Are list × (length list ≤ limits.entries)
-Few {A} Are limits (Err fault) = IsOfMany fault × ((list : List A) × Are list × (limits.entries < length list))
-
-pub few_one : {A : Type 0} {Are : List A → Type 0} (limits : Bounds) → ((x y : List A) → Are x → Are y → x ≡ y) → IsOne (Few Are limits)
-few_one limits one (Ok x) (Ok y) (are, few) (are_too, few_too) = ap (λ l. Ok l) (one x y are are_too)
-few_one {A} limits one (Ok x) (Err f) (are, few) (is, (y, are_too, many)) = let same = ap (λ (l : List A). length l) (one x y are are_too) in absurd (omega (arith, same, few, many))
-few_one {A} limits one (Err e) (Ok y) (is, (x, are, many)) (are_too, few) = let same = ap (λ (l : List A). length l) (one x y are are_too) in absurd (omega (arith, same, few, many))
-few_one limits one (Err e) (Err f) (is, many) (is_too, many_too) = cc
 
 -- of the input on a side
 abbrev pub At : {A : Type 0} → Side → (Result A InputFault → Type 0) → Result A RunFault → Type 0

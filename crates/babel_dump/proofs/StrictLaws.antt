@@ -1,5 +1,5 @@
 -- What strict reading refuses is refused with one fault.
-use Rattle.std.proofs.Common.{◌≡◌, refl, sym, ◌∙◌, Bool, true, ℕ, zero, suc, Option, None, Some}
+use Rattle.std.proofs.Common.{◌≡◌, refl, sym, ◌∙◌, Bool, true, ℕ, zero, suc, Option, None, Some, inl}
 use Rattle.babel_table.specs.Counts.{Counts}
 use Rattle.babel_table.specs.Rows.{Routes}
 use Rattle.babel_tlv.specs.declared.fault.Fault.{Fault}
@@ -38,13 +38,13 @@ not_whole_is left_out report (input_faults.NoPackets absence) is = absurd is
 not_whole_is left_out report input_faults.Read is = absurd is
 
 -- it is what reading a dump is refused for
-pub unread_cause : (reader : Input) (Refuses : Fault → Type 0) (table : Routes) (fault : InputFault) → GaveDump reader table → reader.reading.strict ≡ true
-    → IsNotReadWhole reader.new.left_out table.report fault → InputCause reader Refuses fault
+pub unread_cause : (reader : Input) (Refuses : Fault → Type 0) (table : Routes) (fault : InputFault) (given : GaveDump reader table) → reader.reading.strict ≡ true
+    → IsNotReadWhole given.dump.left_out table.report fault → InputCause reader Refuses fault
 unread_cause reader Refuses table (input_faults.Dump fault) gave strict is = absurd is
-unread_cause reader Refuses table (input_faults.Ignored tlv ignores_4) gave strict is = record { table = table; given = gave; strict = strict; unread = is }
+unread_cause reader Refuses table (input_faults.Ignored tlv ignores_4) gave strict is = inl (record { table = table; given = gave; strict = strict; unread = is })
 unread_cause reader Refuses table (input_faults.Capture fault) gave strict is = absurd is
-unread_cause reader Refuses table (input_faults.LeftOut datagram) gave strict is = record { table = table; given = gave; strict = strict; unread = is }
-unread_cause reader Refuses table input_faults.NoUpdates gave strict is = record { table = table; given = gave; strict = strict; unread = is }
+unread_cause reader Refuses table (input_faults.LeftOut datagram) gave strict is = inl (record { table = table; given = gave; strict = strict; unread = is })
+unread_cause reader Refuses table input_faults.NoUpdates gave strict is = inl (record { table = table; given = gave; strict = strict; unread = is })
 unread_cause reader Refuses table (input_faults.SeveralInterfaces interfaces) gave strict is = absurd is
 unread_cause reader Refuses table (input_faults.NoPackets absence) gave strict is = absurd is
 unread_cause reader Refuses table input_faults.Read gave strict is = absurd is

@@ -4,11 +4,11 @@ use Rattle.std.specs.Prelude.{Bool, true, false, IfSome, if◌then◌else◌, Re
 use Rattle.std.specs.declared.cmp.Ordering.{Ordering}
 use Rattle.babel_capture.specs.declared.fault.Fault.{Fault}
 use Rattle.babel_capture.specs.Blocks.{context_behind, start}
-use Rattle.babel_capture.specs.Capture.{HasGiven, HasGivenTo, IsReadToCut, State}
+use Rattle.babel_capture.specs.Capture.{HasRead, HasReadTo, IsReadToCut, State}
 use Rattle.babel_capture.specs.Capture.{moment_read as moment_of}
 use Rattle.babel_capture.specs.Context.{Before}
 use Rattle.babel_capture.specs.Counts.{Made}
-use Rattle.babel_capture.specs.Gathering.{Gathering, with_taken}
+use Rattle.babel_capture.specs.Gathering.{Gathering}
 use Rattle.babel_capture.specs.Reading.{HasTaken}
 use Rattle.babel_capture.specs.Sinking.{FeedMore, Sinks}
 use Rattle.babel_capture.specs.Window.{Extent, moment_up_to}
@@ -38,11 +38,9 @@ Tellings = List (Telling Speaker)
 
 -- ---- what a capture was given
 
-given_of : (state : State) (extent : Extent) (taken fed : List ℕ) → state.fault ≡ None → state.limit ≡ extent
-    → HasTaken (record { limit = extent; taken = taken }) state.progress state.pending fed → HasGiven state taken fed
-given_of state extent taken fed none limit read =
-    subst (λ (f : Option Fault). HasGivenTo state taken f fed) (sym none)
-    (subst (λ (e : Extent). HasTaken (record { limit = e; taken = taken }) state.progress state.pending fed) (sym limit) read)
+given_of : (state : State) (extent : Extent) (fed : List ℕ) → state.fault ≡ None → state.limit ≡ extent → HasTaken extent state.progress state.pending fed → HasRead state fed
+given_of state extent fed none limit read =
+    subst (λ (f : Option Fault). HasReadTo state f fed) (sym none) (subst (λ (e : Extent). HasTaken e state.progress state.pending fed) (sym limit) read)
 
 -- ---- more of it
 
@@ -53,7 +51,7 @@ follows_none follower =
 
 -- how far a capture was followed, where this is all that was told
 record IsFollowedBy (events : Events) (fed : List ℕ) (all : Tellings) (capture : State) (hearing : Hearing) : Type 0 where
-  read : HasTaken (record { limit = followed_extent events; taken = [] }) capture.progress capture.pending fed
+  read : HasTaken (followed_extent events) capture.progress capture.pending fed
   no_fault : capture.fault ≡ None
   limit : capture.limit ≡ followed_extent events
   wanted : capture.progress.gathering.wanted ≡ followed_by events
@@ -66,7 +64,7 @@ module _ (events : Events) (fed piece : List ℕ) (told : Tellings) (old : Follo
       → (follower.events.now ≡ events) × IsFollowedBy events (fed ++ piece) (told ++ follower.told.items) capture follower.hearing
   followed_by_more limit wanted none sinks sound =
       let follows = sinks.took old.follower [] (follows_none old.follower) in
-      let read = sinks.are_read (record { limit = followed_extent events; taken = [] }) fed is.read in
+      let read = sinks.are_read (followed_extent events) fed is.read in
       let made = is.read.leads.gathered.made in
       let here = old.follower.events.now in
       let was = subst (λ (e : Events). HasHeard e made (told ++ old.follower.told.items) old.follower.hearing) (sym is.events_are) is.has_heard in
@@ -138,22 +136,22 @@ when_timed false moment timed = refl
 
 pub ending : (events : Events) (fed : List ℕ) (told : Tellings) (writer : Output) (old new : Followed) (status : ℕ) (cut : Option ℕ) (answer : EventsOutcome)
     → (is : IsFollowed events fed told old)
-    → ((taken octets : List ℕ) → HasGiven old.capture taken octets → IsReadToCut old.capture.limit octets (with_taken taken old.capture.progress.gathering) cut)
+    → ((octets : List ℕ) → HasRead old.capture octets → IsReadToCut old.capture.limit octets old.capture.progress.gathering cut)
     → (events.accept_cut ≡ false → cut ≡ None) → EndsAt events (moment_of old.capture) old new → WroteLines events new.follower.told.items writer
     → status ≡ senders_status old.capture.progress.gathering.senders → IsOutcomeOf answer.outcome status old.capture.progress.gathering.report cut
     → map heard_told answer.senders.items ≡ map (sender_heard old) old.capture.progress.gathering.senders
     → Ends events fed told writer answer
 ending events fed told writer old new status cut answer is read accepted ends wrote status_is outcome_is senders =
-    by (same_made extent [] fed old.capture.progress old.capture.pending cut is.read given)
+    by (same_made extent fed old.capture.progress old.capture.pending _ cut refl is.read given)
   where
     extent : Extent
     extent = followed_extent events
 
     gathering : Gathering
-    gathering = with_taken [] old.capture.progress.gathering
+    gathering = old.capture.progress.gathering
 
     given : IsReadToCut extent fed gathering cut
-    given = subst (λ (e : Extent). IsReadToCut e fed gathering cut) is.limit (read [] fed (given_of old.capture extent [] fed is.no_fault is.limit is.read))
+    given = subst (λ (e : Extent). IsReadToCut e fed gathering cut) is.limit (read fed (given_of old.capture extent fed is.no_fault is.limit is.read))
 
     untimed : Bool
     untimed = old.capture.progress.gathering.report.timing.has_untimed

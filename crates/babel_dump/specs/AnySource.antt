@@ -8,7 +8,6 @@ use Rattle.babel_prefix.specs.Covers.{Covers}
 use Rattle.babel_tlv.specs.declared.held.Held.{Held}
 use Rattle.babel_tlv.specs.Route.{RouteKey}
 use Rattle.babel_table.specs.Rows.{Routes}
-use Rattle.babel_dump.specs.Given.{GaveTable, Input}
 use Rattle.babel_dump.specs.InFormat.{lookup_in}
 use Rattle.babel_dump.specs.RunText.{answer_in, lookup_status}
 use Rattle.babel_dump.specs.declared.format.Format.{Format}
@@ -27,12 +26,10 @@ IsSourceSpecific dst key = Covers key.dst dst × (0 < key.src.len)
 abbrev pub HasSourceSpecific : Address → List (RouteKey × Held) → Type 0
 HasSourceSpecific dst rows = Any (λ row. IsSourceSpecific dst row.0) rows
 
--- what the dump's table answers for a destination and this source; which the outcome has exactly if
--- a row for the destination is source-specific
-pub record LooksUpAnySource (reader : Input) (dst : Address) (format : Format) (text : List ℕ)
+-- what a table answers for a destination and this source; which the outcome has exactly if a row
+-- for the destination is source-specific
+pub record LooksUpAnySource (format : Format) (dst : Address) (table : Routes) (text : List ℕ)
     (outcome : Outcome) : Type 0 where
-  pub table : Routes
-  pub gave : GaveTable reader table
   pub text_is : let src = any_source dst.family in
       text ≡ lookup_in format dst src (answer_in table dst src)
   pub told : Option Address

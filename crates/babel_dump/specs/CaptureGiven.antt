@@ -1,14 +1,20 @@
 -- What readers gave, as captures. No RFC speaks of readers: these are this project's own.
-use Rattle.std.specs.Prelude.{ℕ, Bool, true, false, ◌≡◌, ◌⊎◌, List, Option, None, Some}
-use Rattle.babel_capture.specs.Capture.{EndsShort, HasRead, IsRead, IsReadToCut, State, moment_read}
-use Rattle.babel_capture.specs.Gathering.{Gathering}
-use Rattle.babel_capture.specs.Reading.{Stops}
-use Rattle.babel_capture.specs.Window.{Extent}
+use Rattle.std.specs.Prelude.{ℕ, Bool, true, false, ◌≡◌, ◌⊎◌, if◌then◌else◌, List, ◌++◌}
+use Rattle.std.specs.Prelude.{Option, None, Some}
+use Rattle.babel_capture.specs.Blocks.{AreBlocks, BlockAt, context_behind, octets_of}
+use Rattle.babel_capture.specs.Blocks.{sightings_of, start}
+use Rattle.babel_capture.specs.Capture.{EndsShort, HasRead, IsReadToCut, State}
+use Rattle.babel_capture.specs.Counts.{Made}
+use Rattle.babel_capture.specs.Gathering.{AreMade, Gathering}
+use Rattle.babel_capture.specs.Reading.{HasTaken, Stops}
+use Rattle.babel_capture.specs.Window.{Extent, moment_up_to}
 use Rattle.babel_capture.specs.declared.fault.Fault.{Fault}
 use Rattle.babel_capture.specs.declared.fault.Fault.TheVariants as faults
+use Rattle.babel_capture.specs.declared.timing.Timing.{Timing}
 use Rattle.babel_capture.specs.declared.wanted.Wanted.{Wanted}
 use Rattle.babel_dump.specs.Device.{Gave, GaveOctets, InputState}
 use Rattle.babel_dump.specs.LeftOut.{LeavesNoneOut, first_left_out}
+use Rattle.babel_dump.specs.declared.capture_input.CaptureRead.{CaptureRead}
 use Rattle.babel_dump.specs.declared.capture_reading.CaptureReading.{CaptureReading}
 use Rattle.babel_dump.specs.declared.left_out.LeftOutDatagram.{LeftOutDatagram}
 
@@ -33,33 +39,60 @@ abbrev pub extent_of : CaptureReading → Extent
 extent_of reading =
     record { octets = reading.limit; window = reading.window; to_cut = reading.accept_cut }
 
--- the octets are a capture; where a cut is accepted, its last block may be cut short, or its end
--- may be a record without octets, and this is where
-abbrev pub IsReadSo : (accept_cut : Bool) → (limit : Extent) → List ℕ → Gathering → Option ℕ
-    → Type 0
-IsReadSo false limit octets gathering cut = IsRead limit octets gathering × (cut ≡ None)
-IsReadSo true limit octets gathering cut = IsReadToCut limit octets gathering cut
+-- a capture that was read to its end is not cut short there, unless that is accepted
+abbrev pub IsAccepted : (accept_cut : Bool) → (cut : Option ℕ) → Type 0
+IsAccepted accept_cut cut = accept_cut ≡ false → cut ≡ None
 
--- the reader gave a capture, all that it had, and this is what the packets of it give, of the
--- wanted datagrams
+-- The reader gave a capture, all that it had, and this is what the packets of it give, of the
+-- wanted datagrams. Where a cut is accepted, its last block may be cut short, or its end may be a
+-- record without octets, and this is where.
 pub record GaveCapture (reader : CaptureInput) (gathering : Gathering) (cut : Option ℕ) :
     Type 0 where
   pub octets : List ℕ
   pub gave : GaveWhole reader octets
-  pub is_read : IsReadSo reader.reading.accept_cut (extent_of reader.reading) octets
-      gathering cut
+  pub is_read : IsReadToCut (extent_of reader.reading) octets gathering cut
+  pub accepted : IsAccepted reader.reading.accept_cut cut
   pub wanted : gathering.wanted ≡ reader.wanted
 
--- the reader gave octets, all that it had, and this is the moment up to which a capture of them was
--- read
-pub record GaveMoment (reader : CaptureInput) (moment : Option ℕ) : Type 0 where
-  pub octets : List ℕ
-  pub gave : GaveWhole reader octets
-  pub capture : State
-  pub limit : capture.limit ≡ extent_of reader.reading
-  pub no_fault : capture.fault ≡ None
-  pub read : HasRead capture octets
-  pub moment_is : moment ≡ moment_read capture
+-- what is made of its packets, and the moment up to which they were read: none where one has no time
+abbrev pub made_in : {reader : CaptureInput} {gathering : Gathering} {cut : Option ℕ}
+    → GaveCapture reader gathering cut → List Made
+made_in gave = gave.is_read.is_read.gathered.made
+
+abbrev pub moment_of : Extent → List BlockAt → Timing → Option ℕ
+moment_of extent blocks timing =
+    if timing.has_untimed then None
+    else moment_up_to extent.window (context_behind (start extent) blocks).start timing.latest
+
+abbrev pub moment_in : {reader : CaptureInput} {gathering : Gathering} {cut : Option ℕ}
+    → GaveCapture reader gathering cut → Option ℕ
+moment_in {reader} {gathering} gave =
+    moment_of (extent_of reader.reading) gave.is_read.is_read.blocks gathering.report.timing
+
+-- ---- what a sink took
+
+-- a sink took these packets
+abbrev pub Took : {S : Type 0} → (has : S → S → List Made → Type 0) → (old new : S) → List Made
+    → Type 0
+Took {S} has old new made =
+    (first : S) (before : List Made) → has first old before → has first new (before ++ made)
+
+-- the octets begin with blocks of a capture, of whose packets this is made
+pub record BeginsWith (reader : CaptureInput) (given : List ℕ) (made : List Made) : Type 0 where
+  pub blocks : List BlockAt
+  pub rest : List ℕ
+  pub whole : given ≡ octets_of blocks ++ rest
+  pub are_blocks : AreBlocks (start (extent_of reader.reading)) 0 blocks
+  pub are_made : AreMade reader.wanted (sightings_of blocks) made
+
+-- the packets of blocks with which the octets begin that the reader gave
+pub record TookSome {S : Type 0} (has : S → S → List Made → Type 0) (old new : S)
+    (reader : CaptureInput) : Type 0 where
+  pub given : List ℕ
+  pub gave : Gave reader.old reader.new given
+  pub made : List Made
+  pub begins : BeginsWith reader given made
+  pub took : Took has old new made
 
 -- the reader gave such a capture, of which no wanted datagram was left out if it is read strictly
 pub record GaveSound (reader : CaptureInput) (gathering : Gathering) (cut : Option ℕ) : Type 0 where
@@ -90,8 +123,19 @@ pub record IsFaultOfCapture (reader : CaptureInput) (fault : Fault) : Type 0 whe
       Stops (extent_of reader.reading) reader.wanted given fault
       ⊎ EndsTooSoon reader given fault
 
--- what a reader of captures was fed is what the device gave, all that it had
-pub record IsFedWhole (capture : State) (reader : CaptureInput) : Type 0 where
+-- what a reader of captures was fed is what the device gave, all that it had, and a sink took the
+-- packets of it
+pub record IsFedWhole {S : Type 0} (has : S → S → List Made → Type 0) (old new : S)
+    (capture : State) (reader : CaptureInput) : Type 0 where
   pub given : List ℕ
   pub fed : HasRead capture given
   pub gave : GaveWhole reader given
+  pub taken : HasTaken capture.limit capture.progress capture.pending given
+  pub took : Took has old new taken.leads.gathered.made
+
+-- what was read of a capture, and a sink took the packets of it
+pub record GaveRead {S : Type 0} (has : S → S → List Made → Type 0) (old new : S)
+    (reader : CaptureInput) (read : CaptureRead) : Type 0 where
+  pub gave : GaveSound reader read.gathered read.cut
+  pub moment_is : read.moment ≡ moment_in gave.given
+  pub took : Took has old new (made_in gave.given)

@@ -1,26 +1,24 @@
 -- What the commands over captures promise, by what their devices say. No RFC speaks of runs: these
 -- are this project's own.
-use Rattle.std.specs.Prelude.{ℕ, Bool, ◌≡◌, ◌≢◌, ◌+◌, ◌<◌, ◌≤◌, List, length, Option}
-use Rattle.babel_capture.specs.Counts.{Counts}
+use Rattle.std.specs.Prelude.{ℕ, Bool, false, ◌≡◌, ◌≢◌, ◌<◌, ◌≤◌, List, ◌++◌, length}
+use Rattle.std.specs.Prelude.{Option}
+use Rattle.babel_capture.specs.Counts.{Counts, Made}
 use Rattle.babel_capture.specs.Gathering.{Gathering}
 use Rattle.babel_capture.specs.declared.fault.Fault.TheVariants as capture_faults
 use Rattle.babel_tlv.specs.declared.fault.Fault.TheVariants as faults
-use Rattle.babel_dump.specs.CaptureGiven.{CaptureInput, GaveLeftOut, GaveSound, IsFaultOfCapture}
+use Rattle.babel_table.specs.Moments.{dump_of}
+use Rattle.babel_dump.specs.CaptureGiven.{CaptureInput, GaveCapture, GaveLeftOut, GaveSound}
+use Rattle.babel_dump.specs.CaptureGiven.{IsFaultOfCapture, made_in}
 use Rattle.babel_dump.specs.CaptureText.{dump_status, dump_text, places_of}
 use Rattle.babel_dump.specs.CaptureText.{senders_in, senders_status}
-use Rattle.babel_dump.specs.Run.{Calls}
+use Rattle.babel_dump.specs.Packets.{packets_made}
+use Rattle.babel_dump.specs.declared.extract.PacketCopy.{PacketCopy}
 use Rattle.babel_dump.specs.declared.format.Format.{Format}
 use Rattle.babel_dump.specs.declared.input_fault.InputFault.{InputFault}
 use Rattle.babel_dump.specs.declared.input_fault.InputFault.TheVariants as input_faults
 use Rattle.babel_dump.specs.declared.interfaces.Interfaces.{Interfaces}
 use Rattle.babel_dump.specs.declared.outcome.Outcome.{Outcome}
 use Rattle.babel_dump.specs.declared.outcome.Reports.TheVariants as reports
-
--- Each read but the last gives an octet: of blocks within the limit, or of the header of one more,
--- which has 24 octets at most.
-abbrev pub capture_calls : CaptureInput → Calls
-capture_calls reader =
-    record { old = reader.old; new = reader.new; most = reader.reading.limit + 24 }
 
 -- Each fault of reading a capture has its cause: a failed read of its reader, or what its reader
 -- gave. Out of memory has none that a contract can see.
@@ -51,6 +49,17 @@ pub record ListsSenders (reader : CaptureInput) (format : Format) (text : List �
   pub text_is : text ≡ senders_in format gathering
   pub outcome_is : IsOutcomeOf outcome (senders_status gathering.senders) gathering.report cut
 
+-- the packets of a capture, end to end
+abbrev pub dump_in : {reader : CaptureInput} {gathering : Gathering} {cut : Option ℕ}
+    → GaveCapture reader gathering cut → List ℕ
+dump_in gave = dump_of (packets_made (made_in gave))
+
+-- what was copied is what was there and the octets of the packets that were made besides, unless
+-- memory ran out
+abbrev pub Copies : PacketCopy → PacketCopy → List Made → Type 0
+Copies first now made = now.has_failed ≡ false → (first.has_failed ≡ false)
+    × (now.octets.items ≡ first.octets.items ++ dump_of (packets_made made))
+
 -- `extract`: the dump of the wanted sender, who sent at one place at most
 pub record Extracts (reader : CaptureInput) (hex : Bool) (text : List ℕ) (outcome : Outcome) :
     Type 0 where
@@ -58,8 +67,8 @@ pub record Extracts (reader : CaptureInput) (hex : Bool) (text : List ℕ) (outc
   pub cut : Option ℕ
   pub gave : GaveSound reader gathering cut
   pub one_place : length gathering.senders ≤ 1
-  pub text_is : text ≡ dump_text hex gathering.dump
-  pub outcome_is : IsOutcomeOf outcome (dump_status gathering.dump) gathering.report cut
+  pub text_is : text ≡ dump_text hex (dump_in gave.given)
+  pub outcome_is : IsOutcomeOf outcome (dump_status (dump_in gave.given)) gathering.report cut
 
 -- the wanted sender sent at several places, which are these
 pub record IsOnSeveral (reader : CaptureInput) (interfaces : Interfaces) : Type 0 where

@@ -1,8 +1,9 @@
 -- What `lookup --each` promises: the pairs are read first, and then each is looked up in the dump.
 -- No RFC speaks of it: this is the project's own.
 use Rattle.std.specs.Prelude.{ℕ, ◌≡◌, ◌<◌, ◌≤◌, ◌⊎◌, List, length}
+use Rattle.babel_table.specs.Rows.{Routes}
 use Rattle.babel_dump.specs.AskedPairs.{AskFor, IsFirstWrong, lines_of}
-use Rattle.babel_dump.specs.Command.{IsOfMemory, SaysTable}
+use Rattle.babel_dump.specs.Command.{IsOfMemory, SaysOf, Tells}
 use Rattle.babel_dump.specs.Device.{Gave}
 use Rattle.babel_dump.specs.Given.{GaveAll, Input, IsFaultOfGiven}
 use Rattle.babel_dump.specs.InFormat.{each_in}
@@ -51,17 +52,17 @@ abbrev pub RefusesPairs : Input → RunFault → Type 0
 RefusesPairs reader (run_faults.Pairs (pairs_faults.NotAPair line)) = GaveWrong reader line
 RefusesPairs reader fault = RefusesText reader fault
 
--- what the dump's table answers for each of these pairs
-abbrev pub LooksUpEach : Input → Format → List AddrPair → List ℕ → Outcome → Type 0
-LooksUpEach reader format pairs =
-    SaysTable reader (λ table. each_in format table pairs) (λ table. each_status table pairs)
+-- what a table answers for each of these pairs
+abbrev pub LooksUpEach : Format → List AddrPair → Routes → List ℕ → Outcome → Type 0
+LooksUpEach format pairs table =
+    Tells table.report (each_in format table pairs) (each_status table pairs)
 
--- what it answers for each of the pairs that the reader of pairs gave
+-- what a dump answers for each of the pairs that the reader of pairs gave
 pub record LooksUpAsked (reader pairs : Input) (format : Format) (text : List ℕ)
     (outcome : Outcome) : Type 0 where
   pub asked : List AddrPair
   pub gave : GavePairsOf pairs asked
-  pub answers : LooksUpEach reader format asked text outcome
+  pub answers : SaysOf reader (LooksUpEach format asked) text outcome
 
 -- A fault of a lookup of each of the pairs: that of the pairs, and then the dump's reader is as it
 -- was; or, where these have none, that of the dump.

@@ -12,13 +12,11 @@ use Rattle.babel_capture.specs.declared.missed.Missed.{Missed}
 use Rattle.babel_capture.specs.declared.place.Place.{Place}
 use Rattle.babel_capture.specs.declared.tallies.Origin.{Origin}
 use Rattle.babel_capture.specs.declared.wanted.Wanted.{Wanted}
-use Rattle.babel_capture.specs.declared.wanted.Wanted.TheVariants as wanteds
 use Rattle.babel_capture.specs.Blocks.{BlockAt, context_behind, start}
 use Rattle.babel_capture.specs.Capture.{IsReadToCut}
 use Rattle.babel_capture.specs.Counts.{Made}
-use Rattle.babel_capture.specs.Findings.{Found, found}
-use Rattle.babel_capture.specs.Gathering.{missed_in}
-use Rattle.babel_capture.specs.Gathering.{Gathering, name_of, octets_found, origin_found}
+use Rattle.babel_capture.specs.Findings.{Found, found, missed_in, octets_found, origin_found}
+use Rattle.babel_capture.specs.Gathering.{Gathering, name_of}
 use Rattle.babel_capture.specs.Times.{time_of}
 use Rattle.babel_capture.specs.Window.{Extent, moment_up_to}
 use Rattle.babel_tlv.specs.Context.{first_context}
@@ -52,7 +50,7 @@ followed_extent events =
 
 -- whose datagrams are wanted, as they come
 abbrev pub followed_by : Events → Wanted
-followed_by events = wanteds.InTurn events.sender events.place
+followed_by events = record { sender = events.sender; place = events.place }
 
 abbrev pub asked_by : Events → AskedFor
 asked_by events = option_map (λ (pair : AddrPair). (pair.dst, pair.src)) events.pair

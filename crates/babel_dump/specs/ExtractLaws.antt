@@ -4,7 +4,7 @@ use Rattle.babel_prefix.specs.Address.{Address}
 use Rattle.babel_capture.specs.declared.place.Place.{Place}
 use Rattle.babel_tlv.specs.declared.fault.Fault.{Fault}
 use Rattle.babel_tlv.specs.declared.fault.Fault.TheVariants as faults
-use Rattle.babel_dump.specs.OneOutcome.{Contents, RanOver, octets_at}
+use Rattle.babel_dump.specs.OneOutcome.{RanOver, octets_at}
 use Rattle.babel_dump.specs.declared.capture_reading.CaptureReading.{CaptureReading}
 use Rattle.babel_dump.specs.declared.format.Format.{Format}
 use Rattle.babel_dump.specs.declared.input_fault.InputFault.TheVariants as input_faults
@@ -31,22 +31,22 @@ pub record Extracted (dump : List ℕ) : Type 0 where
   pub file : DumpFile
   pub format : Format
   pub quiet : Bool
-  pub contents : Contents
-  pub other : Contents
+  pub octets : List ℕ
+  pub other : List ℕ
   pub before : List ℕ
   pub outcome : Outcome
   pub ran : let job : Job = record {
     work = works.Capture reading file (capture_tasks.Extract sender place false);
     format = format;
     quiet = quiet;
-  } in RanOver job contents other before (before ++ dump) (Ok outcome)
+  } in RanOver job octets other before (before ++ dump) (Ok outcome)
 
 -- no job over them, whatever its words and limits, refuses them for such a fault: not as its first
 -- dump, and not as the other of a comparison
 abbrev pub ExtractedIsFramed : Type 0
 ExtractedIsFramed =
-    (job : Job) (side : Side) (contents other : Contents) (before after : List ℕ) (fault : Fault)
-    → Extracted (octets_at side contents other)
-    → RanOver job contents other before after
+    (job : Job) (side : Side) (octets other : List ℕ) (before after : List ℕ) (fault : Fault)
+    → Extracted (octets_at side octets other)
+    → RanOver job octets other before after
     (Err (run_faults.Input side (input_faults.Dump fault)))
     → ¬ IsOfFraming fault

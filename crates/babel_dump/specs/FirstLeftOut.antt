@@ -1,22 +1,13 @@
 -- Laws of the definitions: which datagram of a capture was left out first, by what is made of its
 -- packets. These are this project's own.
-use Rattle.std.specs.Prelude.{◌≡◌, ℕ, ◌≤◌, Bool, true, false, List, Contains, Option}
+use Rattle.std.specs.Prelude.{◌≡◌, ◌≤◌, List, Contains, Option}
 use Rattle.babel_capture.specs.declared.reason.Reason.{Reason}
 use Rattle.babel_capture.specs.declared.tallies.Origin.{Origin}
 use Rattle.babel_capture.specs.Counts.{Made, counts_of}
 use Rattle.babel_capture.specs.Findings.{left}
-use Rattle.babel_capture.specs.Gathering.{Gathering}
-use Rattle.babel_capture.specs.Window.{Extent}
-use Rattle.babel_dump.specs.CaptureGiven.{extent_of, CaptureInput, GaveLeftOut, IsReadSo}
+use Rattle.babel_dump.specs.CaptureGiven.{CaptureInput, GaveLeftOut, made_in}
 use Rattle.babel_dump.specs.LeftOut.{LeavesNoneOut}
 use Rattle.babel_dump.specs.declared.left_out.LeftOutDatagram.{LeftOutDatagram}
-
--- what is made of the packets of a capture that is read so
-abbrev pub made_of : (accept_cut : Bool) → (limit : Extent) → (octets : List ℕ)
-    → (gathering : Gathering) → (cut : Option ℕ)
-    → IsReadSo accept_cut limit octets gathering cut → List Made
-made_of false limit octets gathering cut read = read.0.gathered.made
-made_of true limit octets gathering cut read = read.is_read.gathered.made
 
 -- it was left out for this reason
 abbrev pub IsLeftFor : Reason → Made → Type 0
@@ -43,6 +34,4 @@ NoneIsLeftOut =
 abbrev pub RefusedIsFirst : Type 0
 RefusedIsFirst =
     (reader : CaptureInput) (datagram : LeftOutDatagram) (gave : GaveLeftOut reader datagram)
-    → IsFirstLeftOut
-    (made_of reader.reading.accept_cut (extent_of reader.reading) gave.given.octets gave.gathering
-    gave.cut gave.given.is_read) datagram
+    → IsFirstLeftOut (made_in gave.given) datagram

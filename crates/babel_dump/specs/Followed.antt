@@ -72,7 +72,7 @@ unlost_by lost told = filter (λ one. not (contains speaker_cmp lost (speaker_of
 -- written before what is told and not written yet
 pub record IsFollowed (events : Events) (fed : List ℕ) (written : List (Telling Speaker))
     (followed : Followed) : Type 0 where
-  pub read : HasTaken (record { limit = followed_extent events; taken = [] })
+  pub read : HasTaken (followed_extent events)
       followed.capture.progress followed.capture.pending fed
   pub no_fault : followed.capture.fault ≡ None
   pub limit : followed.capture.limit ≡ followed_extent events

@@ -1,14 +1,13 @@
 -- What the run of a job promises, by the kinds of work: this project's own.
 use Rattle.std.specs.Prelude.{ℕ, List, Option, None, Some, Result}
 use Rattle.babel_dump.specs.CaptureGiven.{CaptureInput, capture_from}
-use Rattle.babel_dump.specs.CaptureRun.{capture_calls}
 use Rattle.babel_dump.specs.Each.{EachCause, LooksUpAsked}
 use Rattle.babel_dump.specs.Files.{name_of}
 use Rattle.babel_dump.specs.Given.{Reads, dump_of}
-use Rattle.babel_dump.specs.Run.{Called, Calls, InputCause, OfFirst, Output, Ran, calls_of}
+use Rattle.babel_dump.specs.Run.{Called, Calls, InputCause, OfFirst, Output, Ran, calls_of, capture_calls}
+use Rattle.babel_dump.specs.Run.{stream_calls}
 use Rattle.babel_dump.specs.Tasks.{CaptureTaskCause, CaptureTaskSays, ComparisonCause}
-use Rattle.babel_dump.specs.Tasks.{ComparisonSays, IsFaultOf, TaskSays, canonical_view, finds_all}
-use Rattle.babel_dump.specs.Tasks.{wanted_of}
+use Rattle.babel_dump.specs.Tasks.{ComparisonSays, IsFaultOf, TaskSays, wanted_of}
 use Rattle.babel_dump.specs.declared.capture_reading.CaptureReading.{CaptureReading}
 use Rattle.babel_dump.specs.declared.job.CaptureTask.{CaptureTask}
 use Rattle.babel_dump.specs.declared.job.Job.{Job}
@@ -36,11 +35,11 @@ SaysBy (works.Capture reading file task) job reader other =
 abbrev pub CauseBy : Work → (reader other : Reads) → (untouched : Type 0) → RunFault → Type 0
 CauseBy (works.Dump source task) reader other untouched =
     let dump = dump_of reader source.reading in
-    OfFirst (InputCause dump (IsFaultOf (canonical_view task) dump))
+    OfFirst (InputCause dump (IsFaultOf task dump))
 CauseBy (works.Each source pairs) reader other untouched =
     EachCause (dump_of reader source.reading) (dump_of other source.reading)
 CauseBy (works.Two first second view task) reader other untouched =
-    ComparisonCause (finds_all task) view (dump_of reader first.reading)
+    ComparisonCause task view (dump_of reader first.reading)
     (dump_of other second.reading) untouched
 CauseBy (works.Capture reading file task) reader other untouched =
     OfFirst (CaptureTaskCause task (capture_of reader reading task))
@@ -54,7 +53,7 @@ first_calls (works.Capture reading file task) reader =
     capture_calls (capture_of reader reading task)
 
 abbrev pub other_calls : Work → Reads → Option Calls
-other_calls (works.Each source pairs) other = Some (calls_of (dump_of other source.reading))
+other_calls (works.Each source pairs) other = Some (stream_calls (dump_of other source.reading))
 other_calls (works.Two first second view task) other =
     Some (calls_of (dump_of other second.reading))
 other_calls work other = None

@@ -1,6 +1,6 @@
 -- Which datagrams of a capture were left out, by its report: this project's own.
-use Rattle.std.specs.Prelude.{◌≡◌, ℕ, nat_lt, if◌then◌else◌, List, [], ◌∷◌, codes}
-use Rattle.std.specs.Prelude.{Option, None, Some}
+use Rattle.std.specs.Prelude.{◌≡◌, ℕ, nat_lt, Bool, true, false, if◌then◌else◌, List, [], ◌∷◌}
+use Rattle.std.specs.Prelude.{Option, None, Some, codes}
 use Rattle.std.specs.List.{AllByRecursion}
 use Rattle.babel_capture.specs.Counts.{Counts, all_reasons, count_at, reason_place}
 use Rattle.babel_capture.specs.declared.reason.Reason.{Reason}
@@ -41,6 +41,20 @@ first_among counts (reason ∷ rest) = sooner (left_out_for counts reason) (firs
 -- the first datagram that was left out
 abbrev pub first_left_out : Counts → Option LeftOutDatagram
 first_left_out counts = first_among counts all_reasons
+
+-- the reasons of datagrams of which nothing is missing
+abbrev pub whole_reasons : List Reason
+whole_reasons = reasons.Truncated ∷ reasons.BadMagic ∷ reasons.BadVersion ∷ reasons.OtherPort
+    ∷ reasons.NotLinkLocal ∷ []
+
+-- the reasons that a note tells, where those of datagrams that lack something may be told apart
+abbrev pub told_reasons : (are_apart : Bool) → List Reason
+told_reasons true = whole_reasons
+told_reasons false = all_reasons
+
+-- the first datagram that was left out though nothing of it is missing
+abbrev pub first_whole_left_out : Counts → Option LeftOutDatagram
+first_whole_left_out counts = first_among counts whole_reasons
 
 -- no datagram was left out
 abbrev pub LeavesNoneOut : Counts → Type 0

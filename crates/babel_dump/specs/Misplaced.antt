@@ -1,7 +1,10 @@
 -- Which option that is for captures alone is refused where a dump is read: this project's own.
-use Rattle.std.specs.Prelude.{ℕ, Bool, ◌&&◌, not, is_some, if◌then◌else◌, List, [], ◌∷◌, codes}
+use Rattle.std.specs.Prelude.{ℕ, Bool, true, false, ◌&&◌, not, is_some, if◌then◌else◌, List, [], ◌∷◌, codes}
 use Rattle.std.specs.Prelude.{Option, None, Some}
 use Rattle.std.specs.Option.{option_and_then, option_map}
+use Rattle.babel_dump.specs.declared.begun.Begins.{Begins}
+use Rattle.babel_dump.specs.declared.begun.Begins.TheVariants as beginnings
+use Rattle.babel_dump.specs.declared.job.DumpSource.{DumpSource}
 use Rattle.babel_dump.specs.declared.job.Work.{Work}
 use Rattle.babel_dump.specs.declared.job.Work.TheVariants as works
 use Rattle.babel_dump.specs.declared.reading.Reading.{Reading}
@@ -51,3 +54,37 @@ misplaced_in (works.Dump source task) = misplaced source.reading None
 misplaced_in (works.Each source pairs) = misplaced source.reading None
 misplaced_in (works.Two first other view task) = misplaced first.reading (Some other.reading)
 misplaced_in (works.Capture reading file task) = λ is_capture other_is_capture. None
+
+-- ---- by the first octets of its inputs
+
+-- they are not those of a dump: what is no dump may be a capture
+abbrev pub is_no_dump : Begins → Bool
+is_no_dump beginnings.Dump = false
+is_no_dump begins = true
+
+abbrev pub is_capture : Begins → Bool
+is_capture beginnings.Capture = true
+is_capture begins = false
+
+-- that of work, where what FILE and OTHER begin with is known
+abbrev pub misplaced_by : (first other : Begins) → Work → Option (List ℕ)
+misplaced_by beginnings.Failed second work = None
+misplaced_by first beginnings.Failed work = None
+misplaced_by first second work = misplaced_in work (is_no_dump first) (is_no_dump second)
+
+-- the work, whose dumps are read of captures or not, with keys found by this seed
+abbrev pub source_begun : Bool → (seed : ℕ) → DumpSource → DumpSource
+source_begun is_capture seed source = record source
+    { reading = record source.reading { is_capture = is_capture; seed = seed } }
+
+abbrev pub work_begun : (is_capture other_is_capture : Bool) → (seed : ℕ) → Work → Work
+work_begun first second seed (works.Dump source task) =
+    works.Dump (source_begun first seed source) task
+work_begun first second seed (works.Each source pairs) =
+    works.Each (source_begun first seed source) pairs
+work_begun first second seed (works.Two one other view task) =
+    works.Two (source_begun first seed one) (source_begun second seed other) view task
+work_begun first second seed (works.Capture reading file task) = works.Capture reading file task
+
+abbrev pub begun_work : (first other : Begins) → (seed : ℕ) → Work → Work
+begun_work first other = work_begun (is_capture first) (is_capture other)

@@ -6,16 +6,15 @@ use Rattle.std.specs.Option.{option_map}
 use Rattle.std.specs.Fmt.{decimal}
 use Rattle.babel_prefix.specs.Address.{Address}
 use Rattle.babel_capture.specs.declared.tallies.Origin.{Origin}
-use Rattle.babel_capture.specs.Counts.{Counts as CaptureCounts}
-use Rattle.babel_capture.specs.Counts.{all_reasons as all_left_out, count_at as left_out_at}
-use Rattle.babel_capture.specs.Counts.{reason_place as left_out_place}
+use Rattle.babel_capture.specs.Counts.{count_at as left_out_at, reason_place as left_out_place}
 use Rattle.babel_table.specs.Counts.{Counts}
 use Rattle.babel_dump.specs.CaptureText.{name_json}
 use Rattle.babel_dump.specs.EventText.{place_json}
 use Rattle.babel_dump.specs.JsonText.{counted_object, quoted, report_members}
-use Rattle.babel_dump.specs.LeftOut.{left_out_name}
+use Rattle.babel_dump.specs.LeftOut.{left_out_name, told_reasons}
 use Rattle.babel_dump.specs.RunText.{newline}
 use Rattle.babel_dump.specs.Spelling.{address_text}
+use Rattle.babel_dump.specs.declared.left_out.LeftOutNote.{LeftOutNote}
 use Rattle.babel_dump.specs.declared.note.Note.{Note}
 use Rattle.babel_dump.specs.declared.note.Note.TheVariants as notes
 use Rattle.babel_dump.specs.declared.note.SideNote.{SideNote}
@@ -46,14 +45,14 @@ number_member name number = codes ",\"" ++ name ++ codes "\":" ++ decimal number
 abbrev pub ignored_members : Counts → List ℕ
 ignored_members counts = codes "," ++ report_members counts
 
--- `,"reasons":[..]`, with an object for each reason that occurred, and commas between: the first is
--- the number of a packet
-abbrev pub left_out_members : CaptureCounts → List ℕ
-left_out_members counts =
+-- `,"reasons":[..]`, with an object for each reason that is told and occurred, and commas between:
+-- the first is the number of a packet
+abbrev pub left_out_members : LeftOutNote → List ℕ
+left_out_members note =
     codes ",\"reasons\":["
     ++ join_by (λ value. value) (codes ",")
     (filter_map (λ reason. option_map (counted_object (left_out_name reason))
-    (left_out_at counts.left_out (left_out_place reason))) all_left_out)
+    (left_out_at note.report.left_out (left_out_place reason))) (told_reasons note.are_apart))
     ++ codes "]"
 
 -- `,"source":"ADDRESS"`
@@ -64,7 +63,7 @@ source_member spelling source =
 -- what a note says beside its name
 abbrev pub note_members : Note → List ℕ
 note_members (notes.Ignored note) = ignored_members note.report
-note_members (notes.LeftOut note) = left_out_members note.report
+note_members (notes.LeftOut note) = left_out_members note
 note_members (notes.Sections sections) = number_member (codes "sections") sections
 note_members (notes.Trailers packets) = number_member (codes "packets") packets
 note_members (notes.CaptureCut at) = number_member (codes "at") at

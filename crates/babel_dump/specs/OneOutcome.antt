@@ -1,15 +1,13 @@
 -- Laws of the definitions: what a job's run answers and writes is settled by the octets of its
--- readers, and by what was left out of them. These are this project's own.
-use Rattle.std.specs.Prelude.{◌≡◌, ◌≢◌, ℕ, Bool, List, ◌++◌, take, Option, Some, Result, Ok, Err}
+-- readers. These are this project's own.
+use Rattle.std.specs.Prelude.{◌≡◌, ◌≢◌, ℕ, false, List, ◌++◌, take, Some, Result, Ok, Err}
 use Rattle.babel_prefix.specs.Address.{Address}
 use Rattle.babel_capture.specs.declared.place.Place.{Place}
-use Rattle.babel_capture.specs.declared.wanted.Wanted.TheVariants as wanteds
 use Rattle.babel_tlv.specs.declared.fault.Fault.{Fault}
 use Rattle.babel_tlv.specs.declared.fault.Fault.TheVariants as faults
 use Rattle.babel_table.specs.DumpFault.{DumpFault}
 use Rattle.babel_dump.specs.CaptureGiven.{CaptureInput}
 use Rattle.babel_dump.specs.CaptureRun.{IsOnSeveral}
-use Rattle.babel_dump.specs.Device.{InputState, no_times}
 use Rattle.babel_dump.specs.Files.{reading_of}
 use Rattle.babel_dump.specs.Given.{Reads}
 use Rattle.babel_dump.specs.JobRun.{RanJob}
@@ -18,7 +16,6 @@ use Rattle.babel_dump.specs.declared.input_fault.InputFault.{InputFault}
 use Rattle.babel_dump.specs.declared.input_fault.InputFault.TheVariants as input_faults
 use Rattle.babel_dump.specs.declared.interfaces.Interfaces.{Interfaces}
 use Rattle.babel_dump.specs.declared.job.Job.{Job}
-use Rattle.babel_dump.specs.declared.left_out.LeftOutDatagram.{LeftOutDatagram}
 use Rattle.babel_dump.specs.declared.outcome.Outcome.{Outcome}
 use Rattle.babel_dump.specs.declared.pairs_fault.PairsFault.TheVariants as pairs_faults
 use Rattle.babel_dump.specs.declared.reading.Reading.{Reading}
@@ -27,27 +24,22 @@ use Rattle.babel_dump.specs.declared.run_fault.RunFault.TheVariants as run_fault
 use Rattle.babel_dump.specs.declared.run_fault.Side.{Side}
 use Rattle.babel_dump.specs.declared.run_fault.Side.TheVariants as sides
 
--- what a reader has to give: octets, and the first datagram that was left out of them, if one was
-pub record Contents : Type 0 where
-  pub octets : List ℕ
-  pub left_out : Option LeftOutDatagram
+-- no dump of the job is read of a capture
+abbrev pub ReadsNoCapture : Job → Type 0
+ReadsNoCapture job = (side : Side) (reading : Reading) → reading_of side job.work ≡ Some reading
+    → reading.is_capture ≡ false
 
--- the reader says that it has these, and tells no times
-pub record HasContents (state : InputState) (contents : Contents) : Type 0 where
-  pub timeless : state.times ≡ no_times
-  pub octets : state.left ≡ Some contents.octets
-  pub left_out : state.left_out ≡ contents.left_out
-
--- A run of the job over devices that say their octets: the readers have `contents` and `other`, and
--- the writer took `before` until then, and `after` at last.
-pub record RanOver (job : Job) (contents other : Contents) (before after : List ℕ)
+-- A run of the job over devices that say their octets: the readers have `octets` and `other`, and the
+-- writer took `before` until then, and `after` at last.
+pub record RanOver (job : Job) (octets other : List ℕ) (before after : List ℕ)
     (result : Result Outcome RunFault) : Type 0 where
   pub reader : Reads
   pub second : Reads
   pub writer : Output
   pub ran : RanJob job reader second writer (second.new ≡ second.old) result
-  pub has : HasContents reader.old contents
-  pub other_has : HasContents second.old other
+  pub no_capture : ReadsNoCapture job
+  pub has : reader.old.left ≡ Some octets
+  pub other_has : second.old.left ≡ Some other
   pub took : writer.old.taken ≡ Some before
   pub takes : writer.new.taken ≡ Some after
 
@@ -67,74 +59,74 @@ IsOfOctets (run_faults.Pairs pairs_faults.Read) = ⊥
 IsOfOctets (run_faults.Pairs fault) = Unit {0}
 IsOfOctets run_faults.Write = ⊥
 
--- two runs of a job over the same contents that answer an outcome answer the same, and write the
+-- two runs of a job over the same octets that answer an outcome answer the same, and write the
 -- same text
 abbrev pub OutcomeIsOne : Type 0
 OutcomeIsOne =
-    (job : Job) (contents other : Contents) (before after before_too after_too : List ℕ)
+    (job : Job) (octets other : List ℕ) (before after before_too after_too : List ℕ)
     (outcome outcome_too : Outcome)
-    → RanOver job contents other before after (Ok outcome)
-    → RanOver job contents other before_too after_too (Ok outcome_too)
+    → RanOver job octets other before after (Ok outcome)
+    → RanOver job octets other before_too after_too (Ok outcome_too)
     → (outcome ≡ outcome_too)
     × ((text : List ℕ) × (after ≡ before ++ text) × (after_too ≡ before_too ++ text))
 
 -- where one answers an outcome, no other answers a fault of the octets
 abbrev pub OutcomeOrFault : Type 0
 OutcomeOrFault =
-    (job : Job) (contents other : Contents) (before after before_too after_too : List ℕ)
+    (job : Job) (octets other : List ℕ) (before after before_too after_too : List ℕ)
     (outcome : Outcome)
     (fault : RunFault)
-    → RanOver job contents other before after (Ok outcome)
-    → RanOver job contents other before_too after_too (Err fault)
+    → RanOver job octets other before after (Ok outcome)
+    → RanOver job octets other before_too after_too (Err fault)
     → ¬ IsOfOctets fault
 
 -- where two answer a fault of the octets, it is the same
 abbrev pub FaultIsOne : Type 0
 FaultIsOne =
-    (job : Job) (contents other : Contents) (before after before_too after_too : List ℕ)
+    (job : Job) (octets other : List ℕ) (before after before_too after_too : List ℕ)
     (fault fault_too : RunFault)
-    → RanOver job contents other before after (Err fault)
-    → RanOver job contents other before_too after_too (Err fault_too)
+    → RanOver job octets other before after (Err fault)
+    → RanOver job octets other before_too after_too (Err fault_too)
     → IsOfOctets fault → IsOfOctets fault_too → fault ≡ fault_too
 
 -- what a dump on a side is
-abbrev pub octets_at : Side → (contents other : Contents) → List ℕ
-octets_at sides.First contents other = contents.octets
-octets_at sides.Other contents other = other.octets
+abbrev pub octets_at : Side → (octets other : List ℕ) → List ℕ
+octets_at sides.First octets other = octets
+octets_at sides.Other octets other = other
 
 -- A dump's fault is that of all octets that its reader had; but for out of memory, and for too
 -- many pairs, which no octets have.
 abbrev pub FaultIsOfAll : Type 0
 FaultIsOfAll =
-    (job : Job) (side : Side) (reading : Reading) (contents other : Contents)
+    (job : Job) (side : Side) (reading : Reading) (octets other : List ℕ)
     (before after : List ℕ)
     (fault : Fault)
     → reading_of side job.work ≡ Some reading
-    → RanOver job contents other before after
+    → RanOver job octets other before after
     (Err (run_faults.Input side (input_faults.Dump fault)))
     → fault ≢ faults.Memory → fault ≢ faults.TooManyPairs
-    → DumpFault reading.limits reading.mode reading.sender (octets_at side contents other) fault
+    → DumpFault reading.limits reading.mode reading.sender (octets_at side octets other) fault
 
--- a failed write leaves the first octets of the text that any run over the same contents writes
+-- a failed write leaves the first octets of the text that any run over the same octets writes
 -- that answers an outcome
 abbrev pub WrittenIsPrefix : Type 0
 WrittenIsPrefix =
-    (job : Job) (contents other : Contents) (before after before_too after_too : List ℕ)
+    (job : Job) (octets other : List ℕ) (before after before_too after_too : List ℕ)
     (outcome : Outcome)
-    → RanOver job contents other before after (Err run_faults.Write)
-    → RanOver job contents other before_too after_too (Ok outcome)
+    → RanOver job octets other before after (Err run_faults.Write)
+    → RanOver job octets other before_too after_too (Ok outcome)
     → (text : List ℕ) × (n : ℕ) × (after_too ≡ before_too ++ text) × (after ≡ before ++ take n text)
 
 -- any other fault leaves nothing
 abbrev pub NothingWritten : Type 0
 NothingWritten =
-    (job : Job) (contents other : Contents) (before after : List ℕ) (fault : RunFault)
-    → RanOver job contents other before after (Err fault) → fault ≢ run_faults.Write
+    (job : Job) (octets other : List ℕ) (before after : List ℕ) (fault : RunFault)
+    → RanOver job octets other before after (Err fault) → fault ≢ run_faults.Write
     → after ≡ before
 
 -- where a place is named, a capture is not refused for several
 abbrev pub NamedIsNotSeveral : Type 0
 NamedIsNotSeveral =
-    (reader : CaptureInput) (sender : Address) (place : Place) (ends : Bool)
-    (interfaces : Interfaces) → reader.wanted ≡ wanteds.Sender sender (Some place) ends
+    (reader : CaptureInput) (sender : Address) (place : Place) (interfaces : Interfaces)
+    → reader.wanted ≡ record { sender = Some sender; place = Some place }
     → ¬ IsOnSeveral reader interfaces

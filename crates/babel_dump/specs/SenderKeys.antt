@@ -1,54 +1,72 @@
 -- `key` without `--from`: the key of each sender in a capture. It is this project's own.
-use Rattle.std.specs.Prelude.{◌≡◌, ◌⊎◌, ℕ, Bool, true, List, ◌++◌, length, codes, Option}
-use Rattle.std.specs.Prelude.{None, Some}
+use Rattle.std.specs.Prelude.{◌≡◌, ◌≢◌, ◌⊎◌, ℕ, Bool, true, false, if◌then◌else◌}
+use Rattle.std.specs.Prelude.{List, [], ◌∷◌, ◌++◌, length, fold, codes, Option, None, Some, IfSome}
+use Rattle.std.specs.BTreeMap.{is_at}
+use Rattle.std.specs.Map.{lookup}
+use Rattle.std.specs.Option.{option_or}
 use Rattle.std.specs.Ordering.{is_eq}
-use Rattle.babel_capture.specs.Dumps.{dump_at}
-use Rattle.babel_capture.specs.Lack.{lack_reason}
-use Rattle.babel_capture.specs.Tallies.{place_cmp}
-use Rattle.babel_capture.specs.declared.dumps.LackAt.{LackAt}
+use Rattle.babel_capture.specs.Counts.{Made}
+use Rattle.babel_capture.specs.Findings.{everyone, missed_in}
+use Rattle.babel_capture.specs.Gathering.{Gathering}
+use Rattle.babel_capture.specs.Senders.{made_from}
+use Rattle.babel_capture.specs.Tallies.{origin_cmp, place_cmp}
+use Rattle.babel_capture.specs.declared.missed.Missed.{Missed}
 use Rattle.babel_capture.specs.declared.place.Place.{Place}
 use Rattle.babel_capture.specs.declared.tallies.Origin.{Origin}
+use Rattle.babel_tlv.specs.declared.fault.Fault.TheVariants as faults
 use Rattle.babel_tlv.specs.declared.view.View.{View}
+use Rattle.babel_table.specs.DumpFault.{DumpFault, HasNoFault}
+use Rattle.babel_table.specs.Feeding.{HasHeard}
 use Rattle.babel_table.specs.Moments.{dump_of}
 use Rattle.babel_table.specs.Rows.{Routes}
-use Rattle.babel_capture.specs.declared.wanted.Wanted.TheVariants as wanteds
-use Rattle.babel_dump.specs.CaptureGiven.{CaptureInput, capture_from}
-use Rattle.babel_dump.specs.Command.{WritesKey}
-use Rattle.babel_dump.specs.Device.{InputState, fresh, told_of}
+use Rattle.babel_table.specs.Seen.{seen_rows}
+use Rattle.babel_dump.specs.CaptureGiven.{CaptureInput, GaveCapture, GaveSound, capture_from}
+use Rattle.babel_dump.specs.CaptureGiven.{made_in, moment_in}
+use Rattle.babel_dump.specs.CaptureRun.{CaptureCause, IsNoFault}
+use Rattle.babel_dump.specs.Device.{InputState}
 use Rattle.babel_dump.specs.DiffText.{place_text}
-use Rattle.babel_dump.specs.Drained.{capture_limit}
+use Rattle.babel_dump.specs.Fed.{AreWhole}
 use Rattle.babel_dump.specs.Files.{name_of}
-use Rattle.babel_dump.specs.Given.{GaveTable, Input, IsFaultOfOctets}
-use Rattle.babel_dump.specs.Run.{InputCause}
+use Rattle.babel_dump.specs.Given.{IsTableRead, capture_limit, expired, usual_reading}
+use Rattle.babel_dump.specs.KeyText.{key_line}
+use Rattle.babel_dump.specs.LeftOut.{first_whole_left_out}
+use Rattle.babel_dump.specs.Octets.{AreOctets, HasTooMany}
+use Rattle.babel_dump.specs.Packets.{packets_made}
 use Rattle.babel_dump.specs.Spelling.{address_text}
-use Rattle.babel_dump.specs.declared.capture_input.CaptureRead.{CaptureRead}
+use Rattle.babel_dump.specs.Strict.{IsNotReadWhole, IsReadWhole}
 use Rattle.babel_dump.specs.declared.capture_reading.CaptureReading.{CaptureReading}
 use Rattle.babel_dump.specs.declared.input_fault.InputFault.{InputFault}
 use Rattle.babel_dump.specs.declared.input_fault.InputFault.TheVariants as input_faults
+use Rattle.babel_dump.specs.declared.job.Form.{Form}
 use Rattle.babel_dump.specs.declared.key.MadeKey.{MadeKey}
-use Rattle.babel_dump.specs.declared.outcome.Reports.TheVariants as reports
+use Rattle.babel_dump.specs.declared.left_out.LeftOutDatagram.{LeftOutDatagram}
 use Rattle.babel_dump.specs.declared.reading.Reading.{Reading}
 use Rattle.babel_dump.specs.declared.sender_keys.SenderKeys.{SenderKeys}
+use Rattle.babel_dump.specs.declared.sender_keys.SendersRead.{SendersRead}
+use Rattle.babel_dump.specs.declared.sender_tables.SenderTable.{SenderTable}
+use Rattle.babel_dump.specs.declared.sender_tables.SenderTables.{SenderTables}
 use Rattle.babel_dump.specs.declared.spelling.Spelling.TheVariants as spellings
 
--- how the capture is read, and the dump of a sender at its place
+-- how the capture is read, and the dump of a sender at its place, with keys found by this seed
 abbrev pub capture_read_by : SenderKeys → CaptureReading
 capture_read_by keys = record {
   limit = capture_limit keys.limits.bytes;
   window = keys.window;
   accept_cut = keys.accept_cut;
-  strict = keys.strict;
+  strict = false;
 }
 
--- what a reader gave of a capture of which the dump of each sender is wanted
+-- what a reader gave of a capture of which the datagrams of each sender are wanted
 abbrev pub each_from : SenderKeys → (old new : InputState) → CaptureInput
-each_from keys old new = capture_from old new (capture_read_by keys) wanteds.Each
+each_from keys old new = capture_from old new (capture_read_by keys) everyone
 
-abbrev pub read_by : SenderKeys → Origin → Reading
-read_by keys origin = record {
+abbrev pub read_by : SenderKeys → Origin → (seed : ℕ) → Reading
+read_by keys origin seed = record {
   limits = keys.limits;
   mode = keys.mode;
   sender = origin.sender;
+  is_capture = true;
+  seed = seed;
   place = Some origin.place;
   window = keys.window;
   time_option = None;
@@ -68,57 +86,143 @@ sender_name file origin =
     file ++ codes " " ++ address_text spellings.Long origin.sender
     ++ place_text (Some origin.place)
 
--- what `key` makes of what a reader gave: its line, which names this, and the report and the number
--- of rows of its table
-pub record MakesKey (reader : Input) (view : View) (routes : Bool) (name : List ℕ)
-    (key : MadeKey) : Type 0 where
-  pub writes : WritesKey reader view routes name key.line.items
-      (record { status = 0; reports = reports.Dump key.report })
-  pub table : Routes
-  pub gave : GaveTable reader table
+-- ---- what was heard of one sender
+
+-- the packets of this sender at this place, each with its time
+abbrev pub own_packets : Origin → List Made → List (ℕ × List ℕ)
+own_packets origin made = packets_made (made_from origin made)
+
+-- a datagram that is missed, if it is one of this sender at this place
+abbrev pub missed_by : Origin → (packet : ℕ) → Option Missed → Option LeftOutDatagram
+missed_by origin packet None = None
+missed_by origin packet (Some missed) =
+    if is_at (origin_cmp origin) missed.origin
+    then Some (record { packet = packet; reason = missed.reason }) else None
+
+-- its first datagram that is missed
+abbrev pub first_missed : Origin → List Made → Option LeftOutDatagram
+first_missed origin made =
+    fold (λ first one. option_or first (missed_by origin one.number (missed_in one.what))) None made
+
+-- a table of this sender at this place was fed these packets, and this is missed
+pub record IsFedOwn (keys : SenderKeys) (origin : Origin) (packets : List (ℕ × List ℕ))
+    (missed : Option LeftOutDatagram) (table : SenderTable) : Type 0 where
+  pub limits : table.packets.feeder.limits ≡ keys.limits
+  pub mode : table.packets.feeder.mode ≡ keys.mode
+  pub sender : table.packets.feeder.sender ≡ origin.sender
+  pub factor : IfSome keys.expiry (λ factor. table.packets.feeder.factor ≡ factor)
+  pub heard : AreWhole packets → HasHeard table.packets.feeder packets
+  pub missed_is : table.missed ≡ missed
+
+-- there is a table exactly where there is something
+abbrev pub IsNothing : (packets : List (ℕ × List ℕ)) → Option LeftOutDatagram → Type 0
+IsNothing packets missed = (packets ≡ []) × (missed ≡ None)
+
+abbrev pub IsOwn : SenderKeys → Origin → (packets : List (ℕ × List ℕ)) → Option LeftOutDatagram
+    → Option SenderTable → Type 0
+IsOwn keys origin packets missed None = IsNothing packets missed
+IsOwn keys origin packets missed (Some table) =
+    IsFedOwn keys origin packets missed table × (¬ IsNothing packets missed)
+
+abbrev pub table_at : List (Origin × SenderTable) → Origin → Option SenderTable
+table_at tables origin = lookup (is_at (origin_cmp origin)) tables
+
+-- the tables are those of the senders whose keys are asked for, each of its own packets
+pub record AreOwn (keys : SenderKeys) (made : List Made) (tables : List (Origin × SenderTable)) :
+    Type 0 where
+  pub own : (origin : Origin) → is_asked keys.place origin ≡ true
+      → IsOwn keys origin (own_packets origin made) (first_missed origin made)
+      (table_at tables origin)
+  pub others : (origin : Origin) → is_asked keys.place origin ≡ false
+      → table_at tables origin ≡ None
+
+-- with a packet more, and with a datagram more that is missed
+abbrev pub FeedsOwn : SenderKeys → Origin → Option SenderTable → ℕ × List ℕ → SenderTable → Type 0
+FeedsOwn keys origin old packet table =
+    (packets : List (ℕ × List ℕ)) (missed : Option LeftOutDatagram)
+    → IsOwn keys origin packets missed old
+    → IsFedOwn keys origin (packets ++ packet ∷ []) missed table
+
+abbrev pub MissesOwn :
+    SenderKeys → Origin → Option SenderTable → LeftOutDatagram → SenderTable → Type 0
+MissesOwn keys origin old datagram table =
+    (packets : List (ℕ × List ℕ)) (missed : Option LeftOutDatagram)
+    → IsOwn keys origin packets missed old
+    → IsFedOwn keys origin packets (option_or missed (Some datagram)) table
+
+-- unless memory ran out
+abbrev pub AreHeard : SenderTables → List Made → Type 0
+AreHeard tables made =
+    tables.has_failed ≡ false → AreOwn tables.keys.now made tables.tables.entries
+
+-- these records made the second of the first
+abbrev pub KeepsOwn : SenderTables → SenderTables → List Made → Type 0
+KeepsOwn first now made = (now.keys.now ≡ first.keys.now)
+    × ((before : List Made) → AreHeard first before → AreHeard now (before ++ made))
+
+-- the reader gave a capture, all that it had, of which no datagram that lacks nothing was left out
+-- if it is read strictly, and these are the tables of its senders
+pub record GaveSenders (keys : SenderKeys) (reader : CaptureInput) (senders : SendersRead) :
+    Type 0 where
+  pub gave : GaveSound reader senders.read.gathered senders.read.cut
+  pub strict :
+      keys.strict ≡ true → first_whole_left_out senders.read.gathered.report ≡ None
+  pub moment_is : senders.read.moment ≡ moment_in gave.given
+  pub whole : AreWhole (packets_made (made_in gave.given))
+  pub are_own : AreOwn keys (made_in gave.given) senders.tables.entries
+
+-- or why there are none: a datagram was left out that lacks nothing, if it is read strictly; or the
+-- capture is refused
+abbrev pub SendersCause : SenderKeys → CaptureInput → InputFault → Type 0
+SendersCause keys reader (input_faults.LeftOut datagram) =
+    (keys.strict ≡ true) × ((gathering : Gathering) × (cut : Option ℕ)
+    × GaveCapture reader gathering cut
+    × (first_whole_left_out gathering.report ≡ Some datagram))
+SendersCause keys reader fault = CaptureCause reader IsNoFault fault
+
+-- ---- the key of one sender
+
+-- what `key` makes of a table: the line of the key of its octets, which names this, and the report
+-- and the number of rows of the table
+pub record IsKeyOf (form : Form) (reading : Reading) (view : View) (name : List ℕ) (key : MadeKey)
+    (table : Routes) : Type 0 where
+  pub octets : List ℕ
+  pub are : AreOctets form reading view 1024 table octets
+  pub line_is : key.line.items ≡ key_line octets name
+  pub report_is : key.report ≡ table.report
   pub rows_is : key.rows ≡ length table.rows
 
--- a reader that has these packets and nothing else, and tells when each came; they were read up to
--- this moment
-abbrev pub HasPackets : InputState → (packets : List (ℕ × List ℕ)) → (moment : Option ℕ) → Type 0
-HasPackets state packets moment =
-    state ≡ record (fresh (Some (dump_of packets)))
-    { times = record (told_of None moment) { next = Some packets } }
+-- how the dump of a sender is read
+abbrev pub own_reading : SenderKeys → Origin → Reading
+own_reading keys origin = usual_reading keys.limits keys.mode origin.sender
 
--- a reader of these packets, which are those of a sender at its place
-pub record ReadsPackets (keys : SenderKeys) (origin : Origin) (packets : List (ℕ × List ℕ))
-    (moment : Option ℕ) (reader : Input) : Type 0 where
-  pub reading : reader.reading ≡ read_by keys origin
-  pub has : HasPackets reader.old packets moment
+-- the table of the packets of a sender at its place, of which no datagram is missed, at the moment
+-- up to which the capture was read
+pub record IsOwnTable (keys : SenderKeys) (made : List Made) (moment : Option ℕ) (origin : Origin)
+    (table : Routes) : Type 0 where
+  pub none_missed : first_missed origin made ≡ None
+  pub accepted :
+      HasNoFault keys.limits keys.mode origin.sender (dump_of (own_packets origin made))
+  pub is_table : IsTableRead (expired keys.expiry moment) (own_reading keys origin)
+      (own_packets origin made) table
 
--- the key of such packets
-abbrev pub IsKeyOfPackets : SenderKeys → Origin → (packets : List (ℕ × List ℕ))
-    → (moment : Option ℕ) → MadeKey → Type 0
-IsKeyOfPackets keys origin packets moment key =
-    (reader : Input) × ReadsPackets keys origin packets moment reader
-    × MakesKey reader keys.view keys.routes (sender_name (name_of keys.file) origin) key
+-- it has this key
+pub record IsSenderKey (keys : SenderKeys) (made : List Made) (moment : Option ℕ) (origin : Origin)
+    (key : MadeKey) : Type 0 where
+  pub table : Routes
+  pub is_own : IsOwnTable keys made moment origin table
+  pub strict : keys.strict ≡ true → IsReadWhole None table.report
+  pub is_key : IsKeyOf keys.form (own_reading keys origin) keys.view
+      (sender_name (name_of keys.file) origin) key table
 
--- or why they have none
-abbrev pub NoKeyOfPackets : SenderKeys → Origin → (packets : List (ℕ × List ℕ))
-    → (moment : Option ℕ) → InputFault → Type 0
-NoKeyOfPackets keys origin packets moment fault =
-    (reader : Input) × ReadsPackets keys origin packets moment reader
-    × InputCause reader (IsFaultOfOctets keys.routes reader keys.view) fault
-
--- the key of a sender at its place in a capture: that of its packets, of which none is lacking, up
--- to the moment up to which the capture was read
-abbrev pub IsSenderKey : SenderKeys → CaptureRead → Origin → MadeKey → Type 0
-IsSenderKey keys read origin key =
-    (packets : List (ℕ × List ℕ))
-    × (dump_at read.gathered.dumps origin ≡ record { packets = packets; lack = None })
-    × IsKeyOfPackets keys origin packets read.moment key
-
--- or why it has none: its dump lacks something, or is refused
-abbrev pub NoSenderKey : SenderKeys → CaptureRead → Origin → InputFault → Type 0
-NoSenderKey keys read origin fault =
-    ((at : LackAt) × ((dump_at read.gathered.dumps origin).lack ≡ Some at)
-    × (fault ≡ input_faults.LeftOut
-    (record { packet = at.packet; reason = lack_reason at.lack })))
-    ⊎ ((packets : List (ℕ × List ℕ))
-    × (dump_at read.gathered.dumps origin ≡ record { packets = packets; lack = None })
-    × NoKeyOfPackets keys origin packets read.moment fault)
+-- or none: a datagram of it is missed; or its dump is refused, or has no canonical form; or, where
+-- it is read strictly, something of it was left unread
+abbrev pub NoSenderKey : SenderKeys → List Made → (moment : Option ℕ) → Origin → InputFault → Type 0
+NoSenderKey keys made moment origin (input_faults.LeftOut datagram) =
+    first_missed origin made ≡ Some datagram
+NoSenderKey keys made moment origin (input_faults.Dump fault) = fault ≢ faults.Memory
+    → DumpFault keys.limits keys.mode origin.sender (dump_of (own_packets origin made)) fault
+    ⊎ ((table : Routes) × IsOwnTable keys made moment origin table × (fault ≡ faults.TooManyPairs)
+    × HasTooMany keys.form keys.limits (seen_rows keys.view table.rows))
+NoSenderKey keys made moment origin fault = (keys.strict ≡ true) × ((table : Routes)
+    × IsOwnTable keys made moment origin table × IsNotReadWhole None table.report fault)

@@ -9,7 +9,7 @@ use Rattle.babel_prefix.specs.Order.{address_cmp}
 use Rattle.babel_prefix.proofs.OrderLaws.{address_equality, then_parts}
 use Rattle.babel_capture.specs.Tallies.{place_cmp}
 use Rattle.babel_capture.specs.declared.place.Place.{Place}
-use Rattle.babel_capture.proofs.EachLaws.{place_exact}
+use Rattle.babel_capture.proofs.TallyLaws.{place_exact}
 use Rattle.babel_dump.specs.declared.speaker.Speaker.{Speaker}
 
 -- by address, then by place

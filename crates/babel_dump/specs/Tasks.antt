@@ -1,18 +1,27 @@
--- What each task says of what it reads, and why it says nothing: this project's own.
-use Rattle.std.specs.Prelude.{ℕ, Bool, true, false, List, Option, None, Some}
+-- What each task finds of tables, or that this is too much; and so what it says of what it reads,
+-- and why it says nothing: this project's own.
+use Rattle.std.specs.Prelude.{ℕ, Bool, true, false, List, Some}
 use Rattle.babel_capture.specs.declared.wanted.Wanted.{Wanted}
-use Rattle.babel_capture.specs.declared.wanted.Wanted.TheVariants as wanteds
+use Rattle.babel_capture.specs.Findings.{everyone}
 use Rattle.babel_tlv.specs.declared.fault.Fault.{Fault}
 use Rattle.babel_tlv.specs.declared.view.View.{View}
+use Rattle.babel_table.specs.Bounds.{Bounds}
+use Rattle.babel_table.specs.Rows.{Routes}
+use Rattle.babel_table.specs.Seen.{seen_rows}
 use Rattle.babel_dump.specs.AnySource.{LooksUpAnySource}
 use Rattle.babel_dump.specs.CaptureGiven.{CaptureInput}
 use Rattle.babel_dump.specs.CaptureRun.{CaptureCause, Extracts, IsNoFault, IsOnSeveral}
 use Rattle.babel_dump.specs.CaptureRun.{ListsSenders}
-use Rattle.babel_dump.specs.Command.{CompareCause, Compares, DifferencesCause, ListsDifferences}
-use Rattle.babel_dump.specs.Command.{ComparesRoutes, ListsPairs, ListsRoutes, LooksUp, Shows}
-use Rattle.babel_dump.specs.Command.{ShowsDiff, WritesKey, WritesNormal, WritesRoutes}
-use Rattle.babel_dump.specs.Filter.{kept_pairs_in}
-use Rattle.babel_dump.specs.Given.{Input, IsFaultOfForm, IsFaultOfGiven}
+use Rattle.babel_dump.specs.Command.{CompareCause, Compares, HasManyDifferences, IsFaultWith}
+use Rattle.babel_dump.specs.Command.{ListsDifferences, ListsPairs, LooksUp, SaysOf}
+use Rattle.babel_dump.specs.Command.{SaysOfBoth, Tells, TellsRoutes, WritesOctets}
+use Rattle.babel_dump.specs.DiffText.{diff_text, head_lines}
+use Rattle.babel_dump.specs.Filter.{kept_pairs_in, kept_rows}
+use Rattle.babel_dump.specs.Given.{Input}
+use Rattle.babel_dump.specs.InFormat.{listed_in, rows_or_count_in}
+use Rattle.babel_dump.specs.KeyText.{key_line}
+use Rattle.babel_dump.specs.Octets.{AreOctets, HasTooMany}
+use Rattle.babel_dump.specs.RunText.{answer_in, form_text}
 use Rattle.babel_dump.specs.Summary.{shown_in}
 use Rattle.babel_dump.specs.declared.format.Format.{Format}
 use Rattle.babel_dump.specs.declared.input_fault.InputFault.{InputFault}
@@ -25,69 +34,92 @@ use Rattle.babel_dump.specs.declared.job.Listed.TheVariants as listeds
 use Rattle.babel_dump.specs.declared.job.Task.{Task}
 use Rattle.babel_dump.specs.declared.job.Task.TheVariants as tasks
 use Rattle.babel_dump.specs.declared.outcome.Outcome.{Outcome}
+use Rattle.babel_dump.specs.declared.reading.Reading.{Reading}
 use Rattle.babel_dump.specs.declared.run_fault.RunFault.{RunFault}
 
--- what a task says of a dump from a file of this name, in its text and its outcome
+-- what a task finds of the table of a dump that is read so, from a file of this name, in its text
+-- and its outcome
+abbrev pub TaskFinds :
+    Task → Format → (quiet : Bool) → (file : List ℕ) → Reading → Routes → List ℕ → Outcome → Type 0
+TaskFinds (tasks.Show filter summary) format quiet file reading table =
+    Tells table.report (shown_in format filter summary quiet table) 0
+TaskFinds (tasks.Lookup pair) format quiet file reading table =
+    LooksUp format pair.dst pair.src table.report (answer_in table pair.dst pair.src)
+TaskFinds (tasks.AnySource dst) format quiet file reading table =
+    LooksUpAnySource format dst table
+TaskFinds (tasks.Normalise form view body hex) format quiet file reading table =
+    WritesOctets (AreOctets form reading view body table) (form_text hex) table.report
+TaskFinds (tasks.Key form view) format quiet file reading table =
+    WritesOctets (AreOctets form reading view 1024 table) (λ octets. key_line octets file)
+    table.report
+TaskFinds (tasks.Pairs forms.Answers view filter count) format quiet file reading table =
+    ListsPairs reading.limits view (kept_pairs_in format view filter count) table
+TaskFinds (tasks.Pairs forms.Routes view filter count) format quiet file reading table =
+    Tells table.report (rows_or_count_in format view count (kept_rows filter table.rows)) 0
+
+-- the table has too many pairs for it
+abbrev pub TaskFindsTooMany : Task → Bounds → Routes → Type 0
+TaskFindsTooMany (tasks.Normalise form view body hex) limits table =
+    HasTooMany form limits (seen_rows view table.rows)
+TaskFindsTooMany (tasks.Key form view) limits table =
+    HasTooMany form limits (seen_rows view table.rows)
+TaskFindsTooMany (tasks.Pairs form view filter count) limits table =
+    HasTooMany form limits (seen_rows view table.rows)
+TaskFindsTooMany task limits table = ⊥
+
+-- what it says of a dump, and why it says nothing
 abbrev pub TaskSays :
     Task → Format → (quiet : Bool) → (file : List ℕ) → Input → List ℕ → Outcome → Type 0
-TaskSays (tasks.Show filter summary) format quiet file dump =
-    Shows dump (shown_in format filter summary quiet)
-TaskSays (tasks.Lookup pair) format quiet file dump = LooksUp dump pair.dst pair.src format
-TaskSays (tasks.AnySource dst) format quiet file dump = LooksUpAnySource dump dst format
-TaskSays (tasks.Normalise forms.Answers view body hex) format quiet file dump =
-    WritesNormal dump view body hex
-TaskSays (tasks.Normalise forms.Routes view body hex) format quiet file dump =
-    WritesRoutes dump view body hex
-TaskSays (tasks.Key forms.Answers view) format quiet file dump = WritesKey dump view false file
-TaskSays (tasks.Key forms.Routes view) format quiet file dump = WritesKey dump view true file
-TaskSays (tasks.Pairs forms.Answers view filter count) format quiet file dump =
-    ListsPairs dump view (kept_pairs_in format view filter count)
-TaskSays (tasks.Pairs forms.Routes view filter count) format quiet file dump =
-    ListsRoutes dump view filter count format
+TaskSays task format quiet file dump =
+    SaysOf dump (TaskFinds task format quiet file dump.reading)
 
--- the view under which a task makes the canonical form of a dump, whose pairs may be too many
-abbrev pub canonical_view : Task → Option View
-canonical_view (tasks.Normalise forms.Answers view body hex) = Some view
-canonical_view (tasks.Key forms.Answers view) = Some view
-canonical_view (tasks.Pairs forms.Answers view filter count) = Some view
-canonical_view task = None
+abbrev pub IsFaultOf : Task → Input → Fault → Type 0
+IsFaultOf task dump = IsFaultWith dump (TaskFindsTooMany task dump.reading.limits)
 
--- the fault of a dump of which its canonical form under a view is made, or none
-abbrev pub IsFaultOf : Option View → Input → Fault → Type 0
-IsFaultOf None dump = IsFaultOfGiven dump
-IsFaultOf (Some view) dump = IsFaultOfForm dump view
+-- what a comparison finds of two tables, as the view shows them, of dumps that are read so, from
+-- files of these names
+abbrev pub ComparisonFinds :
+    Comparison → Format → View → (file other_file : List ℕ) → (reading other_reading : Reading)
+    → (table other : Routes) → List ℕ → Outcome → Type 0
+ComparisonFinds (comparisons.Compare forms.Answers listeds.First) format view file second reading
+    other_reading = Compares view format
+ComparisonFinds (comparisons.Compare forms.Answers listeds.All) format view file second reading
+    other_reading = ListsDifferences reading.limits view false format
+ComparisonFinds (comparisons.Compare forms.Answers listeds.Count) format view file second reading
+    other_reading = ListsDifferences reading.limits view true format
+ComparisonFinds (comparisons.Compare forms.Routes listed) format view file second reading
+    other_reading = TellsRoutes (λ rows differences. listed_in format view listed differences)
+ComparisonFinds (comparisons.Diff style) format view file second reading other_reading =
+    TellsRoutes
+    (diff_text style view (head_lines style.spelling file second reading other_reading))
 
--- what a comparison says of two dumps from files of these names
+-- they have too many differences for it
+abbrev pub ComparisonFindsTooMany : Comparison → Bounds → (table other : Routes) → Type 0
+ComparisonFindsTooMany (comparisons.Compare forms.Answers listeds.All) limits =
+    HasManyDifferences limits
+ComparisonFindsTooMany (comparisons.Compare forms.Answers listeds.Count) limits =
+    HasManyDifferences limits
+ComparisonFindsTooMany comparison limits = λ table other. ⊥
+
+-- what it says of two dumps, and why it says nothing; `untouched` says that the other reader is as
+-- it was
 abbrev pub ComparisonSays :
     Comparison → Format → View → (file other_file : List ℕ) → (dump other : Input)
     → List ℕ → Outcome → Type 0
-ComparisonSays (comparisons.Compare forms.Answers listeds.First) format view file second dump other =
-    Compares dump other view format
-ComparisonSays (comparisons.Compare forms.Answers listeds.All) format view file second dump other =
-    ListsDifferences dump other view false format
-ComparisonSays (comparisons.Compare forms.Answers listeds.Count) format view file second dump other =
-    ListsDifferences dump other view true format
-ComparisonSays (comparisons.Compare forms.Routes listed) format view file second dump other =
-    ComparesRoutes dump other view listed format
-ComparisonSays (comparisons.Diff style) format view file second dump other =
-    ShowsDiff dump other view style file second
+ComparisonSays task format view file second dump other =
+    SaysOfBoth dump other view
+    (ComparisonFinds task format view file second dump.reading other.reading)
 
--- whether it finds all that they answer differently, which may be too much
-abbrev pub finds_all : Comparison → Bool
-finds_all (comparisons.Compare forms.Answers listeds.All) = true
-finds_all (comparisons.Compare forms.Answers listeds.Count) = true
-finds_all comparison = false
-
--- why nothing is said of two dumps; `untouched` says that the other reader is as it was
 abbrev pub ComparisonCause :
-    (all : Bool) → View → (dump other : Input) → (untouched : Type 0) → RunFault → Type 0
-ComparisonCause false view dump other = CompareCause dump other
-ComparisonCause true view dump other = DifferencesCause dump other view
+    Comparison → View → (dump other : Input) → (untouched : Type 0) → RunFault → Type 0
+ComparisonCause task view dump other =
+    CompareCause dump other view (ComparisonFindsTooMany task dump.reading.limits)
 
 -- whose datagrams of a capture are wanted
 abbrev pub wanted_of : CaptureTask → Wanted
-wanted_of capture_tasks.Senders = wanteds.Everyone
-wanted_of (capture_tasks.Extract sender place hex) = wanteds.Sender sender place false
+wanted_of capture_tasks.Senders = everyone
+wanted_of (capture_tasks.Extract sender place hex) =
+    record { sender = Some sender; place = place }
 
 -- what is said of it, and why nothing is
 abbrev pub CaptureTaskSays : CaptureTask → Format → CaptureInput → List ℕ → Outcome → Type 0

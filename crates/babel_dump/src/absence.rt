@@ -21,14 +21,26 @@ pub struct Absence {
 }
 
 impl Absence {
+    /// That of all packets, or of all at a place, at whatever time.
+    pub fn at(place: Option<Place>) -> Absence {
+        Absence {
+            sender: None,
+            place,
+            since: None,
+            until: None,
+            first: None,
+        }
+    }
+
+    /// Whether there may be packets of other senders, or at other places.
+    pub(crate) fn is_narrow(&self) -> bool {
+        self.sender.is_some() || self.place.is_some()
+    }
+
     /// That of the packets that are wanted of this capture, which was read in this window.
     pub(crate) fn of(capture: &Capture, window: &Window) -> Absence {
         let gathered = capture.gathered();
-        let (sender, place) = match gathered.wanted() {
-            Wanted::Sender { sender, place, .. } => (Some(sender), place),
-            Wanted::InTurn { sender, place } => (sender, place),
-            Wanted::Everyone | Wanted::Each => (None, None),
-        };
+        let Wanted { sender, place } = gathered.wanted();
         let (since, until) = moments_of(window);
         let start = match capture.start() {
             Some(start) => Some(start.nanoseconds()),

@@ -1,24 +1,19 @@
 //! `diff`: the rows that two dumps hold differently, as text that people read.
 ghost use Rattle.std.specs.Prelude.{◌≡◌, ◌++◌, IfErr, IfOk, OnOk, filter, is_none, length};
-ghost use Rattle.babel_dump.specs.Command.{CompareCause, IsOfMemory, ShowsDiff};
-ghost use Rattle.babel_dump.specs.Device.{HasRoomToCount};
+ghost use Rattle.babel_dump.specs.Command.{IsOfMemory, TellsRoutes};
 ghost use Rattle.babel_dump.specs.DiffText.{diff_text, head_line, head_lines, place_text};
 ghost use Rattle.babel_dump.specs.DiffText.{stat_line, stat_text};
-ghost use Rattle.babel_dump.specs.Given.{read_from};
-ghost use Rattle.babel_dump.specs.Parts.{Gathered, Says, SaysRoutes};
-ghost use Rattle.babel_dump.specs.Run.{Called, calls_of};
+ghost use Rattle.babel_dump.specs.Parts.{Says};
 ghost use Rattle.babel_dump.specs.SlicedRows.{lines_of};
 ghost use Rattle.babel_dump.specs.Slices.{HasRoom, TookRoom};
 ghost use Rattle.babel_dump.specs.declared.format.Format.TheVariants as formats;
 
-use crate::both::{SeenTables, read_both};
-use crate::byte_in::ByteIn;
+use crate::both::SeenTables;
 use crate::diff_rows::DiffRows;
 use crate::differences::differences_status;
 use crate::format::Format;
 use crate::job::DiffStyle;
 use crate::key_text::push_file;
-use crate::outcome::{Outcome, Reports};
 use crate::push::{push_decimal, push_link, push_marked, push_octet, push_text};
 use crate::push_addr::push_addr;
 use crate::reading::Reading;
@@ -33,35 +28,8 @@ use std::alloc::{AllocError, Global};
 /// No address and place, nor any line of numbers, is longer, in octets.
 pub(crate) const ROOM: usize = 160;
 
-/// Reads two dumps, the first to its end before the other, and makes the text of the rows that they
-/// hold differently, as a view sees both, below lines that name these files.
-pub(crate) fn find_diff<R: ByteIn, S: ByteIn>(
-    alloc: Global,
-    reading: Reading,
-    other_reading: Reading,
-    view: View,
-    style: DiffStyle,
-    file: &str,
-    other_file: &str,
-    reader: &mut R,
-    other: &mut S,
-) -> Result<Found, RunFault>
-    requires reader { HasRoomToCount (R.state reader.old) }
-    requires other { HasRoomToCount (S.state other.old) }
-    ensures gathered { let dump = read_from (R.state reader.old) (R.state reader.new) reading in
-        let other_dump = read_from (S.state other.old) (S.state other.new) other_reading in
-        Gathered (calls_of dump) (CompareCause dump other_dump (other.new ≡ other.old))
-        (Says (ShowsDiff dump other_dump view style file.now other_file.now)) result }
-    ensures other_calls { Called (calls_of
-        (read_from (S.state other.old) (S.state other.new) other_reading)) result }
-{
-    let (one, another) = (reading, other_reading);
-    let seen = read_both(alloc, reading, other_reading, view, reader, other)?;
-    found_diff(alloc, one, another, view, style, file, other_file, &seen)
-}
-
 /// The text of the rows that two tables hold differently. Out of memory is the first dump's.
-fn found_diff(
+pub(crate) fn found_diff(
     alloc: Global,
     reading: Reading,
     other_reading: Reading,
@@ -71,16 +39,13 @@ fn found_diff(
     other_file: &str,
     seen: &SeenTables,
 ) -> Result<Found, RunFault>
-    ensures ok { IfOk result (Says (SaysRoutes seen.now
-        (diff_text style view
-        (head_lines style.spelling file.now other_file.now reading other_reading)))) }
+    ensures ok { IfOk result (Says (TellsRoutes (diff_text style view
+        (head_lines style.spelling file.now other_file.now reading other_reading))
+        seen.now.left seen.now.right)) }
     ensures err { IfErr result IsOfMemory }
 {
     let list = route_differences(alloc, &seen.left, &seen.right)?;
-    let outcome = Outcome {
-        status: differences_status(list.len()),
-        reports: Reports::Dumps(*seen.left.report(), *seen.right.report()),
-    };
+    let outcome = seen.outcome(differences_status(list.len()));
     let spelling = style.spelling;
     let heads = head_lines(alloc, spelling, file, other_file, reading, other_reading)?;
     let (rows, after) = diff_rows(alloc, view, style, heads, seen.left.rows().len(), list)?;

@@ -3,8 +3,7 @@
 ghost use Rattle.std.specs.Prelude.{◌≡◌, ◌+◌, ◌-◌, ◌++◌, ◌^◌, ◌<◌, ◌≤◌, ℕ, List, []};
 ghost use Rattle.std.specs.Prelude.{None, IfOk, OnOk, false, map, vec_capacity};
 ghost use Rattle.std.specs.List.{flat_map};
-ghost use Rattle.babel_capture.specs.Capture.{HasGiven, IsReadToCut, moment_read};
-ghost use Rattle.babel_capture.specs.Gathering.{with_taken};
+ghost use Rattle.babel_capture.specs.Capture.{HasRead, IsReadToCut, moment_read};
 ghost use Rattle.babel_timeline.specs.declared.telling.Telling.{Telling as TellingSaid};
 ghost use Rattle.babel_dump.specs.CaptureText.{senders_status};
 ghost use Rattle.babel_dump.specs.Device.{HasRoomToCount, HasRoomToWrite};
@@ -20,16 +19,16 @@ use crate::absence::Absence;
 use crate::byte_in::ByteIn;
 use crate::byte_out::ByteOut;
 use crate::event_line::write_event;
-use crate::events_fault::EventsFault;
 use crate::events_job::Events;
 use crate::events_outcome::{EventsOutcome, HeardSender};
 use crate::follower::Follower;
 use crate::input_fault::InputFault;
-use crate::notices::Notices;
 use crate::outcome::{Outcome, Reports};
 use crate::push_event::speaker_of;
+use crate::says::Says;
 use crate::slice_buffer::SliceBuffer;
 use crate::speaker::Speaker;
+use crate::trouble::Trouble;
 use crate::write::{WriteFailed, write_text};
 use babel_capture::{Capture, Fault, Gathered, Origin, Wanted};
 use babel_timeline::Telling;
@@ -53,31 +52,31 @@ struct Followed<'a> {
 /// Reads a capture to its end, or to its first fault, and tells what changes as it is read: the
 /// lines are flushed after each read. At a fault the lines up to there stand. Whose datagrams are
 /// left out since they lack something, and so are told of no more, is said at once.
-pub fn run_events<R: ByteIn, W: ByteOut, N: Notices>(
+pub fn run_events<R: ByteIn, W: ByteOut, S: Says>(
     alloc: Global,
     events: &Events,
     reader: &mut R,
     writer: &mut W,
-    notices: &mut N,
-) -> Result<EventsOutcome, EventsFault>
+    says: &mut S,
+) -> Result<EventsOutcome, Trouble>
     requires reader { HasRoomToCount (R.state reader.old) }
     requires writer { HasRoomToWrite (W.state writer.old) }
     ensures { IfOk result (λ answer. TellsEvents events.now (R.state reader.old)
         (R.state reader.new) (output (W.state writer.old) (W.state writer.new)) answer) }
 {
     let mut followed = Followed::new(alloc, events)?;
-    match followed.follow(events, reader, writer, notices) {
+    match followed.follow(events, reader, writer, says) {
         Ok(()) => followed.end(alloc, events, writer),
-        Err(mut fault) => {
-            followed.add_name(alloc, &mut fault)?;
-            Err(fault)
+        Err(mut trouble) => {
+            followed.add_name(alloc, &mut trouble)?;
+            Err(trouble)
         }
     }
 }
 
 impl<'a> Followed<'a> {
     /// A capture of which nothing was read.
-    fn new(alloc: Global, events: &'a Events) -> Result<Followed<'a>, EventsFault>
+    fn new(alloc: Global, events: &'a Events) -> Result<Followed<'a>, Trouble>
         ensures none { IfOk result (IsFollowed events.now [] []) }
         ensures told { IfOk result (λ followed. followed.follower.told.items ≡ []) }
         ensures empty { IfOk result (λ followed. followed.buffer.items ≡ []) }
@@ -85,7 +84,7 @@ impl<'a> Followed<'a> {
     {
         let buffer = SliceBuffer::new(alloc)?.into_octets();
         let (sender, place) = (events.sender, events.place);
-        let wanted = Wanted::InTurn { sender, place };
+        let wanted = Wanted { sender, place };
         let capture = Capture::within(alloc, MOST, events.window, events.accept_cut, wanted);
         let follower = Follower::new(alloc, events);
         Ok(Followed {
@@ -96,13 +95,13 @@ impl<'a> Followed<'a> {
     }
 
     /// Reads the capture to its end, piece by piece.
-    fn follow<R: ByteIn, W: ByteOut, N: Notices>(
+    fn follow<R: ByteIn, W: ByteOut, S: Says>(
         &mut self,
         events: &Events,
         reader: &mut R,
         writer: &mut W,
-        notices: &mut N,
-    ) -> Result<(), EventsFault>
+        says: &mut S,
+    ) -> Result<(), Trouble>
         requires reader { HasRoomToCount (R.state reader.old) }
         requires writer { HasRoomToWrite (W.state writer.old) }
         requires none { IsFollowed events.now [] [] self.old }
@@ -123,22 +122,22 @@ impl<'a> Followed<'a> {
         'reads: for _ in 0..MOST {
             match reader.read(&mut piece) {
                 Ok(0) => return Ok(()),
-                Ok(n) => self.take(events, &piece[..n], writer, notices)?,
-                Err(_) => return Err(EventsFault::Input(InputFault::Read)),
+                Ok(n) => self.take(events, &piece[..n], writer, says)?,
+                Err(_) => return Err(Trouble::from(InputFault::Read)),
             }
         }
-        Err(EventsFault::Input(InputFault::Read))
+        Err(Trouble::from(InputFault::Read))
     }
 
     /// Takes the next octets of the capture, and writes what their packets tell, also where they
     /// have a fault.
-    fn take<W: ByteOut, N: Notices>(
+    fn take<W: ByteOut, S: Says>(
         &mut self,
         events: &Events,
         piece: &[u8],
         writer: &mut W,
-        notices: &mut N,
-    ) -> Result<(), EventsFault>
+        says: &mut S,
+    ) -> Result<(), Trouble>
         requires few_failures { (W.state writer.old).failures < 2 ^ 64 - 1 }
         requires few_flushes { (W.state writer.old).flushes < 2 ^ 64 - 1 }
         requires told { self.old.follower.told.items ≡ [] }
@@ -156,7 +155,7 @@ impl<'a> Followed<'a> {
             (output (W.state writer.old) (W.state writer.new)) self.new) }
     {
         let fed = self.capture.feed(piece, &mut self.follower);
-        self.follower.say_lost(self.capture.gathered(), notices);
+        self.follower.say_lost(self.capture.gathered(), says);
         self.write(events, writer)?;
         self.follower.fault()?;
         match fed {
@@ -166,7 +165,7 @@ impl<'a> Followed<'a> {
     }
 
     /// Writes the lines of what was told, and flushes.
-    fn write<W: ByteOut>(&mut self, events: &Events, writer: &mut W) -> Result<(), EventsFault>
+    fn write<W: ByteOut>(&mut self, events: &Events, writer: &mut W) -> Result<(), Trouble>
         requires few_failures { (W.state writer.old).failures < 2 ^ 64 - 1 }
         requires few_flushes { (W.state writer.old).flushes < 2 ^ 64 - 1 }
         requires empty { self.old.buffer.items ≡ [] }
@@ -201,7 +200,7 @@ impl<'a> Followed<'a> {
         alloc: Global,
         events: &Events,
         writer: &mut W,
-    ) -> Result<EventsOutcome, EventsFault>
+    ) -> Result<EventsOutcome, Trouble>
         requires few_failures { (W.state writer.old).failures < 2 ^ 64 - 1 }
         requires few_flushes { (W.state writer.old).flushes < 2 ^ 64 - 1 }
         requires told { self.follower.told.items ≡ [] }
@@ -251,9 +250,9 @@ impl<'a> Followed<'a> {
         })
     }
 
-    /// Adds the name of the interface to a fault, where it is a sender's.
-    fn add_name(&self, alloc: Global, fault: &mut EventsFault) -> Result<(), AllocError> {
-        if let EventsFault::Sender { origin, name, .. } = fault {
+    /// Adds the name of the interface to a trouble, where it is a sender's.
+    fn add_name(&self, alloc: Global, trouble: &mut Trouble) -> Result<(), AllocError> {
+        if let Trouble::Sender { origin, name, .. } = trouble {
             let heard = self.heard(alloc, *origin)?;
             *name = Some(heard.name);
         }
@@ -277,10 +276,10 @@ impl<'a> Followed<'a> {
     }
 
     /// Where the capture is cut short, if that is accepted.
-    fn cut(&self, events: &Events) -> Result<Option<u64>, EventsFault>
-        ensures ok { IfOk result (λ cut. (taken fed : List ℕ) → HasGiven self.now.capture taken fed
+    fn cut(&self, events: &Events) -> Result<Option<u64>, Trouble>
+        ensures ok { IfOk result (λ cut. (fed : List ℕ) → HasRead self.now.capture fed
             → IsReadToCut self.now.capture.limit fed
-            (with_taken taken self.now.capture.progress.gathering) cut) }
+            self.now.capture.progress.gathering cut) }
         ensures accepted { IfOk result (λ cut. events.now.accept_cut ≡ false → cut ≡ None) }
     {
         match self.capture.cut() {
@@ -291,7 +290,7 @@ impl<'a> Followed<'a> {
     }
 
     /// The exit status: 1 where no sender has packets, and none is named.
-    fn status(&self, events: &Events) -> Result<u8, EventsFault>
+    fn status(&self, events: &Events) -> Result<u8, Trouble>
         ensures { IfOk result (λ status. status
             ≡ senders_status self.now.capture.progress.gathering.senders) }
     {
@@ -300,7 +299,7 @@ impl<'a> Followed<'a> {
         }
         if events.sender.is_some() {
             let absence = Absence::of(&self.capture, &events.window);
-            return Err(EventsFault::Input(InputFault::NoPackets(absence)));
+            return Err(Trouble::from(InputFault::NoPackets(absence)));
         }
         Ok(1)
     }
@@ -337,6 +336,6 @@ fn write_told<W: ByteOut>(
 }
 
 /// The fault of a capture.
-fn of_capture(fault: Fault) -> EventsFault {
-    EventsFault::Input(InputFault::Capture(fault))
+fn of_capture(fault: Fault) -> Trouble {
+    Trouble::from(InputFault::Capture(fault))
 }

@@ -1,6 +1,5 @@
 use crate::events_job::Events;
 use crate::outcome::Outcome;
-use crate::place_word::NamedOrigin;
 use babel_capture::Origin;
 use babel_table::Report;
 
@@ -23,16 +22,6 @@ pub struct HeardSender {
     pub report: Report,
 }
 
-impl HeardSender {
-    /// The sender at its place.
-    pub fn named(&self) -> NamedOrigin<'_> {
-        NamedOrigin {
-            origin: self.origin,
-            name: &self.name,
-        }
-    }
-}
-
 impl EventsOutcome {
     /// The report of the sender that is named, where it has packets at one place.
     pub(crate) fn named_report(&self, events: &Events) -> Option<Report> {
@@ -40,15 +29,6 @@ impl EventsOutcome {
         match self.senders.as_slice() {
             [heard] => Some(heard.report),
             _ => None,
-        }
-    }
-
-    /// The senders whose notes name them: all, but for the one that is named, if it has packets at
-    /// one place.
-    pub fn senders_in_notes(&self, events: &Events) -> &[HeardSender] {
-        match self.named_report(events) {
-            Some(_) => &[],
-            None => &self.senders,
         }
     }
 }

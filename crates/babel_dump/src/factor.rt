@@ -1,7 +1,8 @@
 //! After how many times its Interval a route is gone, as `--expiry` has it.
-ghost use Rattle.std.specs.Prelude.{◌≡◌, ◌<◌, ◌≤◌, SomeIff};
+ghost use Rattle.std.specs.Prelude.{◌≡◌, ℕ, ◌<◌, ◌≤◌, IfSome, SomeIff};
+ghost use Rattle.babel_dump.specs.Factors.{FactorText};
 
-use crate::place_word::parse_number;
+use crate::decimal::{Decimal, parse_decimal};
 use std::marker::Model;
 
 /// The ten-millionths of one.
@@ -11,7 +12,7 @@ const ONE: u64 = 10_000_000;
 const MOST: u64 = 1_000 * ONE;
 
 /// The digits after the point at most.
-const MOST_DIGITS: usize = 7;
+const PLACES: usize = 7;
 
 /// After how many times its Interval a route is gone (RFC 8966, appendix B): a number of
 /// ten-millionths, above 0 and at most 1,000.
@@ -63,18 +64,10 @@ impl Factor {
 
 /// The factor that a word names: digits, or digits with a point and one to seven digits after it,
 /// as `3.5`. `None` for any other word, for 0, and for more than 1,000.
-pub fn parse_factor(word: &str) -> Option<Factor> {
-    let (whole, fraction) = match word.split_once('.') {
-        Some((whole, digits)) => (whole, parse_fraction(digits)?),
-        None => (word, 0),
-    };
-    let whole: u32 = parse_number(whole)?;
-    Factor::new(u64::from(whole) * ONE + u64::from(fraction))
-}
-
-/// The ten-millionths that one to seven digits after the point are.
-fn parse_fraction(digits: &str) -> Option<u32> {
-    let zeros = MOST_DIGITS.checked_sub(digits.len())?;
-    let number: u32 = parse_number(digits)?;
-    number.checked_mul(10u32.checked_pow(zeros as u32)?)
+pub fn parse_factor(word: &str) -> Option<Factor>
+    ensures is { IfSome result (FactorText word.now) }
+    ensures reads { (factor : ℕ) → FactorText word.now factor → result ≡ Some factor }
+{
+    let Decimal { whole, units } = parse_decimal(word, PLACES)?;
+    Factor::new(whole.saturating_mul(ONE).saturating_add(u64::from(units)))
 }

@@ -6,11 +6,12 @@ ghost use Rattle.babel_timeline.specs.declared.telling.Telling.{Telling as Telli
 ghost use Rattle.babel_dump.specs.Followed.{HasHeard};
 ghost use Rattle.babel_dump.specs.declared.speaker.Speaker.{Speaker as SpeakerSaid};
 
-use crate::events_fault::EventsFault;
 use crate::events_job::Events;
 use crate::hearing::{Hearing, LostBy, Unheard};
-use crate::notices::Notices;
+use crate::missed_note::MissedNote;
+use crate::says::Says;
 use crate::speaker::Speaker;
+use crate::trouble::Trouble;
 use babel_capture::{Gathered, Record, Sink};
 use babel_timeline::Telling;
 use std::alloc::Global;
@@ -46,12 +47,12 @@ impl<'a> Follower<'a> {
     }
 
     /// Why no more is heard, if a record had a fault.
-    pub(crate) fn fault(&self) -> Result<(), EventsFault>
+    pub(crate) fn fault(&self) -> Result<(), Trouble>
         ensures { OnOk result (self.now.fault ≡ None) }
     {
         match self.fault {
             None => Ok(()),
-            Some(fault) => Err(EventsFault::from(fault)),
+            Some(fault) => Err(Trouble::from(fault)),
         }
     }
 
@@ -70,14 +71,20 @@ impl<'a> Follower<'a> {
         Ok(())
     }
 
-    /// Says of whom no more is told, since a datagram was left out that lacks something.
-    pub(crate) fn say_lost<N: Notices>(&mut self, gathered: &Gathered, notices: &mut N)
+    /// Says of whom no more is told, since a datagram was left out that lacks something, if the
+    /// command is not quiet.
+    pub(crate) fn say_lost<S: Says>(&mut self, gathered: &Gathered, says: &mut S)
         ensures { (self.new.events ≡ self.old.events) × (self.new.hearing ≡ self.old.hearing)
             × (self.new.told ≡ self.old.told) × (self.new.fault ≡ self.old.fault) }
     {
-        for lost in &self.lost {
-            let name = gathered.name(lost.missed.origin.place.interface);
-            notices.missed(&lost.missed, name, lost.packet);
+        if !self.events.quiet {
+            for lost in &self.lost {
+                says.say(&MissedNote {
+                    missed: lost.missed,
+                    packet: lost.packet,
+                    name: gathered.name(lost.missed.origin.place.interface),
+                });
+            }
         }
         self.lost.clear();
     }

@@ -4,7 +4,7 @@ ghost use Rattle.std.specs.BTreeSet.{contains};
 ghost use Rattle.std.specs.Option.{option_map};
 ghost use Rattle.babel_capture.specs.declared.missed.Missed.{Missed as MissedSaid};
 ghost use Rattle.babel_capture.specs.Counts.{Made};
-ghost use Rattle.babel_capture.specs.Sinking.{IsTold};
+ghost use Rattle.babel_capture.specs.Sinking.{IsTold, missed_said};
 ghost use Rattle.babel_timeline.specs.Hearing.{report_of};
 ghost use Rattle.babel_timeline.specs.declared.telling.Telling.{Telling as TellingSaid};
 ghost use Rattle.babel_dump.specs.EventsRun.{is_of};
@@ -18,7 +18,7 @@ use crate::events_job::Events;
 use crate::factor::Factor;
 use crate::push_event::speaker_of;
 use crate::speaker::Speaker;
-use babel_capture::{BabelPacket, Missed, Origin, Record};
+use babel_capture::{BabelPacket, Missed, Origin, Record, Said};
 use babel_prefix::Addr;
 use babel_table::Report;
 use babel_timeline::{Teller, Telling};
@@ -123,9 +123,9 @@ impl Hearing {
         };
         let time = time.nanoseconds();
         self.teller.expire(time, &mut self.heard)?;
-        match &said.packet {
-            Some(packet) => self.hear_packet(events, time, packet),
-            None => Ok(()),
+        match &said.said {
+            Said::Packet(packet) => self.hear_packet(events, time, packet),
+            _ => Ok(()),
         }
     }
 
@@ -181,9 +181,9 @@ impl Hearing {
         ensures lost { OnOk result ((speaker : SpeakerSaid)
             → contains speaker_cmp self.new.lost speaker
             ≡ contains speaker_cmp self.old.lost speaker
-            || is_of speaker (option_map (λ (m : MissedSaid). m.origin) said.now.missed)) }
+            || is_of speaker (option_map (λ (m : MissedSaid). m.origin) (missed_said said.now.said))) }
     {
-        let Some(missed) = &said.missed else {
+        let Said::Missed(missed) = &said.said else {
             return Ok(());
         };
         let Origin { place, sender } = missed.origin;

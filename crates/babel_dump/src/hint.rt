@@ -1,23 +1,17 @@
 //! What a user can do where an input is refused.
-use crate::dump_input::{begins_capture, begins_dump};
-use crate::events_fault::EventsFault;
-use crate::events_job::Events;
-use crate::ignored::IgnoredTlv;
+use crate::asked::Asked;
+use crate::begun::{begins_capture, begins_dump};
 use crate::input_fault::InputFault;
-use crate::job::{Job, Work};
 use crate::note::Note;
-use crate::pairs_fault::PairsFault;
-use crate::reading::capture_limit;
-use crate::run_fault::{RunFault, Side};
-use crate::sender_keys::SenderKeys;
-use babel_capture::{Fault as CaptureFault, Reason as LeftOutReason};
-use babel_table::Limits;
+use crate::place_word::SenderInWords;
+use crate::run_fault::Side;
+use babel_capture::{Fault as CaptureFault, Origin, Reason as LeftOutReason};
 use babel_tlv::{Fault, Reason};
 use thiserror::Error;
 
 /// A line that says what to do about a fault.
 #[derive(Clone, Copy, Debug, Error)]
-pub enum Hint {
+pub(crate) enum Hint {
     /// There are more routes than the limit.
     #[error("hint: the limit is {0} routes; --max-routes raises it")]
     Routes(u32),
@@ -94,6 +88,9 @@ pub enum Hint {
     /// The fault of a dump in a capture tells where a TLV is in the dump.
     #[error("hint: this counts the octets of the dump, as extract writes it")]
     Offset,
+    /// The fault of a sender's dump does.
+    #[error("hint: this counts the octets of the dump of {0}, as extract writes it")]
+    OffsetIn(SenderInWords),
 }
 
 /// What makes of compressed octets what was compressed, by their first octets: RFC 1952, 2.3.1;
@@ -106,28 +103,42 @@ const COMPRESSED: [(&[u8], &str); 4] = [
 ];
 
 impl Hint {
-    /// What to do about a fault of a job's run, of whose inputs the one on the fault's side begins
-    /// with these octets.
-    pub fn of(job: &Job, fault: &RunFault, begins: &[u8]) -> Option<Hint> {
+    /// What to do about a fault of the input on this side, which begins with these octets.
+    pub fn of(asked: &Asked, side: Side, fault: &InputFault, begins: &[u8]) -> Option<Hint> {
         match fault {
-            RunFault::Input(side, fault) => Hint::of_input(job, *side, fault, begins),
-            RunFault::Pairs(PairsFault::TooLong) => Some(Hint::Octets(job.most_octets())),
-            RunFault::Pairs(PairsFault::NotAPair { .. }) => Some(Hint::NotAPair),
-            RunFault::Pairs(PairsFault::Read) | RunFault::Write => None,
+            InputFault::Dump(fault) => Hint::of_dump(asked, *fault, begins),
+            InputFault::Ignored {
+                tlv,
+                ignores_encoding_4,
+            } => Hint::of_reason(asked, tlv.reason, *ignores_encoding_4, side),
+            InputFault::Capture(fault) => Hint::of_capture(asked, fault, begins),
+            InputFault::LeftOut(datagram) if !asked.names_sender() => {
+                Hint::of_lack(datagram.reason)
+            }
+            InputFault::SeveralInterfaces(_) => Some(Hint::Interface(side.place_option())),
+            InputFault::NoPackets(absence) if absence.is_narrow() => Some(Hint::Senders),
+            _ => None,
         }
     }
 
-    /// What to know about TLVs that a job ignored for this reason, in the dump on this side, where
-    /// Updates were ignored because their encoding is 4, or not.
+    /// What to know about TLVs that were ignored for this reason, in the dump on this side, where
+    /// Updates were ignored because their encoding is 4, or not: the option that reads these, if it
+    /// is not set.
     pub fn of_reason(
-        job: &Job,
+        asked: &Asked,
         reason: Reason,
         ignores_encoding_4: bool,
         side: Side,
     ) -> Option<Hint> {
-        match reason {
-            Reason::UnknownEncoding if ignores_encoding_4 => Hint::of_encoding(job.limits()?),
-            Reason::NoNextHop => Some(Hint::NoNextHop(side.option())),
+        match (asked, reason) {
+            (_, Reason::UnknownEncoding) if ignores_encoding_4 => {
+                if asked.limits()?.via_v6() {
+                    None
+                } else {
+                    Some(Hint::UnknownEncoding)
+                }
+            }
+            (Asked::Job(_), Reason::NoNextHop) => Some(Hint::NoNextHop(side.option())),
             _ => None,
         }
     }
@@ -140,66 +151,54 @@ impl Hint {
         }
     }
 
-    /// What to know about TLVs of an encoding that is not read: the option that reads more, if it
-    /// is not set.
-    pub fn of_encoding(limits: Limits) -> Option<Hint> {
-        if limits.via_v6() {
-            None
-        } else {
-            Some(Hint::UnknownEncoding)
-        }
-    }
-
-    /// What to know about the offset of a TLV that a fault tells, of an input that begins with
-    /// these octets.
-    pub fn of_offset(fault: &RunFault, begins: &[u8]) -> Option<Hint> {
+    /// What to know about the offset that a fault tells, of an input that begins with these octets.
+    pub fn of_offset(fault: &InputFault, begins: &[u8]) -> Option<Hint> {
         match fault {
-            RunFault::Input(
-                _,
-                InputFault::Ignored { .. }
-                | InputFault::Dump(
-                    Fault::TlvPastEnd { .. }
-                    | Fault::EncodingSetsRouterId { .. }
-                    | Fault::TooManyRoutes { .. },
-                ),
+            InputFault::Ignored { .. }
+            | InputFault::Dump(
+                Fault::TlvPastEnd { .. }
+                | Fault::EncodingSetsRouterId { .. }
+                | Fault::TooManyRoutes { .. },
             ) if begins_capture(begins) => Some(Hint::Offset),
             _ => None,
         }
     }
 
-    /// What to do about a fault of `key` without `--from`: of a capture that begins with these
-    /// octets, or of the dump of a sender in it.
-    pub fn of_sender_keys(keys: &SenderKeys, fault: &InputFault, begins: &[u8]) -> Option<Hint> {
+    /// What to know about the offset that a fault of this sender's TLVs tells.
+    pub fn of_offset_in(origin: Origin, fault: &InputFault) -> Option<Hint> {
         match fault {
-            InputFault::Capture(fault) => {
-                Hint::of_capture(capture_limit(keys.limits.bytes()), fault, begins)
-            }
-            InputFault::Dump(Fault::TooManyPairs) => Some(Hint::Pairs(keys.limits.entries())),
-            InputFault::Dump(Fault::TooLong) => Some(Hint::Octets(keys.limits.bytes())),
-            InputFault::Ignored {
-                tlv: IgnoredTlv {
-                    reason: Reason::UnknownEncoding,
-                    ..
-                },
-                ignores_encoding_4: true,
-            } => Hint::of_encoding(keys.limits),
-            InputFault::LeftOut(datagram) => Hint::of_lack(datagram.reason),
-            _ => None,
+            InputFault::Dump(Fault::Memory) => None,
+            _ => Some(Hint::OffsetIn(SenderInWords(origin))),
         }
     }
 
-    /// What to do about a fault of `events`, of a capture that begins with these octets.
-    pub fn of_events(events: &Events, fault: &EventsFault, begins: &[u8]) -> Option<Hint> {
-        match fault {
-            EventsFault::Input(InputFault::Capture(fault)) => {
-                Hint::of_capture(events.limits.bytes(), fault, begins)
-            }
-            EventsFault::Input(InputFault::NoPackets(_)) => Some(Hint::Senders),
-            EventsFault::Sender {
-                fault: Fault::TooManyRoutes { .. },
-                ..
-            } => Some(Hint::Routes(events.limits.entries())),
-            _ => None,
+    /// What to do about a block of a capture that has no length that it can have, and begins with
+    /// these octets.
+    pub fn of_block(begins: &[u8]) -> Option<Hint> {
+        if begins_capture(begins) {
+            Some(Hint::Joined)
+        } else {
+            None
+        }
+    }
+
+    /// What to do where there are more routes than the limit.
+    pub fn of_routes(asked: &Asked) -> Option<Hint> {
+        Some(Hint::Routes(asked.limits()?.entries()))
+    }
+
+    /// What to do where a dump, or what is asked of it, has more octets than the limit.
+    pub fn of_octets(asked: &Asked) -> Option<Hint> {
+        Some(Hint::Octets(asked.limits()?.bytes()))
+    }
+
+    /// What to do where there are more pairs than the limit; those of two dumps are differences.
+    fn of_pairs(asked: &Asked) -> Option<Hint> {
+        let limit = asked.limits()?.entries();
+        if asked.compares() {
+            Some(Hint::Differences(limit))
+        } else {
+            Some(Hint::Pairs(limit))
         }
     }
 
@@ -213,40 +212,15 @@ impl Hint {
         }
     }
 
-    fn of_input(job: &Job, side: Side, fault: &InputFault, begins: &[u8]) -> Option<Hint> {
+    fn of_dump(asked: &Asked, fault: Fault, begins: &[u8]) -> Option<Hint> {
         match fault {
-            InputFault::Dump(fault) => Hint::of_dump(job, *fault, begins),
-            InputFault::Ignored {
-                tlv,
-                ignores_encoding_4,
-            } => Hint::of_reason(job, tlv.reason, *ignores_encoding_4, side),
-            InputFault::Capture(fault) => {
-                Hint::of_capture(job.most_octets_of_capture(), fault, begins)
-            }
-            InputFault::SeveralInterfaces(_) => Some(Hint::Interface(side.place_option())),
-            InputFault::NoPackets(_) => Some(Hint::Senders),
-            InputFault::LeftOut(_) | InputFault::NoUpdates | InputFault::Read => None,
-        }
-    }
-
-    fn of_dump(job: &Job, fault: Fault, begins: &[u8]) -> Option<Hint> {
-        match fault {
-            Fault::TooManyRoutes { .. } => Some(Hint::Routes(job.limits()?.entries())),
-            Fault::TooManyPairs => Hint::of_too_many(job),
-            Fault::TooLong => Some(Hint::Octets(job.most_octets())),
+            Fault::TooManyRoutes { .. } => Hint::of_routes(asked),
+            Fault::TooManyPairs => Hint::of_pairs(asked),
+            Fault::TooLong => Hint::of_octets(asked),
             Fault::Truncated { at: 0 } | Fault::BadMagic { at: 0 } | Fault::BadVersion { at: 0 }
                 if !begins_dump(begins) => Some(Hint::of_other(begins)),
             Fault::BadMagic { .. } => Some(Hint::Trailer),
             _ => None,
-        }
-    }
-
-    /// What to do where a job has more pairs than the limit; those of two dumps are differences.
-    fn of_too_many(job: &Job) -> Option<Hint> {
-        let limit = job.limits()?.entries();
-        match job.work {
-            Work::Two { .. } => Some(Hint::Differences(limit)),
-            _ => Some(Hint::Pairs(limit)),
         }
     }
 
@@ -264,17 +238,7 @@ impl Hint {
         }
     }
 
-    /// What to do about a block of a capture that has no length that it can have, and begins with
-    /// these octets.
-    pub fn of_block(begins: &[u8]) -> Option<Hint> {
-        if begins_capture(begins) {
-            Some(Hint::Joined)
-        } else {
-            None
-        }
-    }
-
-    fn of_capture(limit: u32, fault: &CaptureFault, begins: &[u8]) -> Option<Hint> {
+    fn of_capture(asked: &Asked, fault: &CaptureFault, begins: &[u8]) -> Option<Hint> {
         match fault {
             CaptureFault::NotCapture if begins.starts_with(&[42, 2]) => Some(Hint::Dump),
             CaptureFault::NotCapture => Some(Hint::of_other(begins)),
@@ -284,7 +248,7 @@ impl Hint {
             CaptureFault::DatagramCutShort { .. } => Some(Hint::DatagramCutShort),
             CaptureFault::Version { .. } => Some(Hint::Version),
             CaptureFault::UnreadLink { .. } => Some(Hint::Link),
-            CaptureFault::TooLong { .. } => Some(Hint::Octets(limit)),
+            CaptureFault::TooLong { .. } => Some(Hint::Octets(asked.most_octets_of_capture()?)),
             _ => None,
         }
     }

@@ -1,5 +1,6 @@
 ghost use Rattle.std.specs.Prelude.{◌≡◌};
 ghost use Rattle.babel_dump.specs.Run.{input_status};
+ghost use Rattle.babel_dump.specs.Trouble.{is_empty_window};
 
 use crate::absence::Absence;
 use crate::ignored::IgnoredTlv;
@@ -58,7 +59,9 @@ impl InputFault {
     }
 
     /// Whether by the capture's first packet `--since` is later than `--until`.
-    pub fn is_empty_window(&self) -> bool {
+    pub(crate) fn is_empty_window(&self) -> bool
+        ensures { result ≡ is_empty_window self.now }
+    {
         matches!(self, InputFault::Capture(CaptureFault::EmptyWindow { .. }))
     }
 }

@@ -1,23 +1,24 @@
-ghost use Rattle.std.specs.Prelude.{◌≡◌};
+ghost use Rattle.std.specs.Prelude.{◌≡◌, IfErr, None, OnOk, Some};
 ghost use Rattle.std.specs.Option.{option_copied};
 ghost use Rattle.babel_dump.specs.Files.{first_file, name_of, other_file, reading_of};
-ghost use Rattle.babel_dump.specs.Misplaced.{misplaced_in};
+ghost use Rattle.babel_dump.specs.Misplaced.{begun_work, misplaced_by, misplaced_in};
+ghost use Rattle.babel_dump.specs.Misplaced.{source_begun, work_begun};
 ghost use Rattle.babel_dump.specs.declared.run_fault.Side.TheVariants as sides;
 
 use crate::addr_pair::AddrPair;
+use crate::begun::Begins;
 use crate::capture_reading::CaptureReading;
 use crate::filter::Filter;
 use crate::format::Format;
 use crate::key_text::Named;
 use crate::misplaced::misplaced;
 use crate::moment_words::moments_of;
-use crate::reading::{Reading, capture_limit};
+use crate::reading::Reading;
 use crate::run_fault::Side;
 use crate::spelling::Spelling;
 use babel_canon::Body;
 use babel_capture::Place;
 use babel_prefix::Addr;
-use babel_table::Limits;
 use babel_tlv::View;
 use std::alloc::AllocError;
 
@@ -199,7 +200,7 @@ impl Job {
 
     /// What a line on standard error about its input begins with: of `key`, which may have many
     /// files, the file.
-    pub fn named(&self) -> Named<'_> {
+    pub(crate) fn named(&self) -> Named<'_> {
         match &self.work {
             Work::Dump {
                 source,
@@ -241,17 +242,9 @@ impl Job {
         }
     }
 
-    /// The limits of its dump, or of the first of two; `None` where it reads captures alone.
-    pub(crate) fn limits(&self) -> Option<Limits> {
-        match self.reading() {
-            Some(reading) => Some(reading.limits),
-            None => None,
-        }
-    }
-
     /// The option that is for captures alone and was given for a dump, by whether FILE and OTHER
     /// are captures.
-    pub fn misplaced(&self, is_capture: bool, other_is_capture: bool) -> Option<&'static str>
+    fn misplaced(&self, is_capture: bool, other_is_capture: bool) -> Option<&'static str>
         ensures { option_copied result ≡ misplaced_in self.now.work is_capture other_is_capture }
     {
         match &self.work {
@@ -268,9 +261,33 @@ impl Job {
         }
     }
 
+    /// Sees what the first octets of its inputs are, of FILE and of OTHER: which dumps are read of
+    /// captures that have them. Their keys are found by this seed.
+    ///
+    /// # Errors
+    ///
+    /// The option that is for captures alone and was given for a dump. None is told where a read
+    /// failed, which the run then tells.
+    pub fn begin(&mut self, first: Begins, other: Begins, seed: u128) -> Result<(), &'static str>
+        ensures ok { OnOk result (self.new.work ≡ begun_work first other seed self.old.work) }
+        ensures none { OnOk result (misplaced_by first other self.old.work ≡ None) }
+        ensures err { IfErr result
+            (λ option. misplaced_by first other self.old.work ≡ Some option.now) }
+    {
+        if first != Begins::Failed && other != Begins::Failed {
+            let are = (first != Begins::Dump, other != Begins::Dump);
+            if let Some(option) = self.misplaced(are.0, are.1) {
+                return Err(option);
+            }
+        }
+        let are_captures = (first == Begins::Capture, other == Begins::Capture);
+        self.work.begin(are_captures, seed);
+        Ok(())
+    }
+
     /// The options that say from when and up to when packets are read of the input on this side: of
     /// the other those of the first where these say the same.
-    pub fn moment_options(&self, side: Side) -> (&'static str, &'static str) {
+    pub(crate) fn moment_options(&self, side: Side) -> (&'static str, &'static str) {
         match (&self.work, side) {
             (Work::Two { first, other, .. }, Side::Other) => {
                 other_moment_options(&first.reading, &other.reading)
@@ -279,25 +296,8 @@ impl Job {
         }
     }
 
-    /// How many octets of an input are read at most.
-    pub(crate) fn most_octets(&self) -> u32 {
-        match &self.work {
-            Work::Dump { source, .. } | Work::Each { source, .. } => source.reading.limits.bytes(),
-            Work::Two { first, .. } => first.reading.limits.bytes(),
-            Work::Capture { reading, .. } => reading.limit,
-        }
-    }
-
-    /// How many octets of an input are read at most, if that is a capture.
-    pub(crate) fn most_octets_of_capture(&self) -> u32 {
-        match &self.work {
-            Work::Capture { reading, .. } => reading.limit,
-            _ => capture_limit(self.most_octets()),
-        }
-    }
-
     /// Whether its output says which TLVs were ignored, as that of `show` does.
-    pub fn reports_ignored(&self) -> bool {
+    pub(crate) fn reports_ignored(&self) -> bool {
         match self.work {
             Work::Dump { task, .. } => matches!(task, Task::Show { .. }),
             _ => false,
@@ -310,6 +310,33 @@ impl Job {
             Work::Capture { task, .. } => matches!(task, CaptureTask::Senders),
             _ => false,
         }
+    }
+}
+
+impl Work {
+    /// Has its dumps be read of captures, or not, with keys found by this seed.
+    fn begin(&mut self, are_captures: (bool, bool), seed: u128)
+        ensures { self.new ≡ work_begun are_captures.0 are_captures.1 seed self.old }
+    {
+        match self {
+            Work::Dump { source, .. } => source.begin(are_captures.0, seed),
+            Work::Each { source, .. } => source.begin(are_captures.0, seed),
+            Work::Two { first, other, .. } => {
+                first.begin(are_captures.0, seed);
+                other.begin(are_captures.1, seed);
+            }
+            Work::Capture { .. } => {}
+        }
+    }
+}
+
+impl DumpSource {
+    /// Has it be read of a capture, or not, with keys found by this seed.
+    fn begin(&mut self, is_capture: bool, seed: u128)
+        ensures { self.new ≡ source_begun is_capture seed self.old }
+    {
+        self.reading.is_capture = is_capture;
+        self.reading.seed = seed;
     }
 }
 

@@ -1,39 +1,47 @@
 ghost use Rattle.std.specs.Prelude.{◌≡◌};
-ghost use Rattle.babel_dump.specs.CaptureRun.{capture_calls};
+ghost use Rattle.babel_dump.specs.Command.{InTurn, LooksUp, SaysOf};
 ghost use Rattle.babel_dump.specs.Device.{HasRoomToCount, HasRoomToWrite};
+ghost use Rattle.babel_dump.specs.Each.{EachCause, LooksUpAsked, LooksUpEach};
 ghost use Rattle.babel_dump.specs.Files.{name_of};
-ghost use Rattle.babel_dump.specs.Given.{dump_of, reads};
+ghost use Rattle.babel_dump.specs.Given.{GaveTable, IsFaultOfGiven, dump_of, read_from, reads};
 ghost use Rattle.babel_dump.specs.JobRun.{RanJob, capture_of};
-ghost use Rattle.babel_dump.specs.Parts.{FoundBy, Gathered, Says};
-ghost use Rattle.babel_dump.specs.Run.{Called, InputCause, OfFirst, calls_of, output};
+ghost use Rattle.babel_dump.specs.Parts.{FoundBy, Gathered, GaveSeen, Says};
+ghost use Rattle.babel_dump.specs.Run.{Called, InputCause, OfFirst, OfOther, calls_of};
+ghost use Rattle.babel_dump.specs.Run.{capture_calls, output, ran_outcome, stream_calls};
+ghost use Rattle.babel_dump.specs.RunText.{answer_in};
 ghost use Rattle.babel_dump.specs.Tasks.{CaptureTaskCause, CaptureTaskSays, ComparisonCause};
-ghost use Rattle.babel_dump.specs.Tasks.{ComparisonSays, IsFaultOf, TaskSays, canonical_view};
-ghost use Rattle.babel_dump.specs.Tasks.{finds_all};
+ghost use Rattle.babel_dump.specs.Tasks.{ComparisonSays, IsFaultOf, TaskSays};
 
-use crate::any_source::find_any_source;
+use crate::addr_pair::AddrPair;
+use crate::aside::Aside;
+use crate::both::SeenTables;
 use crate::byte_in::ByteIn;
 use crate::byte_out::ByteOut;
+use crate::capture_notes::CaptureNotes;
 use crate::capture_reading::CaptureReading;
-use crate::compare::find_verdict;
-use crate::diff::find_diff;
-use crate::differences::find_differences;
-use crate::each::find_each;
+use crate::each::{found_answers, read_pairs};
 use crate::extract::find_packets;
 use crate::format::Format;
-use crate::job::{CaptureTask, Comparison, DumpSource, Form, Job, Listed, Task, Work};
-use crate::key::find_key;
-use crate::lookup::find_answer;
-use crate::normalise::find_normal;
+use crate::input::{look_up, read_table};
+use crate::job::{CaptureTask, Comparison, DumpSource, Job, Task, Work};
+use crate::lookup::found_answer;
 use crate::outcome::Outcome;
-use crate::pairs::find_pairs;
-use crate::routes::{find_route_differences, find_route_octets, find_route_rows};
-use crate::run_fault::RunFault;
+use crate::reading::Reading;
+use crate::run_fault::{RunFault, Side};
 use crate::senders::find_senders;
-use crate::show::find_rows;
 use crate::slices::{Found, finish};
+use crate::tasks::{found_of, found_of_both};
 use babel_capture::Wanted;
+use babel_table::Table;
 use babel_tlv::View;
 use std::alloc::Global;
+
+/// What came of a job, and what there is to say besides.
+#[derive(Drop)]
+pub struct Ran {
+    pub outcome: Outcome,
+    pub aside: Aside,
+}
 
 /// Does a job: reads its input, finds what its command asks for, writes that, and flushes. The
 /// other reader has the other dump of a comparison, or the pairs of `--each`; each other job leaves
@@ -50,16 +58,27 @@ pub fn run_job<R: ByteIn, S: ByteIn, W: ByteOut>(
     reader: &mut R,
     other: &mut S,
     writer: &mut W,
-) -> Result<Outcome, RunFault>
+) -> Result<Ran, RunFault>
     requires reader { HasRoomToCount (R.state reader.old) }
     requires other { HasRoomToCount (S.state other.old) }
     requires writer { HasRoomToWrite (W.state writer.old) }
     ensures { RanJob job.now (reads (R.state reader.old) (R.state reader.new))
         (reads (S.state other.old) (S.state other.new))
-        (output (W.state writer.old) (W.state writer.new)) (other.new ≡ other.old) result }
+        (output (W.state writer.old) (W.state writer.new)) (other.new ≡ other.old)
+        (ran_outcome result) }
 {
     let found = find(alloc, job, reader, other);
-    finish(writer, found)
+    let aside = aside_of(&found);
+    let outcome = finish(writer, found)?;
+    Ok(Ran { outcome, aside })
+}
+
+/// What there is to say besides what was found.
+fn aside_of(found: &Result<Found, RunFault>) -> Aside {
+    match found {
+        Ok(found) => found.aside,
+        Err(_) => Aside::none(),
+    }
 }
 
 /// Reads a job's input, and finds what its command asks for.
@@ -90,8 +109,8 @@ fn find<R: ByteIn, S: ByteIn>(
     }
 }
 
-/// Reads a dump, and finds what is asked of it.
-fn find_of_dump<R: ByteIn>(
+/// Reads a dump to its end, or to its first fault, and finds what is asked of it.
+pub(crate) fn find_of_dump<R: ByteIn>(
     alloc: Global,
     source: &DumpSource,
     task: Task,
@@ -102,43 +121,79 @@ fn find_of_dump<R: ByteIn>(
     requires { HasRoomToCount (R.state reader.old) }
     ensures { let dump =
         dump_of (reads (R.state reader.old) (R.state reader.new)) source.now.reading in
-        Gathered (calls_of dump) (OfFirst (InputCause dump (IsFaultOf (canonical_view task) dump)))
+        Gathered (calls_of dump) (OfFirst (InputCause dump (IsFaultOf task dump)))
         (Says (TaskSays task format quiet (name_of source.now.file) dump)) result }
 {
-    let (reading, name) = (source.reading, source.file.name());
-    match task {
-        Task::Show { filter, summary } => {
-            find_rows(alloc, reading, filter, summary, quiet, format, reader)
-        }
-        Task::Lookup(pair) => find_answer(alloc, reading, pair, format, reader),
-        Task::AnySource(dst) => find_any_source(alloc, reading, dst, format, reader),
-        Task::Normalise {
-            form,
-            view,
-            body,
-            hex,
-        } => match form {
-            Form::Answers => find_normal(alloc, reading, view, body, hex, reader),
-            Form::Routes => find_route_octets(alloc, reading, view, body, hex, reader),
-        },
-        Task::Key { form, view } => match form {
-            Form::Answers => find_key(alloc, reading, view, false, name, reader),
-            Form::Routes => find_key(alloc, reading, view, true, name, reader),
-        },
-        Task::Pairs {
-            form,
-            view,
-            filter,
-            count,
-        } => match form {
-            Form::Answers => find_pairs(alloc, reading, view, filter, count, format, reader),
-            Form::Routes => find_route_rows(alloc, reading, view, filter, count, format, reader),
-        },
+    if let Task::Lookup(pair) = task {
+        return find_answer(alloc, source.reading, pair, format, reader);
     }
+    let (table, notes) = read_table(alloc, source.reading, reader)?;
+    let found = found_of(alloc, source, task, format, quiet, table)?;
+    Ok(found.beside(notes, None))
+}
+
+/// The same of a lookup, for which no table is made.
+fn find_answer<R: ByteIn>(
+    alloc: Global,
+    reading: Reading,
+    pair: AddrPair,
+    format: Format,
+    reader: &mut R,
+) -> Result<Found, RunFault>
+    requires { HasRoomToCount (R.state reader.old) }
+    ensures { let dump = read_from (R.state reader.old) (R.state reader.new) reading in
+        Gathered (calls_of dump) (OfFirst (InputCause dump (IsFaultOfGiven dump)))
+        (Says (SaysOf dump (λ table. LooksUp format pair.dst pair.src table.report
+        (answer_in table pair.dst pair.src)))) result }
+{
+    let read = look_up(alloc, reading, &pair, reader)?;
+    let found = found_answer(alloc, pair, format, &read.0)?;
+    Ok(found.beside(read.1, None))
+}
+
+/// Reads the pairs that a text asks for, and then a dump, and finds what it answers for each of
+/// them. Where the pairs are refused the dump is not read.
+fn find_each<R: ByteIn, S: ByteIn>(
+    alloc: Global,
+    reading: Reading,
+    format: Format,
+    reader: &mut R,
+    pairs: &mut S,
+) -> Result<Found, RunFault>
+    requires reader { HasRoomToCount (R.state reader.old) }
+    requires pairs { HasRoomToCount (S.state pairs.old) }
+    ensures gathered { let dump = read_from (R.state reader.old) (R.state reader.new) reading in
+        let asked = read_from (S.state pairs.old) (S.state pairs.new) reading in
+        Gathered (calls_of dump) (EachCause dump asked) (Says (LooksUpAsked dump asked format))
+        result }
+    ensures pairs_calls { Called (stream_calls
+        (read_from (S.state pairs.old) (S.state pairs.new) reading)) result }
+{
+    let asked = read_pairs(alloc, Reading { ..reading }, pairs)?;
+    find_answers(alloc, reading, format, &asked, reader)
+}
+
+/// Reads a dump to its end, or to its first fault, and finds what it answers for each of these
+/// pairs.
+fn find_answers<R: ByteIn>(
+    alloc: Global,
+    reading: Reading,
+    format: Format,
+    asked: &[AddrPair],
+    reader: &mut R,
+) -> Result<Found, RunFault>
+    requires { HasRoomToCount (R.state reader.old) }
+    ensures { let dump = read_from (R.state reader.old) (R.state reader.new) reading in
+        Gathered (calls_of dump) (OfFirst (InputCause dump (IsFaultOfGiven dump)))
+        (Says (SaysOf dump (LooksUpEach format asked.now))) result }
+{
+    let (table, notes) = read_table(alloc, reading, reader)?;
+    let found = found_answers(alloc, format, asked, &table)?;
+    Ok(found.beside(notes, None))
 }
 
 /// Reads two dumps, the first to its end before the other, and finds what is asked of both.
-fn find_of_two<R: ByteIn, S: ByteIn>(
+pub(crate) fn find_of_two<R: ByteIn, S: ByteIn>(
     alloc: Global,
     first: &DumpSource,
     second: &DumpSource,
@@ -154,33 +209,60 @@ fn find_of_two<R: ByteIn, S: ByteIn>(
         dump_of (reads (R.state reader.old) (R.state reader.new)) first.now.reading in
         let another =
         dump_of (reads (S.state other.old) (S.state other.new)) second.now.reading in
-        Gathered (calls_of dump)
-        (ComparisonCause (finds_all task) view dump another (other.new ≡ other.old))
+        Gathered (calls_of dump) (ComparisonCause task view dump another (other.new ≡ other.old))
         (Says (ComparisonSays task format view (name_of first.now.file) (name_of second.now.file)
         dump another)) result }
     ensures other_calls { Called (calls_of
         (dump_of (reads (S.state other.old) (S.state other.new)) second.now.reading)) result }
 {
-    let (one, two) = (first.reading, second.reading);
-    match task {
-        Comparison::Compare {
-            form: Form::Answers,
-            listed,
-        } => match listed {
-            Listed::First => find_verdict(alloc, one, two, view, format, reader, other),
-            Listed::All => find_differences(alloc, one, two, view, false, format, reader, other),
-            Listed::Count => find_differences(alloc, one, two, view, true, format, reader, other),
-        },
-        Comparison::Compare {
-            form: Form::Routes,
-            listed,
-        } => find_route_differences(alloc, one, two, view, listed, format, reader, other),
-        Comparison::Diff(style) => {
-            let (file, other_file) = (first.file.name(), second.file.name());
-            find_diff(
-                alloc, one, two, view, style, file, other_file, reader, other,
-            )
-        }
+    let (seen, notes) = read_both(alloc, first.reading, second.reading, view, reader, other)?;
+    let found = found_of_both(alloc, first, second, view, task, format, seen)?;
+    Ok(found.beside(notes.0, notes.1))
+}
+
+/// What the notes say of the captures that two dumps are read of.
+type BothNotes = (Option<CaptureNotes>, Option<CaptureNotes>);
+
+/// Reads two dumps, the first to its end before the other: their tables, as a view sees both.
+fn read_both<R: ByteIn, S: ByteIn>(
+    alloc: Global,
+    reading: Reading,
+    other_reading: Reading,
+    view: View,
+    reader: &mut R,
+    other: &mut S,
+) -> Result<(SeenTables, BothNotes), RunFault>
+    requires reader { HasRoomToCount (R.state reader.old) }
+    requires other { HasRoomToCount (S.state other.old) }
+    ensures gathered { let dump = read_from (R.state reader.old) (R.state reader.new) reading in
+        let other_dump = read_from (S.state other.old) (S.state other.new) other_reading in
+        Gathered (calls_of dump) (InTurn dump other_dump (other.new ≡ other.old))
+        (λ read. GaveSeen dump other_dump view read.0) result }
+    ensures other_calls { Called (calls_of
+        (read_from (S.state other.old) (S.state other.new) other_reading)) result }
+{
+    let (table, notes) = read_table(alloc, reading, reader)?;
+    let (other_table, other_notes) = read_other(alloc, other_reading, other)?;
+    let left = table.seen(view);
+    let right = other_table.seen(view);
+    Ok((SeenTables { left, right }, (notes, other_notes)))
+}
+
+/// Reads the other dump of a comparison to its end, or to its first fault, which is then the
+/// other's.
+fn read_other<S: ByteIn>(
+    alloc: Global,
+    reading: Reading,
+    other: &mut S,
+) -> Result<(Table, Option<CaptureNotes>), RunFault>
+    requires { HasRoomToCount (S.state other.old) }
+    ensures { let dump = read_from (S.state other.old) (S.state other.new) reading in
+        Gathered (calls_of dump) (OfOther (InputCause dump (IsFaultOfGiven dump)))
+        (λ read. GaveTable dump read.0) result }
+{
+    match read_table(alloc, reading, other) {
+        Ok(read) => Ok(read),
+        Err(fault) => Err(RunFault::Input(Side::Other, fault)),
     }
 }
 
@@ -201,10 +283,9 @@ fn find_of_capture<R: ByteIn>(
     match task {
         CaptureTask::Senders => find_senders(alloc, reading, format, reader),
         CaptureTask::Extract { sender, place, hex } => {
-            let wanted = Wanted::Sender {
-                sender,
+            let wanted = Wanted {
+                sender: Some(sender),
                 place,
-                ends: false,
             };
             find_packets(alloc, reading, wanted, hex, reader)
         }

@@ -1,20 +1,16 @@
-ghost use Rattle.std.specs.Prelude.{◌≡◌, ◌≢◌, IfErr, IfOk};
-ghost use Rattle.babel_dump.specs.Command.{WritesKey, WritesOctets};
-ghost use Rattle.babel_dump.specs.Device.{HasRoomToCount};
-ghost use Rattle.babel_dump.specs.Given.{GaveTable, Input, IsFaultOfOctets, read_from};
-ghost use Rattle.babel_dump.specs.Parts.{Gathered, Says, done};
-ghost use Rattle.babel_dump.specs.Run.{InputCause, OfFirst, calls_of};
-ghost use Rattle.babel_dump.specs.SenderKeys.{MakesKey};
+ghost use Rattle.std.specs.Prelude.{◌≡◌, IfErr, IfOk};
+ghost use Rattle.babel_table.specs.Seen.{seen_rows};
+ghost use Rattle.babel_dump.specs.Command.{WritesOctets};
+ghost use Rattle.babel_dump.specs.KeyText.{key_line};
+ghost use Rattle.babel_dump.specs.Octets.{AreOctets, HasTooMany};
+ghost use Rattle.babel_dump.specs.Parts.{FoundTooMany, Says};
+ghost use Rattle.babel_dump.specs.SenderKeys.{IsKeyOf};
 
-use crate::byte_in::ByteIn;
-use crate::input::read_table;
-use crate::input_fault::InputFault;
+use crate::job::Form;
 use crate::key_text::key_line;
-use crate::normalise::normal_octets;
-use crate::outcome::{Outcome, Reports};
+use crate::normalise::octets_of;
+use crate::outcome::Outcome;
 use crate::reading::Reading;
-use crate::routes::octets_of_routes;
-use crate::run_fault::RunFault;
 use crate::slices::Found;
 use babel_canon::Body;
 use babel_table::{Report, Table};
@@ -45,46 +41,41 @@ impl MadeKey {
     }
 }
 
-/// Reads a dump to its end, or to its first fault, and makes the line of its key, which names this
-/// file: the SHA-256 of what `normalise` writes of it under a view, with `--routes` or without it.
-pub(crate) fn find_key<R: ByteIn>(
+/// The line of the key of a table, which names this file: the SHA-256 of what `normalise` writes of
+/// it under a view, with `--routes` or without it.
+pub(crate) fn found_key(
     alloc: Global,
     reading: Reading,
+    form: Form,
     view: View,
-    routes: bool,
     file: &str,
-    reader: &mut R,
-) -> Result<Found, RunFault>
-    requires { HasRoomToCount (R.state reader.old) }
-    ensures { let dump = read_from (R.state reader.old) (R.state reader.new) reading in
-        Gathered (calls_of dump) (OfFirst (InputCause dump (IsFaultOfOctets routes dump view)))
-        (Says (WritesKey dump view routes file.now)) result }
+    table: Table,
+) -> Result<Found, Fault>
+    ensures ok { IfOk result (Says (WritesOctets (AreOctets form reading view 1024 table)
+        (λ octets. key_line octets file.now) table.report)) }
+    ensures err { IfErr result
+        (FoundTooMany (HasTooMany form reading.limits (seen_rows view table.rows))) }
 {
-    let key = make_key(alloc, reading, view, routes, file.as_bytes(), reader)?;
-    let outcome = Outcome {
-        status: 0,
-        reports: Reports::Dump(key.report),
-    };
+    let key = make_key(alloc, reading, form, view, file.as_bytes(), table)?;
+    let outcome = Outcome::of_dump(0, key.report);
     Ok(Found::text(alloc, key.line, outcome)?)
 }
 
-/// Reads a dump to its end, or to its first fault, and makes its key, whose line has this name.
-pub(crate) fn make_key<R: ByteIn>(
+/// The key of a table, whose line has this name.
+pub(crate) fn make_key(
     alloc: Global,
     reading: Reading,
+    form: Form,
     view: View,
-    routes: bool,
     name: &[u8],
-    reader: &mut R,
-) -> Result<MadeKey, InputFault>
-    requires { HasRoomToCount (R.state reader.old) }
-    ensures { let dump = read_from (R.state reader.old) (R.state reader.new) reading in
-        Gathered (calls_of dump) (InputCause dump (IsFaultOfOctets routes dump view))
-        (MakesKey dump view routes name.now) result }
+    table: Table,
+) -> Result<MadeKey, Fault>
+    ensures ok { IfOk result (λ key. IsKeyOf form reading view name.now key table) }
+    ensures err { IfErr result
+        (FoundTooMany (HasTooMany form reading.limits (seen_rows view table.rows))) }
 {
-    let table = read_table(alloc, Reading { ..reading }, reader)?;
     let (report, rows) = (*table.report(), table.rows().len());
-    let octets = usual_octets(alloc, reading, view, routes, table)?;
+    let octets = octets_of(alloc, reading, form, view, Body::usual(), table)?;
     let line = key_line(alloc, &octets, name)?;
     Ok(MadeKey {
         line,
@@ -92,25 +83,4 @@ pub(crate) fn make_key<R: ByteIn>(
         rows,
         passed: 0,
     })
-}
-
-/// What `normalise` writes of a table, in packets of the usual size.
-fn usual_octets(
-    alloc: Global,
-    reading: Reading,
-    view: View,
-    routes: bool,
-    table: Table,
-) -> Result<Vec<u8>, Fault>
-    ensures ok { IfOk result (λ octets. (dump : Input) → dump.reading ≡ reading
-        → GaveTable dump table
-        → WritesOctets routes dump view octets.items (done table.report)) }
-    ensures err { IfErr result (λ fault. fault ≢ Fault.Memory → (dump : Input)
-        → dump.reading ≡ reading → GaveTable dump table
-        → IsFaultOfOctets routes dump view fault) }
-{
-    if routes {
-        return octets_of_routes(alloc, reading, view, Body::usual(), table);
-    }
-    normal_octets(alloc, reading, view, Body::usual(), table)
 }

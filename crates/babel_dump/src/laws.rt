@@ -1,13 +1,10 @@
 //! Laws of the definitions.
-ghost use Rattle.babel_dump.specs.CapturedDump.{HandedIsDump, RefusalHasCause};
 ghost use Rattle.babel_dump.specs.ExtractLaws.{ExtractedIsFramed};
 ghost use Rattle.babel_dump.specs.FirstIgnored.{FirstIsFirst, NoneIsNone, OffsetsOfDumpsRise};
 ghost use Rattle.babel_dump.specs.FirstLeftOut.{NoneIsLeftOut, RefusedIsFirst};
 ghost use Rattle.babel_dump.specs.OneOutcome.{FaultIsOfAll, FaultIsOne, NamedIsNotSeveral};
 ghost use Rattle.babel_dump.specs.OneOutcome.{NothingWritten, OutcomeIsOne, OutcomeOrFault};
 ghost use Rattle.babel_dump.specs.OneOutcome.{WrittenIsPrefix};
-ghost use Rattle.babel_dump.specs.Records.{ReadsAreRecords, SenderTableIsOfRecords};
-ghost use Rattle.babel_dump.specs.Records.{TableIsOfRecords};
 
 /// What a job's run over devices that say their octets answers, failed calls and running out of
 /// memory aside, is settled by the octets of its readers: one outcome and one text, or one fault.
@@ -54,21 +51,4 @@ pub fn ignored_is_first()
 pub fn left_out_is_first()
     ensures none { NoneIsLeftOut }
     ensures first { RefusedIsFirst }
-{}
-
-/// What a run was given by a device over a capture, to its end, is the dump in the capture that the
-/// device's reader gave; and where the capture is refused, that has its cause.
-pub fn handed_is_dump()
-    ensures dump { HandedIsDump }
-    ensures refused { RefusalHasCause }
-{}
-
-/// What a run was given, read by read, by a device over a capture, to its end, are the packets of
-/// the capture's records, each with the time of its record: no read cut a packet. So the table at a
-/// moment is that of these packets and times. And the table of a sender in a capture that was read
-/// for the dump of each is that of its own packets and times.
-pub fn reads_are_records()
-    ensures reads { ReadsAreRecords }
-    ensures table { TableIsOfRecords }
-    ensures sender_table { SenderTableIsOfRecords }
 {}

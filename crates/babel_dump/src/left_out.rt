@@ -2,7 +2,8 @@
 ghost use Rattle.std.specs.Prelude.{◌≡◌, ◌≤◌, IfSome, length};
 ghost use Rattle.std.specs.Option.{IfNone};
 ghost use Rattle.babel_dump.specs.LeftOut.{LeavesNoneOut, first_among, first_counted};
-ghost use Rattle.babel_dump.specs.LeftOut.{first_left_out, left_out_name, sooner};
+ghost use Rattle.babel_dump.specs.LeftOut.{first_left_out, first_whole_left_out, left_out_name};
+ghost use Rattle.babel_dump.specs.LeftOut.{sooner, told_reasons};
 
 use babel_capture::{Reason, Report};
 use std::fmt;
@@ -31,14 +32,17 @@ impl fmt::Display for LeftOutDatagram {
 #[derive(Clone, Copy)]
 pub struct LeftOutNote {
     pub report: Report,
+    /// Whether those that lack something are told apart, with their senders.
+    pub are_apart: bool,
     left_out: u64,
 }
 
 impl LeftOutNote {
-    /// The note about a capture with this report; `None` if no wanted datagram was left out.
-    pub fn of(report: Report) -> Option<LeftOutNote> {
+    /// The note about a capture with this report; `None` if no wanted datagram was left out. Those
+    /// that lack something may be told apart, with their senders.
+    pub(crate) fn of(report: Report, are_apart: bool) -> Option<LeftOutNote> {
         let mut left_out: u64 = 0;
-        for reason in &REASONS {
+        for reason in told_reasons(are_apart) {
             if let Some((count, _first)) = report.left_out(*reason) {
                 left_out = left_out.saturating_add(count);
             }
@@ -46,7 +50,11 @@ impl LeftOutNote {
         if left_out == 0 {
             None
         } else {
-            Some(LeftOutNote { report, left_out })
+            Some(LeftOutNote {
+                report,
+                are_apart,
+                left_out,
+            })
         }
     }
 }
@@ -60,7 +68,7 @@ impl fmt::Display for LeftOutNote {
         };
         write!(f, "{} {datagrams} left out", self.left_out)?;
         let mut mark = ": ";
-        for reason in &REASONS {
+        for reason in told_reasons(self.are_apart) {
             if let Some((count, first)) = self.report.left_out(*reason) {
                 write!(f, "{mark}{} {count} first {first}", name(*reason))?;
                 mark = ", ";
@@ -70,6 +78,14 @@ impl fmt::Display for LeftOutNote {
     }
 }
 
+/// The reasons that a note tells, where those of datagrams that lack something may be told apart.
+pub(crate) fn told_reasons(are_apart: bool) -> &'static [Reason]
+    ensures reasons { result.now ≡ told_reasons are_apart }
+    ensures few { length result.now ≤ 8 }
+{
+    if are_apart { &WHOLE_REASONS } else { &REASONS }
+}
+
 /// The first datagram of a capture that was left out, by the number of its packet.
 #[tactic(auto, using(crate::proofs::LeftOutLaws::leaves_none))]
 pub(crate) fn first_left_out(report: &Report) -> Option<LeftOutDatagram>
@@ -77,6 +93,13 @@ pub(crate) fn first_left_out(report: &Report) -> Option<LeftOutDatagram>
     ensures none { IfNone result (LeavesNoneOut report.now) }
 {
     first_among(report, &REASONS)
+}
+
+/// The first datagram of a capture that was left out though nothing of it is missing.
+pub(crate) fn first_whole_left_out(report: &Report) -> Option<LeftOutDatagram>
+    ensures { result ≡ first_whole_left_out report.now }
+{
+    first_among(report, &WHOLE_REASONS)
 }
 
 /// The first datagram that was left out for one of these reasons.
@@ -113,13 +136,22 @@ fn sooner(
 }
 
 /// The reasons, in their order.
-pub(crate) const REASONS: [Reason; 8] = [
+const REASONS: [Reason; 8] = [
     Reason::Truncated,
     Reason::BadMagic,
     Reason::BadVersion,
     Reason::Fragment,
     Reason::Snapped,
     Reason::CutShort,
+    Reason::OtherPort,
+    Reason::NotLinkLocal,
+];
+
+/// Those of datagrams of which nothing is missing.
+const WHOLE_REASONS: [Reason; 5] = [
+    Reason::Truncated,
+    Reason::BadMagic,
+    Reason::BadVersion,
     Reason::OtherPort,
     Reason::NotLinkLocal,
 ];

@@ -1,27 +1,36 @@
 //! The notes of a run: one list, for standard error and, as JSON, for the output.
-ghost use Rattle.std.specs.Prelude.{◌-◌, ◌^◌, ◌<◌, ◌≤◌, vec_capacity};
+ghost use Rattle.std.specs.Prelude.{◌≡◌, ◌-◌, ◌^◌, ◌<◌, ◌≤◌, ◌++◌, if◌then◌else◌};
+ghost use Rattle.std.specs.Prelude.{[], None, Option, OnOk, Some, vec_capacity};
 ghost use Rattle.std.specs.List.{flat_map};
+ghost use Rattle.std.specs.Option.{option_map};
 ghost use Rattle.babel_dump.specs.NoteJson.{note_json, note_of_sender};
+ghost use Rattle.babel_dump.specs.Notes.{about_capture, about_sender, above, no_updates};
+ghost use Rattle.babel_dump.specs.Notes.{short_span, told};
+ghost use Rattle.babel_dump.specs.declared.ignored_note.IgnoredNote.{IgnoredNote};
+ghost use Rattle.babel_dump.specs.declared.left_out.LeftOutNote.{LeftOutNote};
+ghost use Rattle.babel_dump.specs.declared.note.Note.TheVariants as notes;
+ghost use Rattle.babel_dump.specs.declared.run_fault.Side.TheVariants as sides;
 ghost use Rattle.babel_dump.specs.Run.{output};
 ghost use Rattle.babel_dump.specs.Slices.{WroteText};
 
 use crate::byte_out::ByteOut;
-use crate::captured::CaptureNotes;
+use crate::capture_notes::CaptureNotes;
+use crate::done::{DumpRead, ToldSender};
 use crate::events_job::Events;
-use crate::events_outcome::{EventsOutcome, HeardSender};
+use crate::events_outcome::EventsOutcome;
 use crate::ignored_note::IgnoredNote;
 use crate::job::Job;
-use crate::key::MadeKey;
+use crate::job_run::Ran;
 use crate::left_out::LeftOutNote;
 use crate::note::{Note, SideNote};
-use crate::outcome::{Outcome, Reports};
+use crate::outcome::Reports;
 use crate::push_note::push_note_json;
 use crate::run_fault::{RunFault, Side};
-use crate::sender_keys::SenderKeys;
 use crate::sender_notes::write_sender_notes;
 use crate::spelling::Spelling;
 use crate::write::{WriteFailed, write_all, write_text};
-use babel_capture::Report as CaptureReport;
+use babel_capture::{Report as CaptureReport, Timing};
+use babel_prefix::Addr;
 use babel_table::Report;
 use std::alloc::{AllocError, Global};
 
@@ -56,204 +65,147 @@ impl Notes {
         &self.list
     }
 
-    /// Adds what there is to know after a job's run, by its outcome and the captures that it read a
-    /// dump of: nothing if the job is quiet.
-    pub fn gather(
-        &mut self,
-        job: &Job,
-        outcome: &Outcome,
-        capture: Option<CaptureNotes>,
-        other_capture: Option<CaptureNotes>,
-    ) -> Result<(), AllocError> {
-        if job.quiet {
-            return Ok(());
-        }
-        match outcome.reports {
-            Reports::Dump(report) => self.add_dump(job, Side::First, report, capture),
+    /// Adds what there is to know after a job's run.
+    pub fn gather(&mut self, job: &Job, ran: &Ran) -> Result<(), AllocError> {
+        let (capture, other_capture) = (ran.aside.capture, ran.aside.other);
+        match ran.outcome.reports {
+            Reports::Dump(report) if job.reports_ignored() => {
+                self.add_read(Side::First, report, capture)
+            }
+            Reports::Dump(report) => self.add_dump(Side::First, report, capture),
             Reports::AnySource(report, source) => {
-                self.add_dump(job, Side::First, report, capture)?;
-                match source {
-                    Some(source) => {
-                        let spelling = job.format.spelling();
-                        self.add(Side::First, Note::Source(spelling, source))
-                    }
-                    None => Ok(()),
-                }
+                self.add_dump(Side::First, report, capture)?;
+                let spelling = job.format.spelling();
+                self.add(Side::First, source_note(spelling, source))
             }
             Reports::Dumps(report, other) => {
-                self.add_dump(job, Side::First, report, capture)?;
-                self.add_dump(job, Side::Other, other, other_capture)
+                self.add_dump(Side::First, report, capture)?;
+                self.add_dump(Side::Other, other, other_capture)
             }
             Reports::Alike(report, other, routes) => {
-                self.add_dump(job, Side::First, report, capture)?;
-                self.add_dump(job, Side::Other, other, other_capture)?;
-                match routes {
-                    0 => Ok(()),
-                    _ => self.add(Side::First, Note::RoutesDiffer(routes as u64)),
-                }
+                self.add_dump(Side::First, report, capture)?;
+                self.add_dump(Side::Other, other, other_capture)?;
+                let routes = routes as u64;
+                self.add(Side::First, above(routes, 0, Note::RoutesDiffer(routes)))
             }
             Reports::Capture { report, cut } => {
-                let notes = CaptureNotes {
-                    report,
-                    cut,
-                    passed: 0,
+                self.add_whole(report, cut)?;
+                let short = if job.counts_short() {
+                    report.short()
+                } else {
+                    0
                 };
-                self.add_capture(Side::First, notes, report.interval())?;
-                if job.counts_short() && report.short() > 0 {
-                    return self.add(Side::First, Note::TooShort(report.short()));
-                }
-                Ok(())
+                self.add(Side::First, above(short, 0, Note::TooShort(short)))
             }
         }
     }
 
-    /// What there is to know of what `events` read of a capture, and of the dump of the sender that
-    /// is named, where it has packets at one place: nothing if the command is quiet.
-    pub fn gather_followed(
+    /// Adds what there is to know of what `events` read of a capture, and of the dump of the sender
+    /// that is named, where it has packets at one place.
+    pub(crate) fn gather_followed(
         &mut self,
         events: &Events,
         answer: &EventsOutcome,
     ) -> Result<(), AllocError> {
-        self.list.clear();
         let Reports::Capture { report, cut } = answer.outcome.reports else {
             return Ok(());
         };
-        if events.quiet {
-            return Ok(());
-        }
-        let named = answer.named_report(events);
-        if let Some(heard) = named {
-            self.add_ignored(Side::First, heard)?;
-        }
-        let passed = 0;
         let capture = CaptureNotes {
             report,
             cut,
-            passed,
+            are_apart: false,
+            passed: 0,
         };
-        self.add_capture(Side::First, capture, report.interval())?;
-        match named {
-            Some(heard) => self.add_updates(Side::First, heard),
-            None => Ok(()),
+        match answer.named_report(events) {
+            Some(heard) => self.add_dump(Side::First, heard, Some(capture)),
+            None => self.add_capture(Side::First, capture, report.interval()),
         }
     }
 
-    /// What there is to know of what `events` heard of a sender: nothing if it is quiet.
-    pub fn gather_heard(&mut self, events: &Events, heard: &HeardSender) -> Result<(), AllocError> {
+    /// What there is to know of the dump of a sender in a capture, in place of what was.
+    pub(crate) fn gather_sender(&mut self, read: DumpRead) -> Result<(), AllocError>
+        ensures { OnOk result ((ignored : Option IgnoredNote) × (self.new.list.items
+            ≡ flat_map (told sides.First) (about_sender ignored read.report read.passed))) }
+    {
         self.list.clear();
-        if events.quiet {
-            return Ok(());
-        }
-        self.add_ignored(Side::First, heard.report)?;
-        self.add_updates(Side::First, heard.report)
+        self.add_all(Side::First, &about_sender(read.report, read.passed as u64))
     }
 
-    /// What there is to know of the capture of `key` without `--from`, and of the greatest Interval
-    /// there: nothing if the command is quiet.
-    pub fn gather_capture(
-        &mut self,
-        quiet: bool,
-        capture: CaptureNotes,
-        interval: Option<u16>,
-    ) -> Result<(), AllocError> {
-        self.list.clear();
-        if quiet {
-            return Ok(());
+    /// Adds a note, if there is one.
+    fn add(&mut self, side: Side, note: Option<Note>) -> Result<(), AllocError>
+        ensures { OnOk result (self.new.list.items ≡ self.old.list.items ++ told side note) }
+    {
+        if let Some(note) = note {
+            self.list.push(SideNote { side, note })?;
         }
-        self.add_capture(Side::First, capture, interval)
-    }
-
-    /// What there is to know of the dump of a sender in it, which has this key.
-    pub fn gather_sender(&mut self, keys: &SenderKeys, key: &MadeKey) -> Result<(), AllocError> {
-        self.list.clear();
-        if keys.quiet {
-            return Ok(());
-        }
-        self.add_ignored(Side::First, key.report)?;
-        self.add_passed(Side::First, key.passed)?;
-        self.add_updates(Side::First, key.report)
-    }
-
-    fn add(&mut self, side: Side, note: Note) -> Result<(), AllocError> {
-        self.list.push(SideNote { side, note })?;
         Ok(())
     }
 
-    /// Adds what was ignored of the dump on this side, what there is to know of the capture that
-    /// has it, and that it has no Update.
+    /// Adds the notes that there are.
+    fn add_all(&mut self, side: Side, notes: &[Option<Note>]) -> Result<(), AllocError>
+        ensures { OnOk result (self.new.list.items
+            ≡ self.old.list.items ++ flat_map (told side) notes.now) }
+    {
+        for note in notes {
+            self.add(side, *note)?;
+        }
+        Ok(())
+    }
+
+    /// Adds what was ignored of the dump on this side, and what there is to know besides.
     fn add_dump(
         &mut self,
-        job: &Job,
         side: Side,
         report: Report,
         capture: Option<CaptureNotes>,
     ) -> Result<(), AllocError> {
-        if !job.reports_ignored() {
-            self.add_ignored(side, report)?;
-        }
+        self.add(side, ignored(report))?;
+        self.add_read(side, report, capture)
+    }
+
+    /// Adds what there is to know of the capture that has the dump on this side, and that the dump
+    /// has no Update.
+    fn add_read(
+        &mut self,
+        side: Side,
+        report: Report,
+        capture: Option<CaptureNotes>,
+    ) -> Result<(), AllocError> {
         if let Some(capture) = capture {
             let (passed, interval) = (capture.passed, capture.report.interval());
             self.add_capture(side, capture, interval)?;
-            self.add_passed(side, passed)?;
+            self.add(side, expired(passed as u64))?;
         }
-        self.add_updates(side, report)
+        self.add(side, no_updates(report))
     }
 
-    /// Adds how many rows of a dump's table were not announced again in time, if any.
-    fn add_passed(&mut self, side: Side, passed: usize) -> Result<(), AllocError> {
-        match passed {
-            0 => Ok(()),
-            _ => self.add(side, Note::Expired(passed as u64)),
-        }
+    /// Adds what there is to know of a capture, and of the greatest Interval there.
+    fn add_whole(&mut self, report: CaptureReport, cut: Option<u64>) -> Result<(), AllocError>
+        ensures { OnOk result ((left : Option LeftOutNote) × (self.new.list.items
+            ≡ self.old.list.items
+            ++ flat_map (told sides.First) (about_capture left report cut report.interval))) }
+    {
+        let capture = CaptureNotes {
+            report,
+            cut,
+            are_apart: false,
+            passed: 0,
+        };
+        self.add_capture(Side::First, capture, report.interval())
     }
 
-    /// Adds what was ignored of a dump.
-    fn add_ignored(&mut self, side: Side, report: Report) -> Result<(), AllocError> {
-        match IgnoredNote::of(report) {
-            Some(note) => self.add(side, Note::Ignored(note)),
-            None => Ok(()),
-        }
-    }
-
-    /// Adds that a dump has no Update, if it has none.
-    fn add_updates(&mut self, side: Side, report: Report) -> Result<(), AllocError> {
-        match report.updates() {
-            0 => self.add(side, Note::NoUpdates),
-            _ => Ok(()),
-        }
-    }
-
-    /// Adds what was left out of a capture, that frames named no interface, that its sections
-    /// describe others, that packets have trailers, where it is cut short, where times run
-    /// backwards, and that it is shorter than this Interval.
-    fn add_capture(
+    /// Adds what there is to know of a capture, and of this Interval.
+    pub(crate) fn add_capture(
         &mut self,
         side: Side,
         capture: CaptureNotes,
         interval: Option<u16>,
-    ) -> Result<(), AllocError> {
-        if let Some(note) = LeftOutNote::of(capture.report) {
-            self.add(side, Note::LeftOut(note))?;
-        }
-        if capture.report.cooked() > 0 {
-            self.add(side, Note::Cooked)?;
-        }
-        if capture.report.sections() > 1 {
-            self.add(side, Note::Sections(capture.report.sections()))?;
-        }
-        if capture.report.trailers() > 0 {
-            self.add(side, Note::Trailers(capture.report.trailers()))?;
-        }
-        if let Some(at) = capture.cut {
-            self.add(side, Note::CaptureCut(at))?;
-        }
-        if let Some(packet) = capture.report.timing().backwards {
-            self.add(side, Note::Backwards(packet))?;
-        }
-        match short_span(&capture.report, interval) {
-            Some(note) => self.add(side, note),
-            None => Ok(()),
-        }
+    ) -> Result<(), AllocError>
+        ensures { OnOk result ((left : Option LeftOutNote) × (self.new.list.items
+            ≡ self.old.list.items
+            ++ flat_map (told side) (about_capture left capture.report capture.cut interval))) }
+    {
+        self.add_all(side, &about_capture(capture, interval))
     }
 
     /// Writes a JSON object for each note, and flushes.
@@ -268,40 +220,130 @@ impl Notes {
     }
 
     /// Writes a JSON object for each note, which is about this sender, and flushes.
-    pub fn write_json_of<W: ByteOut>(
+    pub(crate) fn write_json_of<W: ByteOut>(
         &mut self,
         writer: &mut W,
         spelling: Spelling,
-        heard: &HeardSender,
+        sender: &ToldSender,
     ) -> Result<(), RunFault>
         requires few_failures { (W.state writer.old).failures < 2 ^ 64 - 1 }
         requires few_flushes { (W.state writer.old).flushes < 2 ^ 64 - 1 }
         ensures { WroteText (output (W.state writer.old) (W.state writer.new))
-            (flat_map (note_of_sender spelling heard.now.origin heard.now.name.items)
+            (flat_map (note_of_sender spelling sender.now.origin sender.now.name.items)
             self.old.list.items) result }
     {
-        let HeardSender { origin, name, .. } = heard;
+        let ToldSender { origin, name, .. } = sender;
         write_sender_notes(writer, spelling, origin, name, &self.list, &mut self.line)?;
         Ok(())
     }
 }
 
+/// What was left out of a capture, that frames named no interface, that its sections describe
+/// others, that packets have trailers, where it is cut short, where times run backwards, and that
+/// it is shorter than this Interval, as far as there is each.
+fn about_capture(capture: CaptureNotes, interval: Option<u16>) -> [Option<Note>; 7]
+    ensures { (left : Option LeftOutNote)
+        × (result ≡ about_capture left capture.report capture.cut interval) }
+{
+    let CaptureNotes {
+        report,
+        cut,
+        are_apart,
+        ..
+    } = capture;
+    let (sections, trailers) = (report.sections(), report.trailers());
+    [
+        left_out(report, are_apart),
+        above(report.cooked(), 0, Note::Cooked),
+        above(sections, 1, Note::Sections(sections)),
+        above(trailers, 0, Note::Trailers(trailers)),
+        cut_at(cut),
+        backwards(&report.timing()),
+        short_span(&report.timing(), interval),
+    ]
+}
+
+/// The note, if so many are more than these.
+fn above(count: u64, most: u64, note: Note) -> Option<Note>
+    ensures { result ≡ above count most note }
+{
+    if count > most { Some(note) } else { None }
+}
+
+/// That a lookup was for this source, if routes to its destination are source-specific.
+fn source_note(spelling: Spelling, source: Option<Addr>) -> Option<Note> {
+    Some(Note::Source(spelling, source?))
+}
+
+/// What was ignored of the dump of a sender in a capture, how many rows of its table were not
+/// announced again in time, and that it has no Update, as far as there is each.
+fn about_sender(report: Report, passed: u64) -> [Option<Note>; 3]
+    ensures { (ignored : Option IgnoredNote) × (result ≡ about_sender ignored report passed) }
+{
+    [ignored(report), expired(passed), no_updates(report)]
+}
+
+/// How many rows were not announced again in time, if any.
+fn expired(passed: u64) -> Option<Note>
+    ensures { result ≡ above passed 0 (notes.Expired passed) }
+{
+    above(passed, 0, Note::Expired(passed))
+}
+
+/// That a dump has no Update, if it has none.
+fn no_updates(report: Report) -> Option<Note>
+    ensures { result ≡ no_updates report }
+{
+    if report.updates() == 0 {
+        Some(Note::NoUpdates)
+    } else {
+        None
+    }
+}
+
+/// What was ignored of a dump.
+fn ignored(report: Report) -> Option<Note>
+    ensures { (ignored : Option IgnoredNote) × (result ≡ option_map notes.Ignored ignored) }
+{
+    Some(Note::Ignored(IgnoredNote::of(report)?))
+}
+
+/// What was left out of a capture.
+fn left_out(report: CaptureReport, are_apart: bool) -> Option<Note>
+    ensures { (left : Option LeftOutNote) × (result ≡ option_map notes.LeftOut left) }
+{
+    Some(Note::LeftOut(LeftOutNote::of(report, are_apart)?))
+}
+
+/// That a capture is cut short.
+fn cut_at(cut: Option<u64>) -> Option<Note>
+    ensures { result ≡ option_map notes.CaptureCut cut }
+{
+    Some(Note::CaptureCut(cut?))
+}
+
+/// That times run backwards.
+fn backwards(timing: &Timing) -> Option<Note>
+    ensures { result ≡ option_map notes.Backwards timing.now.backwards }
+{
+    Some(Note::Backwards(timing.backwards?))
+}
+
 /// That what was read of a capture spans less than the greatest Interval of an Update that
 /// announces, where each packet has a time.
-fn short_span(report: &CaptureReport, interval: Option<u16>) -> Option<Note> {
+fn short_span(timing: &Timing, interval: Option<u16>) -> Option<Note>
+    ensures { result ≡ short_span timing.now interval }
+{
     let interval = interval?;
-    let timing = report.timing();
     if timing.has_untimed {
         return None;
     }
-    let span = timing
-        .latest?
-        .nanoseconds()
-        .checked_sub(timing.earliest?.nanoseconds())?;
+    let (earliest, latest) = (timing.earliest?, timing.latest?);
+    let span = latest.nanoseconds().saturating_sub(earliest.nanoseconds());
     if span >= u128::from(interval) * HUNDREDTH {
         return None;
     }
-    let span = u64::try_from(span / HUNDREDTH).ok()?;
+    let span = (span / HUNDREDTH) as u64;
     Some(Note::ShortSpan { span, interval })
 }
 

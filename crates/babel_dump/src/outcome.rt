@@ -1,4 +1,5 @@
 ghost use Rattle.std.specs.Prelude.{◌≡◌};
+ghost use Rattle.babel_dump.specs.Command.{IsOutcome};
 ghost use Rattle.babel_dump.specs.Run.{run_status};
 
 use crate::run_fault::RunFault;
@@ -33,6 +34,16 @@ pub enum Reports {
         /// The offset where it is cut short, if it is and that is accepted.
         cut: Option<u64>,
     },
+}
+
+impl Outcome {
+    /// That of a dump with this report.
+    pub(crate) fn of_dump(status: u8, report: Report) -> Outcome
+        ensures { IsOutcome result status report }
+    {
+        let reports = Reports::Dump(report);
+        Outcome { status, reports }
+    }
 }
 
 /// The status of what a run answered, or its fault.

@@ -56,7 +56,7 @@ fn write_behind_interface<W: fmt::Write>(f: &mut fmt::Formatter<W>, place: Place
 }
 
 /// A sender and its place in words, unless that is interface 0 alone.
-#[derive(Clone, Copy)]
+#[derive(Clone, Copy, Debug)]
 pub(crate) struct SenderInWords(pub Origin);
 
 impl fmt::Display for SenderInWords {

@@ -7,7 +7,7 @@ ghost use Rattle.babel_dump.specs.NoteJson.{source_member};
 ghost use Rattle.babel_dump.specs.Slices.{HasRoom, TookRoom};
 ghost use Rattle.babel_dump.specs.TextParts.{comma_separated, left_out_objects};
 
-use crate::left_out::{REASONS, name as left_out_name};
+use crate::left_out::{LeftOutNote, name as left_out_name, told_reasons};
 use crate::note::{Note, SideNote};
 use crate::push::{push_decimal, push_octet, push_text};
 use crate::push_addr::push_addr;
@@ -100,7 +100,7 @@ fn push_members(buffer: &mut Vec<u8>, note: &Note)
 {
     match note {
         Note::Ignored(note) => push_ignored(buffer, &note.report),
-        Note::LeftOut(note) => push_left_out(buffer, &note.report),
+        Note::LeftOut(note) => push_left_out(buffer, note),
         Note::Sections(sections) => push_member(buffer, "sections", *sections),
         Note::Trailers(packets) => push_member(buffer, "packets", *packets),
         Note::CaptureCut(at) => push_member(buffer, "at", *at),
@@ -129,13 +129,13 @@ fn push_ignored(buffer: &mut Vec<u8>, report: &Report)
 }
 
 /// Appends why datagrams were left out: a member of an object.
-fn push_left_out(buffer: &mut Vec<u8>, report: &CaptureReport)
+fn push_left_out(buffer: &mut Vec<u8>, note: &LeftOutNote)
     requires { HasRoom buffer.old 1500 }
-    ensures text { buffer.new.items ≡ buffer.old.items ++ left_out_members report.now }
+    ensures text { buffer.new.items ≡ buffer.old.items ++ left_out_members note.now }
     ensures room { TookRoom buffer.old buffer.new 1500 }
 {
     push_text(buffer, r#","reasons":["#);
-    push_left_out_json(buffer, report, &REASONS);
+    push_left_out_json(buffer, &note.report, told_reasons(note.are_apart));
     push_text(buffer, "]");
 }
 

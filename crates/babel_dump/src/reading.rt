@@ -1,15 +1,14 @@
 ghost use Rattle.std.specs.Prelude.{◌≡◌};
 ghost use Rattle.std.specs.Option.{option_copied};
-ghost use Rattle.babel_dump.specs.CapturedDump.{capture_reading_of};
-ghost use Rattle.babel_dump.specs.Drained.{capture_limit, wanted_by};
-ghost use Rattle.babel_dump.specs.Given.{usual_reading};
+ghost use Rattle.babel_dump.specs.Given.{capture_limit, capture_reading_of, usual_reading};
+ghost use Rattle.babel_dump.specs.Given.{wanted_by};
 ghost use Rattle.babel_dump.specs.Misplaced.{other_time_name, time_name};
 
 use crate::capture_reading::CaptureReading;
 use crate::factor::Factor;
 use babel_capture::{Place, Wanted, Window};
 use babel_prefix::Addr;
-use babel_table::Limits;
+use babel_table::{Limits, USUAL_SEED};
 use babel_tlv::Mode;
 
 /// How many octets a capture may have where its dump may not have more.
@@ -57,6 +56,11 @@ pub struct Reading {
     pub mode: Mode,
     /// The address that the dump's packets were sent from: `--from`, or `--other-from`.
     pub sender: Addr,
+    /// Whether it is read of a capture that has it, as the first octets of the input tell.
+    pub is_capture: bool,
+    /// The seed by which keys are found in it: `Feeder::with_seed`. It makes no difference to what is
+    /// read.
+    pub seed: u128,
     /// The place where they were captured, in a capture: `--interface`, or `--other-interface`.
     /// Where it is left out, there may be only one.
     pub place: Option<Place>,
@@ -84,6 +88,8 @@ impl Reading {
             limits,
             mode,
             sender,
+            is_capture: false,
+            seed: USUAL_SEED,
             place: None,
             window: Window::Whole,
             time_option: None,
@@ -109,10 +115,9 @@ impl Reading {
     pub(crate) fn wanted(&self) -> Wanted
         ensures { result ≡ wanted_by self.now }
     {
-        Wanted::Sender {
-            sender: self.sender,
+        Wanted {
+            sender: Some(self.sender),
             place: self.place,
-            ends: true,
         }
     }
 }

@@ -1,15 +1,15 @@
 //! `key` without `--from`: the key of each sender in a capture.
-ghost use Rattle.std.specs.Prelude.{◌≡◌, ◌+◌, ◌-◌, ◌^◌, ◌<◌, ◌≤◌, IfErr, IfNone, IfOk, IfSome};
-ghost use Rattle.std.specs.Prelude.{filter};
-ghost use Rattle.std.specs.Map.{keys_of};
-ghost use Rattle.babel_capture.specs.Dumps.{timed_of};
-ghost use Rattle.babel_dump.specs.CaptureGiven.{GaveMoment, GaveSound};
-ghost use Rattle.babel_dump.specs.CaptureRun.{CaptureCause, IsNoFault, capture_calls};
+ghost use Rattle.std.specs.Prelude.{◌≡◌, ◌+◌, ◌^◌, ◌<◌, ◌≤◌, ◌-◌, List, IfErr, IfNone, IfOk};
+ghost use Rattle.std.specs.Prelude.{IfSome};
+ghost use Rattle.babel_capture.specs.Counts.{Made};
 ghost use Rattle.babel_dump.specs.Device.{HasRoomToCount};
-ghost use Rattle.babel_dump.specs.Run.{Called, output};
-ghost use Rattle.babel_dump.specs.SenderKeys.{IsKeyOfPackets, IsSenderKey};
-ghost use Rattle.babel_dump.specs.SenderKeys.{NoKeyOfPackets, NoSenderKey};
-ghost use Rattle.babel_dump.specs.SenderKeys.{capture_read_by, each_from, is_asked, read_by};
+ghost use Rattle.babel_dump.specs.Fed.{AreWhole};
+ghost use Rattle.babel_dump.specs.Packets.{packets_made};
+ghost use Rattle.babel_dump.specs.Parts.{Gathered};
+ghost use Rattle.babel_dump.specs.Run.{capture_calls, output};
+ghost use Rattle.babel_dump.specs.SenderKeys.{GaveSenders, IsFedOwn, IsSenderKey, NoSenderKey};
+ghost use Rattle.babel_dump.specs.SenderKeys.{SendersCause, capture_read_by, each_from};
+ghost use Rattle.babel_dump.specs.SenderKeys.{first_missed, is_asked, own_packets, read_by};
 ghost use Rattle.babel_dump.specs.SenderKeys.{sender_name};
 ghost use Rattle.babel_dump.specs.Slices.{WroteText};
 
@@ -19,22 +19,23 @@ use crate::capture_input::{CaptureRead, read_capture};
 use crate::capture_reading::CaptureReading;
 use crate::diff::{ROOM, push_place};
 use crate::factor::Factor;
+use crate::input::{refuse_unread, what_expired};
 use crate::input_fault::InputFault;
-use crate::job::DumpFile;
+use crate::job::{DumpFile, Form};
 use crate::key::{MadeKey, make_key};
-use crate::left_out::LeftOutDatagram;
+use crate::left_out::first_whole_left_out;
 use crate::push::push_octet;
 use crate::push_addr::push_addr;
 use crate::reading::{Reading, capture_limit};
 use crate::run_fault::RunFault;
-use crate::seeded::Seeded;
+use crate::sender_tables::{SenderTable, SenderTables};
 use crate::spelling::Spelling;
-use crate::timed_dump::TimedDump;
 use crate::write::write_text;
-use babel_capture::{Gathered, Origin, Place, TimedPacket, Wanted, Window};
+use babel_capture::{Gathered as GatheredPackets, Origin, Place, Wanted, Window};
 use babel_table::Limits;
 use babel_tlv::{Mode, View};
 use std::alloc::{AllocError, Global};
+use std::collections::BTreeMap;
 
 /// What `key` without `--from` asks for: the key of each sender in a capture.
 #[derive(Drop)]
@@ -52,25 +53,34 @@ pub struct SenderKeys {
     pub expiry: Option<Factor>,
     /// Whether a capture that is cut short is read to its last whole record: `--accept-cut`.
     pub accept_cut: bool,
-    /// Whether the capture is refused if a datagram was left out of it, and a dump if a TLV of it
-    /// is ignored, or it has no Update: `--strict`.
+    /// Whether the capture is refused if a datagram that lacks nothing was left out of it, and a
+    /// dump if a TLV of it is ignored, or it has no Update: `--strict`.
     pub strict: bool,
     pub view: View,
-    /// Whether the keys are those of the route octets: `--routes`.
-    pub routes: bool,
+    /// Whether the keys are those of the canonical octets, or of the route octets.
+    pub form: Form,
     pub file: DumpFile,
     pub quiet: bool,
 }
 
+/// What was read of a capture, and the table of each sender whose key is asked for.
+#[derive(Drop)]
+pub struct SendersRead {
+    pub read: CaptureRead,
+    pub tables: BTreeMap<Origin, SenderTable>,
+}
+
 impl SenderKeys {
-    /// How the dump of a sender at its place is read.
-    fn reading(&self, origin: Origin) -> Reading
-        ensures { result ≡ read_by self.now origin }
+    /// How the dump of a sender at its place is read, whose keys are found by this seed.
+    pub(crate) fn reading(&self, origin: Origin, seed: u128) -> Reading
+        ensures { result ≡ read_by self.now origin seed }
     {
         Reading {
             limits: self.limits,
             mode: self.mode,
             sender: origin.sender,
+            is_capture: true,
+            seed,
             place: Some(origin.place),
             window: self.window,
             time_option: None,
@@ -80,7 +90,7 @@ impl SenderKeys {
         }
     }
 
-    /// How the capture is read.
+    /// How the capture is read. Of what lacks something each sender is refused by itself.
     fn capture_reading(&self) -> CaptureReading
         ensures { result ≡ capture_read_by self.now }
     {
@@ -88,53 +98,62 @@ impl SenderKeys {
             limit: capture_limit(self.limits.bytes()),
             window: self.window,
             accept_cut: self.accept_cut,
-            strict: self.strict,
+            strict: false,
         }
     }
 
-    /// Reads a capture to its end, or to its first fault, for the dump of each sender.
+    /// Whether the key of this sender at its place is asked for.
+    pub(crate) fn asks_for(&self, origin: &Origin) -> bool
+        ensures { result ≡ is_asked self.now.place origin.now }
+    {
+        match self.place {
+            None => true,
+            Some(place) => origin.place == place,
+        }
+    }
+
+    /// Reads a capture to its end, or to its first fault, for the table of each sender. The seed is
+    /// that by which keys are found in them.
     pub fn gather<R: ByteIn>(
         &self,
         alloc: Global,
+        seed: u128,
         reader: &mut R,
-    ) -> Result<CaptureRead, InputFault>
+    ) -> Result<SendersRead, InputFault>
         requires { HasRoomToCount (R.state reader.old) }
-        ensures ok { IfOk result (λ read. GaveSound
-            (each_from self.now (R.state reader.old) (R.state reader.new)) read.gathered read.cut) }
-        ensures moment { IfOk result (λ read. GaveMoment
-            (each_from self.now (R.state reader.old) (R.state reader.new)) read.moment) }
-        ensures cause { IfErr result (CaptureCause
-            (each_from self.now (R.state reader.old) (R.state reader.new)) IsNoFault) }
-        ensures called { Called (capture_calls
-            (each_from self.now (R.state reader.old) (R.state reader.new))) result }
+        ensures { let input = each_from self.now (R.state reader.old) (R.state reader.new) in
+            Gathered (capture_calls input) (SendersCause self.now input)
+            (GaveSenders self.now input) result }
     {
-        read_capture(alloc, self.capture_reading(), Wanted::Each, reader)
-    }
-
-    /// The senders whose keys are asked for, of those in the capture, in their order.
-    pub fn senders(&self, alloc: Global, gathered: &Gathered) -> Result<Vec<Origin>, AllocError>
-        ensures { IfOk result (λ origins.
-            origins.items ≡ filter (is_asked self.now.place) (keys_of gathered.now.dumps)) }
-    {
-        let mut origins = gathered.origins(alloc)?;
-        let place = self.place;
-        origins.retain(|origin| is_asked(place, origin));
-        Ok(origins)
+        let mut senders = SenderTables::new(alloc, self, seed);
+        let how = self.capture_reading();
+        let read = read_capture(alloc, how, Wanted::everyone(), reader, &mut senders);
+        if senders.has_failed {
+            return Err(InputFault::from(AllocError));
+        }
+        let read = read?;
+        match first_whole_left_out(&read.gathered.report()) {
+            Some(datagram) if self.strict => Err(InputFault::LeftOut(datagram)),
+            _ => Ok(SendersRead {
+                read,
+                tables: senders.tables,
+            }),
+        }
     }
 
     /// The greatest Interval of the Updates that announce, of the senders whose keys are asked for.
-    pub fn interval(&self, gathered: &Gathered) -> Option<u16> {
+    pub fn interval(&self, gathered: &GatheredPackets) -> Option<u16> {
         let mut greatest = None;
         for (origin, tally) in gathered.senders() {
-            if is_asked(self.place, origin) {
+            if self.asks_for(origin) {
                 greatest = greatest.max(tally.interval);
             }
         }
         greatest
     }
 
-    /// The key of the dump of a sender at its place; its line names the file, and then these. The
-    /// seed is that by which keys are found in the dump.
+    /// The key of the dump of a sender at its place, of which this is the table, up to this moment;
+    /// its line names the file, and then these.
     ///
     /// # Errors
     ///
@@ -143,47 +162,29 @@ impl SenderKeys {
     pub fn key_of(
         &self,
         alloc: Global,
-        read: &CaptureRead,
         origin: Origin,
-        seed: u128,
-    ) -> Result<MadeKey, InputFault>
-        ensures ok { IfOk result (IsSenderKey self.now read.now origin) }
-        ensures err { IfErr result (NoSenderKey self.now read.now origin) }
-    {
-        match read.gathered.packets_of(&origin) {
-            Ok(packets) => self.key_of_packets(alloc, origin, packets, read.moment, seed),
-            Err(at) => Err(InputFault::LeftOut(LeftOutDatagram {
-                packet: at.packet,
-                reason: at.lack.reason(),
-            })),
-        }
-    }
-
-    /// The key of these packets, which are those of a sender at its place in the capture; they were
-    /// read up to this moment.
-    fn key_of_packets(
-        &self,
-        alloc: Global,
-        origin: Origin,
-        packets: &[TimedPacket],
+        table: SenderTable,
         moment: Option<u128>,
-        seed: u128,
     ) -> Result<MadeKey, InputFault>
-        ensures ok { IfOk result (IsKeyOfPackets self.now origin (timed_of packets.now) moment) }
-        ensures err { IfErr result (NoKeyOfPackets self.now origin (timed_of packets.now) moment) }
+        ensures ok { IfOk result (λ key. (made : List Made) → AreWhole (packets_made made)
+            → IsFedOwn self.now origin (own_packets origin made) (first_missed origin made) table
+            → IsSenderKey self.now made moment origin key) }
+        ensures err { IfErr result (λ fault. (made : List Made) → AreWhole (packets_made made)
+            → IsFedOwn self.now origin (own_packets origin made) (first_missed origin made) table
+            → NoSenderKey self.now made moment origin fault) }
     {
-        let name = sender_name(alloc, self.file.name(), Origin { ..origin })?;
-        let device = TimedDump::new(packets, moment);
-        let mut reader = Seeded::new(device, seed);
-        let key = make_key(
-            alloc,
-            self.reading(origin),
-            self.view,
-            self.routes,
-            &name,
-            &mut reader,
-        )?;
-        Ok(key.with_passed(reader.device.passed()))
+        let SenderTable { packets, missed } = table;
+        if let Some(datagram) = missed {
+            return Err(InputFault::LeftOut(datagram));
+        }
+        let expired = what_expired(self.expiry, moment);
+        let passed = packets.count_passed(expired, moment);
+        let table = packets.finish(expired)?;
+        refuse_unread(self.strict, None, table.report())?;
+        let reading = Reading::of(self.limits, self.mode, origin.sender);
+        let name = sender_name(alloc, self.file.name(), origin)?;
+        let key = make_key(alloc, reading, self.form, self.view, &name, table)?;
+        Ok(key.with_passed(passed))
     }
 
     /// How many rows tables have in all, where some have so many, and one more so many; `None` if
@@ -209,16 +210,6 @@ pub fn write_keys<W: ByteOut>(writer: &mut W, lines: &[u8]) -> Result<(), RunFau
 {
     write_text(writer, lines)?;
     Ok(())
-}
-
-/// Whether the keys of this sender are asked for, where this place is named, if one is.
-fn is_asked(place: Option<Place>, origin: &Origin) -> bool
-    ensures { result ≡ is_asked place origin.now }
-{
-    match place {
-        None => true,
-        Some(place) => origin.place == place,
-    }
 }
 
 /// `FILE ADDRESS interface N`: what names the dump of a sender at its place.

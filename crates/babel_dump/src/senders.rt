@@ -1,11 +1,11 @@
 ghost use Rattle.std.specs.Prelude.{◌≡◌};
 ghost use Rattle.babel_dump.specs.CaptureGiven.{capture_from};
-ghost use Rattle.babel_dump.specs.CaptureRun.{CaptureCause, IsNoFault, ListsSenders, capture_calls};
+ghost use Rattle.babel_dump.specs.CaptureRun.{CaptureCause, IsNoFault, ListsSenders};
 ghost use Rattle.babel_dump.specs.CaptureText.{senders_status};
 ghost use Rattle.babel_dump.specs.Device.{HasRoomToCount};
 ghost use Rattle.babel_dump.specs.Parts.{Gathered, Says};
-ghost use Rattle.babel_dump.specs.Run.{OfFirst};
-ghost use Rattle.babel_capture.specs.declared.wanted.Wanted.TheVariants as wanteds;
+ghost use Rattle.babel_dump.specs.Run.{OfFirst, capture_calls};
+ghost use Rattle.babel_capture.specs.Findings.{everyone};
 
 use crate::byte_in::ByteIn;
 use crate::capture_input::read_capture;
@@ -14,7 +14,7 @@ use crate::format::Format;
 use crate::outcome::{Outcome, Reports};
 use crate::run_fault::RunFault;
 use crate::slices::{Found, Rows};
-use babel_capture::{Origin, Tally, Wanted};
+use babel_capture::{NoSink, Origin, Tally, Wanted};
 use std::alloc::Global;
 use std::collections::BTreeMap;
 
@@ -28,24 +28,20 @@ pub(crate) fn find_senders<R: ByteIn>(
 ) -> Result<Found, RunFault>
     requires { HasRoomToCount (R.state reader.old) }
     ensures { let input =
-        capture_from (R.state reader.old) (R.state reader.new) reading wanteds.Everyone in
+        capture_from (R.state reader.old) (R.state reader.new) reading everyone in
         Gathered (capture_calls input) (OfFirst (CaptureCause input IsNoFault))
         (Says (ListsSenders input format)) result }
 {
-    let read = read_capture(alloc, reading, Wanted::Everyone, reader)?;
+    let read = read_capture(alloc, reading, Wanted::everyone(), reader, &mut NoSink)?;
     let status = senders_status(read.gathered.senders());
     let reports = Reports::Capture {
         report: read.gathered.report(),
         cut: read.cut,
     };
     let rows = Rows::Senders(read.gathered);
-    Ok(Found::rows(
-        alloc,
-        format,
-        rows,
-        Vec::new(alloc),
-        Outcome { status, reports },
-    )?)
+    let outcome = Outcome { status, reports };
+    let found = Found::rows(alloc, format, rows, Vec::new(alloc), outcome)?;
+    Ok(found.or_absence(read.absence))
 }
 
 /// The exit status where these are the senders: 1 if there is none.

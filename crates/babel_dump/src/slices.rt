@@ -12,7 +12,10 @@ ghost use Rattle.babel_dump.specs.Run.{output};
 ghost use Rattle.babel_dump.specs.SlicedRows.{Finished, found_text, lines_of};
 ghost use Rattle.babel_dump.specs.Slices.{HasRoom, WroteFront, WroteText};
 
+use crate::absence::Absence;
+use crate::aside::Aside;
 use crate::byte_out::ByteOut;
+use crate::capture_notes::CaptureNotes;
 use crate::diff_rows::{DiffRows, write_diff};
 use crate::filter::Filter;
 use crate::format::Format;
@@ -58,6 +61,8 @@ pub(crate) struct Found {
     pub after: Vec<u8>,
     pub buffer: SliceBuffer,
     pub outcome: Outcome,
+    /// What there is to say besides.
+    pub aside: Aside,
 }
 
 impl Found {
@@ -80,7 +85,29 @@ impl Found {
             after,
             buffer,
             outcome,
+            aside: Aside::none(),
         })
+    }
+
+    /// The same of dumps that were read of captures with these notes.
+    pub fn beside(self, capture: Option<CaptureNotes>, other: Option<CaptureNotes>) -> Found
+        ensures text { found_text result ≡ found_text self }
+        ensures outcome { result.outcome ≡ self.outcome }
+    {
+        let mut found = self;
+        found.aside.capture = capture;
+        found.aside.other = other;
+        found
+    }
+
+    /// The same of a capture, of which this is said where it has no packets.
+    pub fn or_absence(self, absence: Absence) -> Found
+        ensures text { found_text result ≡ found_text self }
+        ensures outcome { result.outcome ≡ self.outcome }
+    {
+        let mut found = self;
+        found.aside.absence = Some(absence);
+        found
     }
 
     /// A text, and no rows.
@@ -112,6 +139,7 @@ pub(crate) fn finish<W: ByteOut>(
         after,
         buffer,
         outcome,
+        ..
     } = found?;
     let mut buffer = buffer.into_octets();
     write_rows(writer, format, rows, &mut buffer)?;

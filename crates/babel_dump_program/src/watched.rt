@@ -1,6 +1,8 @@
 //! Readers and writers that remember what a fault is explained by.
+use babel_dump::Watched;
+use std::fs::File;
 use std::io;
-use std::io::{Read, Write};
+use std::io::{Read, Stdin, Write};
 
 /// How many of an input's first octets are remembered: enough to tell text from other octets.
 const FIRST: usize = 64;
@@ -71,6 +73,24 @@ fn put<'a>(room: &mut [u8], octets: &'a [u8]) -> &'a [u8] {
     &octets[len..]
 }
 
+/// What an input is read from.
+#[derive(Drop)]
+pub enum Source {
+    File(File),
+    StandardInput(Stdin),
+    Nothing,
+}
+
+impl Read for Source {
+    fn read(&mut self, buf: &mut [u8]) -> io::Result<usize> {
+        match self {
+            Source::File(file) => file.read(buf),
+            Source::StandardInput(stdin) => stdin.read(buf),
+            Source::Nothing => Ok(0),
+        }
+    }
+}
+
 /// A reader that remembers the first octets that it gave and the last ones, and why it failed last.
 #[derive(Drop)]
 pub struct WatchedReader<R> {
@@ -95,9 +115,10 @@ impl<R> WatchedReader<R> {
             error: None,
         }
     }
+}
 
-    /// The first octets that it gave, at most 64.
-    pub fn begins(&self) -> &[u8] {
+impl<R> Watched for WatchedReader<R> {
+    fn begins(&self) -> &[u8] {
         let beginning = &self.beginning;
         match beginning.octets.get(..beginning.len) {
             Some(octets) => octets,
@@ -105,8 +126,7 @@ impl<R> WatchedReader<R> {
         }
     }
 
-    /// The four octets from this offset on, if they came last.
-    pub fn four_at(&self, offset: u64) -> Option<[u8; 4]> {
+    fn four_at(&self, offset: u64) -> Option<[u8; 4]> {
         let mut four = [0; 4];
         for (octet, place) in four.iter_mut().zip(offset..) {
             *octet = self.ending.at(place)?;
@@ -114,8 +134,7 @@ impl<R> WatchedReader<R> {
         Some(four)
     }
 
-    /// Why it failed last, if it did.
-    pub fn error(&self) -> Option<&io::Error> {
+    fn error(&self) -> Option<&io::Error> {
         self.error.as_ref()
     }
 }

@@ -1,10 +1,11 @@
+mod beginnings;
 mod devices;
 mod failures;
 mod notes;
 mod one_call;
 mod one_command;
 
-use babel_dump::{Asked, Job, RunFault, read_words, run_job, status_of};
+use babel_dump::{Asked, Begun, Job, RunFault, read_words, run_job, status_of};
 use devices::{ScriptedIn, ScriptedOut};
 use std::alloc::Global;
 use std::process::Abort;
@@ -40,24 +41,24 @@ struct Ran {
     taken: Vec<u8>,
 }
 
-/// What the words of a line ask for.
-fn asked(alloc: Global, line: &str) -> Result<Asked, Fail> {
+/// What the words of a line ask for, of one input or two.
+fn one_asked(alloc: Global, line: &str) -> Result<Asked, Fail> {
     let words: Vec<&str> = line.split_whitespace().collect(alloc)?;
     match read_words(alloc, &words, false) {
-        Ok(asked) => Ok(asked),
+        Ok(asked) => Ok(asked.into_iter().next().ok_or("nothing")?),
         Err(_) => Err(Fail::from("other words")),
     }
 }
 
 /// The one job of the words of a line.
 fn one_job(alloc: Global, line: &str) -> Result<Job, Fail> {
-    let Asked::Jobs(jobs) = asked(alloc, line)? else {
-        return Err(Fail::from("no job"));
-    };
-    Ok(jobs.into_iter().next().ok_or("no job")?)
+    match one_asked(alloc, line)? {
+        Asked::Job(job) => Ok(job),
+        _ => Err(Fail::from("no job")),
+    }
 }
 
-/// Runs a case.
+/// Runs a case, in which an input may be a capture that has the dump.
 fn run(alloc: Global, case: &Case<'_>) -> Result<Ran, Fail> {
     let Case {
         line,
@@ -65,12 +66,16 @@ fn run(alloc: Global, case: &Case<'_>) -> Result<Ran, Fail> {
         other,
         script,
     } = *case;
-    let job = one_job(alloc, line)?;
+    let mut job = one_job(alloc, line)?;
+    let (first, second) = (Begun::new(dump).begins(), Begun::new(other).begins());
+    if job.begin(first, second, 1).is_err() {
+        return Err(Fail::from("a misplaced option"));
+    }
     let mut reader = ScriptedIn::new(dump, script.read, script.failing_read);
     let mut other = ScriptedIn::new(other, script.read, script.failing_other_read);
     let mut writer = ScriptedOut::new(alloc, script.written, script.failing_call);
     let outcome = match run_job(alloc, &job, &mut reader, &mut other, &mut writer) {
-        Ok(outcome) => Ok(outcome.status),
+        Ok(ran) => Ok(ran.outcome.status),
         Err(fault) => Err(fault),
     };
     Ok(Ran {

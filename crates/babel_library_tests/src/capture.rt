@@ -2,7 +2,9 @@
 //! packets are of examples/routers/babeld-basic-a.pcap, and what they give is of the dump beside
 //! it; the blocks round them are worked by hand from draft-ietf-opsawg-pcap and
 //! draft-ietf-opsawg-pcapng.
-use babel_capture::{Capture, Fault, NoSink, Wanted};
+ghost use Rattle.std.specs.Prelude.{⊤};
+
+use babel_capture::{Capture, Fault, Record, Said, Sink, Wanted};
 use babel_prefix::{Addr, Family};
 use std::alloc::Global;
 use std::test::Fail;
@@ -66,27 +68,48 @@ fn joined(alloc: Global, parts: &[&str]) -> Result<Vec<u8>, Fail> {
     Ok(octets)
 }
 
-/// The dump of a sender in a capture, in a first piece and then in pieces of this length. What is
-/// given after the first piece is taken out then.
+/// Keeps the octets of packets, end to end, up to the first that there is no memory for.
+#[derive(Drop)]
+struct Dump {
+    octets: Vec<u8>,
+    is_short: bool,
+}
+
+impl Sink for Dump {
+    ghost has = { λ _ _ _. ⊤ };
+
+    fn take(&mut self, told: &Record<'_>) {
+        if let Said::Packet(packet) = &told.said {
+            self.is_short |= self.octets.extend_from_slice(packet.octets).is_err();
+        }
+    }
+}
+
+/// The dump of a sender in a capture, in a first piece and then in pieces of this length.
 fn dump_of(
     alloc: Global,
     sender: Addr,
     (first, rest): (&[u8], &[u8]),
     step: usize,
 ) -> Result<Vec<u8>, Fault> {
-    let wanted = Wanted::Sender {
-        sender,
+    let wanted = Wanted {
+        sender: Some(sender),
         place: None,
-        ends: false,
+    };
+    let mut dump = Dump {
+        octets: Vec::new(alloc),
+        is_short: false,
     };
     let mut capture = Capture::new(alloc, 4_096, wanted);
-    capture.feed(first, &mut NoSink)?;
-    let mut dump = capture.take_dump();
+    capture.feed(first, &mut dump)?;
     for piece in rest.chunks(step.max(1)) {
-        capture.feed(piece, &mut NoSink)?;
+        capture.feed(piece, &mut dump)?;
     }
-    dump.extend_from_slice(capture.finish()?.dump())?;
-    Ok(dump)
+    capture.finish()?;
+    if dump.is_short {
+        return Err(Fault::Memory);
+    }
+    Ok(dump.octets)
 }
 
 #[test]

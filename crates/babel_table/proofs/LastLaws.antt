@@ -1,24 +1,21 @@
--- What is held at a moment in mode Plain was announced last, and lasts.
-use Rattle.std.proofs.Common.{◌≡◌, ℕ, ◌+◌, ◌*◌, ◌<◌, ◌≤◌, Bool, true, false, cond, List, [], ◌∷◌, ◌++◌, Option, Some, None, refl, sym, ap, subst, ◌∙◌, append_assoc, arith}
+-- What is held at a moment, by the last that was said of a key.
+use Rattle.std.proofs.Common.{◌≡◌, ℕ, ◌+◌, ◌*◌, ◌<◌, ◌≤◌, ◌⊎◌, inl, inr, Bool, true, false, cond, List, [], ◌∷◌, ◌++◌, Option, Some, None, refl, sym, ap, subst, ◌∙◌, arith}
 use Rattle.std.specs.Prelude.{◌↔◌, not, ◌&&◌, nat_lt, nat_le, is_none}
-use Rattle.std.specs.List.{AllByRecursion}
-use Rattle.std.specs.Option.{option_and_then}
+use Rattle.std.specs.List.{AllByRecursion, Contains, filter}
+use Rattle.std.specs.Option.{option_and_then, option_map}
 use Rattle.std.proofs.lemmas.Bool.Decides.{nat_tests}
-use Rattle.std.proofs.lemmas.List.{append-nil}
 use Rattle.babel_tlv.specs.declared.event.Event.{Event}
 use Rattle.babel_tlv.specs.declared.event.Event.TheVariants as events
 use Rattle.babel_tlv.specs.declared.held.Held.{Held}
 use Rattle.babel_tlv.specs.declared.held.Held.TheVariants as helds
+use Rattle.babel_tlv.specs.declared.mode.Mode.{Mode}
 use Rattle.babel_tlv.specs.declared.mode.Mode.TheVariants as modes
 use Rattle.babel_tlv.specs.Route.{RouteKey, Announcement}
-use Rattle.babel_table.specs.Holds.{same_key}
-use Rattle.babel_table.specs.LastTold.{HasPassed, IsLastTold, Lasts, SpeaksOf}
-use Rattle.babel_table.specs.Moments.{HoldsAt, Told, When, Word, has_passed, last_word, left_at, word, word_after}
+use Rattle.babel_table.specs.Holds.{Names, retracted, same_key}
+use Rattle.babel_table.specs.LastTold.{AllStay, AreHoldRows, HasPassed, IsGone, IsLast, Lasts, SpeaksOf, Stays, retracts_all}
+use Rattle.babel_table.specs.Moments.{AreRowsAt, HoldsAt, Told, When, Word, has_passed, last_word, left_at, times, word, word_after}
 use Rattle.babel_table.proofs.HoldsLaws.{same-is, same-of, same_key-is}
-use Rattle.babel_table.proofs.MomentLaws.{none_either, words_from}
-
-abbrev next : ℕ → RouteKey → Option Word → Told → Option Word
-next factor key old one = word_after modes.Plain factor key one.when one.event old
+use Rattle.babel_table.proofs.MomentLaws.{words_from}
 
 -- ---- tests of keys
 
@@ -32,106 +29,84 @@ cond_false : {T : Type 0} (b : Bool) (x y : T) → ¬ (b ≡ true) → cond b x 
 cond_false true x y no_way = absurd (no_way refl)
 cond_false false x y no_way = refl
 
--- ---- the last word on a key stands
+one_key : (a b : RouteKey) → (a ≡ b) ⊎ ¬ (a ≡ b)
+one_key a b = by (same_key a b) refl
+  where
+    by : (same : Bool) → same_key a b ≡ same → (a ≡ b) ⊎ ¬ (a ≡ b)
+    by true e = inl (key-is a b e)
+    by false e = inr (λ is. let t = key-of a b is in cc)
 
-module _ (factor : ℕ) (key : RouteKey) where
-  next-silent : (old : Option Word) (when : When) (event : Event) → ¬ SpeaksOf key event → word_after modes.Plain factor key when event old ≡ old
+names_or : (key : RouteKey) (event : Event) → Names key event ⊎ ¬ Names key event
+names_or key (events.Announce other ann) = one_key other key
+names_or key (events.Retract other) = one_key other key
+names_or key events.RetractAll = inr (λ e. e)
+names_or key events.Nothing = inr (λ e. e)
+names_or key (events.Ignored reason) = inr (λ e. e)
+
+speaks_or : (key : RouteKey) (event : Event) → SpeaksOf key event ⊎ ¬ SpeaksOf key event
+speaks_or key (events.Announce other ann) = one_key other key
+speaks_or key (events.Retract other) = one_key other key
+speaks_or key events.RetractAll = inl tt
+speaks_or key events.Nothing = inr (λ e. e)
+speaks_or key (events.Ignored reason) = inr (λ e. e)
+
+-- ---- the last that is so
+
+module _ (Is : Event → Type 0) (tells_apart : (event : Event) → Is event ⊎ ¬ Is event) where
+  abbrev NoneIs : List Told → Type 0
+  NoneIs told = AllByRecursion (λ one. ¬ Is one.event) told
+
+  last_or : (told : List Told) → ((one : Told) × IsLast Is told one) ⊎ NoneIs told
+  last_or [] = inr tt
+  last_or (first ∷ later) = by (last_or later)
+    where
+      here : NoneIs later → Is first.event ⊎ ¬ Is first.event → ((one : Told) × IsLast Is (first ∷ later) one) ⊎ NoneIs (first ∷ later)
+      here none (inl is) = inl (first, record { before = []; after = later; whole = refl; is = is; none = none })
+      here none (inr not_so) = inr (not_so, none)
+
+      by : ((one : Told) × IsLast Is later one) ⊎ NoneIs later → ((one : Told) × IsLast Is (first ∷ later) one) ⊎ NoneIs (first ∷ later)
+      by (inl found) = let last = found.1 in inl (
+        found.0,
+        record {
+          before = first ∷ last.before;
+          after = last.after;
+          whole = ap (λ (t : List Told). first ∷ t) last.whole;
+          is = last.is;
+          none = last.none;
+        },
+      )
+      by (inr none) = here none (tells_apart first.event)
+
+-- ---- words
+
+module _ (mode : Mode) (factor : ℕ) (key : RouteKey) where
+  abbrev next : Option Word → Told → Option Word
+  next old one = word_after mode factor key one.when one.event old
+
+  abbrev leads : Option Word → List Told → Option Word
+  leads old told = words_from mode factor key old told
+
+  next-silent : (old : Option Word) (when : When) (event : Event) → ¬ SpeaksOf key event → word_after mode factor key when event old ≡ old
   next-silent old when (events.Announce other ann) silent = cond_false (same_key other key) (Some (word when (helds.Route ann))) old (λ e. silent (key-is other key e))
-  next-silent old when (events.Retract other) silent = cond_false (same_key other key) None old (λ e. silent (key-is other key e))
+  next-silent old when (events.Retract other) silent = cond_false (same_key other key) (option_map (word when) (retracted mode)) old (λ e. silent (key-is other key e))
   next-silent old when events.RetractAll silent = absurd (silent tt)
   next-silent old when events.Nothing silent = refl
   next-silent old when (events.Ignored reason) silent = refl
 
-  abbrev leads : Option Word → List Told → Option Word
-  leads old told = words_from modes.Plain factor key old told
-
   silent-stands : (old : Option Word) (later : List Told) → AllByRecursion (λ one. ¬ SpeaksOf key one.event) later → leads old later ≡ old
   silent-stands old [] silent = refl
-  silent-stands old (one ∷ later) silent = silent-stands (next factor key old one) later silent.1 ∙ next-silent old one.when one.event silent.0
+  silent-stands old (one ∷ later) silent = silent-stands (next old one) later silent.1 ∙ next-silent old one.when one.event silent.0
 
   leads-append : (old : Option Word) (front back : List Told) → leads old (front ++ back) ≡ leads (leads old front) back
   leads-append old [] back = refl
-  leads-append old (one ∷ front) back = leads-append (next factor key old one) front back
+  leads-append old (one ∷ front) back = leads-append (next old one) front back
 
-  last-stands : (told : List Told) (when : When) (ann : Announcement) → IsLastTold told key (record { when = when; event = events.Announce key ann })
-      → leads None told ≡ Some (word when (helds.Route ann))
-  last-stands told when ann last =
-      let one : Told = record { when = when; event = events.Announce key ann } in
-      let before : Option Word = leads None last.before in
-      let here : next factor key before one ≡ Some (word when (helds.Route ann)) = rw (key-of key key refl) refl in
-      ap (λ (t : List Told). leads None t) last.whole ∙ leads-append None last.before (one ∷ last.after) ∙ silent-stands (next factor key before one) last.after last.silent ∙ here
+  leads-last : (Is : Event → Type 0) (told : List Told) (one : Told) (last : IsLast Is told one) → leads None told ≡ leads (next (leads None last.before) one) last.after
+  leads-last Is told one last = ap (λ (t : List Told). leads None t) last.whole ∙ leads-append None last.before (one ∷ last.after)
 
--- ---- what stands was announced last
-
--- this word was said last of the key
-record Shown (told : List Told) (key : RouteKey) (said : Word) : Type 0 where
-  ann : Announcement
-  held : said.held ≡ helds.Route ann
-  last : IsLastTold told key (record { when = said.when; event = events.Announce key ann })
-
-abbrev AllShown : RouteKey → List Told → Option Word → Type 0
-AllShown key told now = (said : Word) → now ≡ Some said → Shown told key said
-
-silent-push : (key : RouteKey) (after : List Told) (one : Told) → AllByRecursion (λ later. ¬ SpeaksOf key later.event) after → ¬ SpeaksOf key one.event
-    → AllByRecursion (λ later. ¬ SpeaksOf key later.event) (after ++ one ∷ [])
-silent-push key [] one silent quiet = (quiet, tt)
-silent-push key (first ∷ after) one silent quiet = (silent.0, silent-push key after one silent.1 quiet)
-
-shown-silent : (told : List Told) (key : RouteKey) (old : Word) (one : Told) → Shown told key old → ¬ SpeaksOf key one.event → Shown (told ++ one ∷ []) key old
-shown-silent told key old one shown quiet = record {
-  ann = shown.ann;
-  held = shown.held;
-  last = record {
-    before = shown.last.before;
-    after = shown.last.after ++ one ∷ [];
-    whole = ap (λ (t : List Told). t ++ one ∷ []) shown.last.whole
-        ∙ append_assoc shown.last.before (record { when = old.when; event = events.Announce key shown.ann } ∷ shown.last.after) (one ∷ []);
-    speaks = shown.last.speaks;
-    silent = silent-push key shown.last.after one shown.last.silent quiet;
-  };
-}
-
-some_is : (a b : Word) → Some a ≡ Some b → a ≡ b
-some_is a b e = cc
-
-module _ (factor : ℕ) (key : RouteKey) where
-  shown-announce : (other : RouteKey) (ann : Announcement) (when : When) (told : List Told) (old : Option Word) → AllShown key told old → (b : Bool) → same_key other key ≡ b
-      → AllShown key (told ++ record { when = when; event = events.Announce other ann } ∷ []) (cond b (Some (word when (helds.Route ann))) old)
-  shown-announce other ann when told old all true is said e =
-      let here : Shown (told ++ record { when = when; event = events.Announce key ann } ∷ []) key (word when (helds.Route ann)) = record {
-        ann = ann;
-        held = refl;
-        last = record { before = told; after = []; whole = refl; speaks = refl; silent = tt };
-      } in
-      subst (λ (w : Word). Shown (told ++ record { when = when; event = events.Announce other ann } ∷ []) key w) (some_is (word when (helds.Route ann)) said e)
-      (subst (λ (k : RouteKey). Shown (told ++ record { when = when; event = events.Announce k ann } ∷ []) key (word when (helds.Route ann))) (sym (key-is other key is)) here)
-  shown-announce other ann when told old all false is said e = shown-silent told key said (record { when = when; event = events.Announce other ann }) (all said e)
-      (λ speaks. let t : same_key other key ≡ true = key-of other key speaks in cc)
-
-  shown-retract : (other : RouteKey) (when : When) (told : List Told) (old : Option Word) → AllShown key told old → (b : Bool) → same_key other key ≡ b
-      → AllShown key (told ++ record { when = when; event = events.Retract other } ∷ []) (cond b None old)
-  shown-retract other when told old all true is said e = absurd cc
-  shown-retract other when told old all false is said e = shown-silent told key said (record { when = when; event = events.Retract other }) (all said e)
-      (λ speaks. let t : same_key other key ≡ true = key-of other key speaks in cc)
-
-  next-shown : (told : List Told) (old : Option Word) (when : When) (event : Event) → AllShown key told old
-      → AllShown key (told ++ record { when = when; event = event } ∷ []) (word_after modes.Plain factor key when event old)
-  next-shown told old when (events.Announce other ann) all = shown-announce other ann when told old all (same_key other key) refl
-  next-shown told old when (events.Retract other) all = shown-retract other when told old all (same_key other key) refl
-  next-shown told old when events.RetractAll all = λ said e.
-      absurd (let none : None ≡ Some said = none_either (is_none (option_and_then (left_at modes.Plain factor when.time) old)) None ∙ e in cc)
-  next-shown told old when events.Nothing all = λ said e. shown-silent told key said (record { when = when; event = events.Nothing }) (all said e) (λ speaks. speaks)
-  next-shown told old when (events.Ignored reason) all = λ said e.
-      shown-silent told key said (record { when = when; event = events.Ignored reason }) (all said e) (λ speaks. speaks)
-
-  leads-shown : (before told : List Told) (old : Option Word) → AllShown key before old → AllShown key (before ++ told) (words_from modes.Plain factor key old told)
-  leads-shown before [] old all = λ said e. subst (λ (t : List Told). Shown t key said) (sym (append-nil before)) (all said e)
-  leads-shown before (first ∷ told) old all = λ said e.
-      subst (λ (t : List Told). Shown t key said) (append_assoc before (first ∷ []) told)
-      (leads-shown (before ++ first ∷ []) told (next factor key old first) (next-shown before old first.when first.event all) said e)
-
-  stands-shown : (told : List Told) (said : Word) → last_word modes.Plain factor told key ≡ Some said → Shown told key said
-  stands-shown told said e = leads-shown [] told None (λ w is. absurd cc) said e
+  -- the last that speaks of the key makes its word
+  leads-spoken : (told : List Told) (one : Told) (last : IsLast (SpeaksOf key) told one) → leads None told ≡ next (leads None last.before) one
+  leads-spoken told one last = leads-last (SpeaksOf key) told one last ∙ silent-stands (next (leads None last.before) one) last.after last.none
 
 -- ---- what has passed
 
@@ -159,69 +134,256 @@ is-passed factor moment when passed = rw (lt-of 0 when.interval passed.0) (le-of
     le-of : (a b : ℕ) → a ≤ b → nat_le a b ≡ true
     le-of a b le = grind (arith, nat_tests)
 
+not-passed : (factor moment : ℕ) (when : When) → has_passed factor moment when ≡ false → ¬ HasPassed factor moment when
+not-passed factor moment when e passed = let is = is-passed factor moment when passed in cc
+
+passed-not : (factor moment : ℕ) (when : When) → ¬ HasPassed factor moment when → has_passed factor moment when ≡ false
+passed-not factor moment when lasts = by (has_passed factor moment when) refl
+  where
+    by : (b : Bool) → has_passed factor moment when ≡ b → b ≡ false
+    by true e = absurd (lasts (passed-is factor moment when e))
+    by false e = refl
+
 -- ---- what is left
 
-module _ (factor moment : ℕ) where
-  -- in mode Plain all is left of a word that has not passed, and nothing of one that has
-  left-plain : (said : Word) → left_at modes.Plain factor moment said ≡ cond (has_passed factor moment said.when) None (Some said.held)
-  left-plain said =
-      ap (λ (k : ℕ). cond (not (has_passed factor moment said.when)) (Some said.held) (cond (not (has_passed k moment said.when)) (Some helds.Unreachable) None)) (once said.held)
-      ∙ by (has_passed factor moment said.when)
-    where
-      once : (held : Held) → 1 * factor ≡ factor
-      once held = omega arith
+-- what is left of what was said, where it has passed and is gone or not
+abbrev left : Bool → Bool → Held → Option Held
+left passed gone held = cond (not passed) (Some held) (cond (not gone) (Some helds.Unreachable) None)
 
-      by : (b : Bool) → cond (not b) (Some said.held) (cond (not b) (Some helds.Unreachable) None) ≡ cond b None (Some said.held)
-      by true = refl
-      by false = refl
+module _ (mode : Mode) (factor moment : ℕ) where
+  left-route : (when : When) (ann other : Announcement) → left_at mode factor moment (word when (helds.Route other)) ≡ Some (helds.Route ann)
+      → (other ≡ ann) × ¬ HasPassed factor moment when
+  left-route when ann other = by (has_passed factor moment when) refl (has_passed (times mode (helds.Route other) * factor) moment when)
+    where
+      by : (passed : Bool) → has_passed factor moment when ≡ passed → (gone : Bool) → left passed gone (helds.Route other) ≡ Some (helds.Route ann)
+          → (other ≡ ann) × ¬ HasPassed factor moment when
+      by false e gone is = (cc, not-passed factor moment when e)
+      by true e true is = absurd cc
+      by true e false is = absurd cc
+
+  left-retracted : (when : When) (ann : Announcement) → ¬ (left_at mode factor moment (word when helds.Unreachable) ≡ Some (helds.Route ann))
+  left-retracted when ann = by (has_passed factor moment when) (has_passed (times mode helds.Unreachable * factor) moment when)
+    where
+      by : (passed gone : Bool) → ¬ (left passed gone helds.Unreachable ≡ Some (helds.Route ann))
+      by false gone is = cc
+      by true true is = cc
+      by true false is = cc
+
+  -- ---- what is held as a route
 
   module _ (told : List Told) (key : RouteKey) where
-    -- what is held is that of a word that was said last, and has not passed
-    shown-held : (held : Held) → HoldsAt modes.Plain factor moment told key held → (ann : Announcement) × (held ≡ helds.Route ann) × Lasts factor moment told key ann
-    shown-held held holds = by (last_word modes.Plain factor told key) refl holds
+    abbrev now : Option Word → Option Held
+    now old = option_and_then (left_at mode factor moment) old
+
+    retracted-no_route : (when : When) (ann : Announcement) (b : Bool) → ¬ (now (cond b None (option_map (word when) (retracted mode))) ≡ Some (helds.Route ann))
+    retracted-no_route when ann b = by mode refl b
       where
-        route : (said : Word) → Shown told key said → (b : Bool) → has_passed factor moment said.when ≡ b → cond b None (Some said.held) ≡ Some held
-            → (ann : Announcement) × (held ≡ helds.Route ann) × Lasts factor moment told key ann
-        route said shown true passed is = absurd cc
-        route said shown false passed is = (
-          shown.ann,
-          (let same : held ≡ said.held = cc in same ∙ shown.held),
-          record {
-            when = said.when;
-            last = shown.last;
-            lasts = λ yes. absurd (let is_true = is-passed factor moment said.when yes in let bad : true ≡ false = sym is_true ∙ passed in cc);
-          },
-        )
+        by : (m : Mode) → mode ≡ m → (b : Bool) → ¬ (now (cond b None (option_map (word when) (retracted m))) ≡ Some (helds.Route ann))
+        by m e true is = cc
+        by modes.Plain e false is = cc
+        by modes.Hold e false is = left-retracted when ann is
 
-        by : (now : Option Word) → last_word modes.Plain factor told key ≡ now → option_and_then (left_at modes.Plain factor moment) now ≡ Some held
-            → (ann : Announcement) × (held ≡ helds.Route ann) × Lasts factor moment told key ann
-        by None at is = absurd cc
-        by (Some said) at is = route said (stands-shown factor key told said at) (has_passed factor moment said.when) refl (sym (left-plain said) ∙ is)
+    route-spoken : (ann : Announcement) (when : When) (event : Event) (last : IsLast (SpeaksOf key) told (record { when = when; event = event }))
+        → now (word_after mode factor key when event (leads mode factor key None last.before)) ≡ Some (helds.Route ann) → Lasts factor moment told key ann
+    route-spoken ann when (events.Announce other route) last is =
+        let named : other ≡ key = last.is in
+        let shown = left-route when ann route (rw (key-of other key named) at is) in
+        record {
+          when = when;
+          last = subst (λ (k : RouteKey). IsLast (SpeaksOf key) told (record { when = when; event = events.Announce k ann })) named
+              (subst (λ (a : Announcement). IsLast (SpeaksOf key) told (record { when = when; event = events.Announce other a })) shown.0 last);
+          lasts = shown.1;
+        }
+    route-spoken ann when (events.Retract other) last is = absurd (retracted-no_route when ann false (rw (key-of other key last.is) at is))
+    route-spoken ann when events.RetractAll last is =
+        absurd (retracted-no_route when ann (is_none (option_and_then (left_at mode factor when.time) (leads mode factor key None last.before))) is)
+    route-spoken ann when events.Nothing last is = absurd last.is
+    route-spoken ann when (events.Ignored reason) last is = absurd last.is
 
-    lasting-held : (ann : Announcement) → Lasts factor moment told key ann → HoldsAt modes.Plain factor moment told key (helds.Route ann)
-    lasting-held ann lasts =
-        ap (option_and_then (left_at modes.Plain factor moment)) (last-stands factor key told lasts.when ann lasts.last)
-        ∙ left-plain (word lasts.when (helds.Route ann)) ∙ by (has_passed factor moment lasts.when) refl
+    held-lasts : (ann : Announcement) → HoldsAt mode factor moment told key (helds.Route ann) → Lasts factor moment told key ann
+    held-lasts ann holds = by (last_or (SpeaksOf key) (speaks_or key) told)
       where
-        by : (b : Bool) → has_passed factor moment lasts.when ≡ b → cond b None (Some (helds.Route ann)) ≡ Some (helds.Route ann)
-        by true passed = absurd (lasts.lasts (passed-is factor moment lasts.when passed))
-        by false passed = refl
+        by : ((one : Told) × IsLast (SpeaksOf key) told one) ⊎ AllByRecursion (λ one. ¬ SpeaksOf key one.event) told → Lasts factor moment told key ann
+        by (inl found) = route-spoken ann found.0.when found.0.event found.1 (ap now (sym (leads-spoken mode factor key told found.0 found.1)) ∙ holds)
+        by (inr none) = absurd (let e = ap now (silent-stands mode factor key None told none) in cc)
 
-    pub plain-last : ((ann : Announcement) → HoldsAt modes.Plain factor moment told key (helds.Route ann) ↔ Lasts factor moment told key ann)
-        × ¬ HoldsAt modes.Plain factor moment told key helds.Unreachable
-    plain-last = (
-      λ ann. (
-        λ holds.
-            let shown = shown-held (helds.Route ann) holds in
-            let same : shown.0 ≡ ann = route_is shown.0 ann (sym shown.1) in
-            subst (λ (a : Announcement). Lasts factor moment told key a) same shown.2,
-        lasting-held ann,
-      ),
-      λ holds. let shown = shown-held helds.Unreachable holds in absurd (apart shown.0 shown.1),
-    )
-      where
-        route_is : (a b : Announcement) → helds.Route a ≡ helds.Route b → a ≡ b
-        route_is a b e = cc
+    lasts-held : (ann : Announcement) → Lasts factor moment told key ann → HoldsAt mode factor moment told key (helds.Route ann)
+    lasts-held ann lasts =
+        let one : Told = record { when = lasts.when; event = events.Announce key ann } in
+        let here : next mode factor key (leads mode factor key None lasts.last.before) one ≡ Some (word lasts.when (helds.Route ann)) = rw (key-of key key refl) refl in
+        let stays = passed-not factor moment lasts.when lasts.lasts in
+        ap now (leads-spoken mode factor key told one lasts.last ∙ here) ∙ rw stays refl
 
-        apart : (a : Announcement) → helds.Unreachable ≡ helds.Route a → ⊥
-        apart a e = cc
+    pub route-lasts : (ann : Announcement) → HoldsAt mode factor moment told key (helds.Route ann) ↔ Lasts factor moment told key ann
+    route-lasts ann = (held-lasts ann, lasts-held ann)
+
+-- ---- mode Plain
+
+module _ (factor moment : ℕ) (told : List Told) (key : RouteKey) where
+  no-route : (when : When) (route : Announcement) → ¬ (left_at modes.Plain factor moment (word when (helds.Route route)) ≡ Some helds.Unreachable)
+  no-route when route is = by (has_passed factor moment when) (rw (once factor) at is)
+    where
+      once : (n : ℕ) → 1 * n ≡ n
+      once n = omega arith
+
+      by : (b : Bool) → ¬ (left b b (helds.Route route) ≡ Some helds.Unreachable)
+      by true is = cc
+      by false is = cc
+
+  spoken-routes : (old : Option Word) (when : When) (event : Event) → SpeaksOf key event
+      → ¬ (option_and_then (left_at modes.Plain factor moment) (word_after modes.Plain factor key when event old) ≡ Some helds.Unreachable)
+  spoken-routes old when (events.Announce other route) speaks is = no-route when route (rw (key-of other key speaks) at is)
+  spoken-routes old when (events.Retract other) speaks is = absurd (let none = rw (key-of other key speaks) at is in cc)
+  spoken-routes old when events.RetractAll speaks is = by (is_none (option_and_then (left_at modes.Plain factor when.time) old)) is
+    where
+      by : (b : Bool) → ¬ (option_and_then (left_at modes.Plain factor moment) (cond b None None) ≡ Some helds.Unreachable)
+      by true is = cc
+      by false is = cc
+  spoken-routes old when events.Nothing speaks is = speaks
+  spoken-routes old when (events.Ignored reason) speaks is = speaks
+
+  pub plain-last : ((ann : Announcement) → HoldsAt modes.Plain factor moment told key (helds.Route ann) ↔ Lasts factor moment told key ann)
+      × ¬ HoldsAt modes.Plain factor moment told key helds.Unreachable
+  plain-last = (route-lasts modes.Plain factor moment told key, by (last_or (SpeaksOf key) (speaks_or key) told))
+    where
+      now : Option Word → Option Held
+      now old = option_and_then (left_at modes.Plain factor moment) old
+
+      by : ((one : Told) × IsLast (SpeaksOf key) told one) ⊎ AllByRecursion (λ one. ¬ SpeaksOf key one.event) told → ¬ HoldsAt modes.Plain factor moment told key helds.Unreachable
+      by (inl found) holds = let one = found.0 in
+          spoken-routes (leads modes.Plain factor key None found.1.before) one.when one.event found.1.is
+          (ap (option_and_then (left_at modes.Plain factor moment)) (sym (leads-spoken modes.Plain factor key told one found.1)) ∙ holds)
+      by (inr none) holds = let e = ap (option_and_then (left_at modes.Plain factor moment)) (silent-stands modes.Plain factor key None told none) in cc
+
+-- ---- mode Hold
+
+-- what names a key, or retracts all, leaves this of the key
+abbrev held_of : Event → Held
+held_of (events.Announce key ann) = helds.Route ann
+held_of event = helds.Unreachable
+
+abbrev said_by : Told → Word
+said_by one = word one.when (held_of one.event)
+
+-- either it stays and something is left, or neither
+abbrev Fate : Type 0 → Option Held → Type 0
+Fate Stay now = (Stay × ((held : Held) × (now ≡ Some held))) ⊎ (¬ Stay × (now ≡ None))
+
+module _ (factor : ℕ) where
+  word-fate : (moment : ℕ) (when : When) (held : Held) (long : ℕ) → times modes.Hold held * factor ≡ long → (HasPassed long moment when → HasPassed factor moment when)
+      → Fate (¬ HasPassed long moment when) (left_at modes.Hold factor moment (word when held))
+  word-fate moment when held long e once = by (has_passed long moment when) refl
+    where
+      some : (b : Bool) → (now : Held) × (left b false held ≡ Some now)
+      some true = (helds.Unreachable, refl)
+      some false = (held, refl)
+
+      by : (b : Bool) → has_passed long moment when ≡ b → Fate (¬ HasPassed long moment when) (left_at modes.Hold factor moment (word when held))
+      by false is = inl (not-passed long moment when is, rw (e, is) (some (has_passed factor moment when)))
+      by true is =
+          let passed = passed-is long moment when is in
+          let first : has_passed factor moment when ≡ true = is-passed factor moment when (once passed) in
+          inr (λ stays. stays passed, rw (e, is, first) refl)
+
+  event-fate : (moment : ℕ) (when : When) (event : Event) → Fate (¬ IsGone factor moment when event) (left_at modes.Hold factor moment (word when (held_of event)))
+  event-fate moment when (events.Announce key ann) = word-fate moment when (helds.Route ann) (2 * factor) refl (λ twice. (twice.0, let e = twice.1 in omega arith))
+  event-fate moment when event = word-fate moment when helds.Unreachable factor (omega arith) (λ passed. passed)
+
+  module _ (key : RouteKey) where
+    abbrev words : Option Word → List Told → Option Word
+    words old told = leads modes.Hold factor key old told
+
+    named-next : (old : Option Word) (when : When) (event : Event) → Names key event → word_after modes.Hold factor key when event old ≡ Some (word when (held_of event))
+    named-next old when (events.Announce other ann) names = rw (key-of other key names) refl
+    named-next old when (events.Retract other) names = rw (key-of other key names) refl
+    named-next old when events.RetractAll names = absurd names
+    named-next old when events.Nothing names = absurd names
+    named-next old when (events.Ignored reason) names = absurd names
+
+    unnamed-next : (when : When) (event : Event) → ¬ Names key event → word_after modes.Hold factor key when event None ≡ None
+    unnamed-next when events.RetractAll unnamed = refl
+    unnamed-next when event unnamed = next-silent modes.Hold factor key None when event unnamed
+
+    -- what was never named, and what is gone, stays so
+    none-stays : (told : List Told) → AllByRecursion (λ one. ¬ Names key one.event) told → words None told ≡ None
+    none-stays [] none = refl
+    none-stays (one ∷ later) none = ap (λ (old : Option Word). words old later) (unnamed-next one.when one.event none.0) ∙ none-stays later none.1
+
+    module _ (moment : ℕ) where
+      abbrev left_now : Option Word → Option Held
+      left_now old = option_and_then (left_at modes.Hold factor moment) old
+
+      abbrev FateFrom : Told → List Told → Type 0
+      FateFrom one later = Fate (AllStay factor moment one (filter (λ one. retracts_all one.event) later)) (left_now (words (Some (said_by one)) later))
+
+      fate-next : (one : Told) (when : When) (event : Event) (later : List Told) → AllByRecursion (λ one. ¬ Names key one.event) later → ¬ Names key event
+          → ((first : Told) → FateFrom first later) → FateFrom one (record { when = when; event = event } ∷ later)
+      fate-next one when events.RetractAll later none unnamed from = by (event-fate when.time one.when one.event)
+        where
+          wipe : Told
+          wipe = record { when = when; event = events.RetractAll }
+
+          kept : {Stay First : Type 0} {now : Option Held} → First → Fate Stay now → Fate (First × Stay) now
+          kept first (inl stays) = inl ((first, stays.0), stays.1)
+          kept first (inr gone) = inr (λ stay. gone.0 stay.1, gone.1)
+
+          by : Fate (¬ IsGone factor when.time one.when one.event) (left_at modes.Hold factor when.time (said_by one)) → FateFrom one (record { when = when; event = events.RetractAll } ∷ later)
+          by (inl stays) = rw stays.1.1 (kept stays.0 (from wipe))
+          by (inr gone) = rw gone.1 (inr (λ stay. gone.0 stay.0, ap left_now (none-stays later none)))
+      fate-next one when event later none unnamed from = rw (next-silent modes.Hold factor key (Some (said_by one)) when event unnamed) (from one)
+
+      fate : (one : Told) (later : List Told) → AllByRecursion (λ one. ¬ Names key one.event) later → FateFrom one later
+      fate one [] none = event-fate moment one.when one.event
+      fate one (first ∷ later) none = fate-next one first.when first.event later none.1 none.0 (λ next. fate next later none.1)
+
+      module _ (told : List Told) where
+        fate-named : (named : Told) (last : IsLast (Names key) told named)
+            → Fate (AllStay factor moment named (filter (λ one. retracts_all one.event) last.after)) (left_now (last_word modes.Hold factor told key))
+        fate-named named last = rw (leads-last modes.Hold factor key (Names key) told named last, named-next (words None last.before) named.when named.event last.is) (fate named last.after last.none)
+
+        stays-held : Stays factor moment told key → (held : Held) × HoldsAt modes.Hold factor moment told key held
+        stays-held stays = by (fate-named stays.named stays.last)
+          where
+            by : Fate (AllStay factor moment stays.named (filter (λ one. retracts_all one.event) stays.last.after)) (left_now (last_word modes.Hold factor told key))
+                → (held : Held) × HoldsAt modes.Hold factor moment told key held
+            by (inl some) = some.1
+            by (inr none) = absurd (none.0 stays.stay)
+
+        held-stays : (held : Held) → HoldsAt modes.Hold factor moment told key held → Stays factor moment told key
+        held-stays held holds = by (last_or (Names key) (names_or key) told)
+          where
+            apart : left_now (last_word modes.Hold factor told key) ≡ None → ⊥
+            apart none = cc
+
+            from : (named : Told) (last : IsLast (Names key) told named)
+                → Fate (AllStay factor moment named (filter (λ one. retracts_all one.event) last.after)) (left_now (last_word modes.Hold factor told key)) → Stays factor moment told key
+            from named last (inl some) = record { named = named; last = last; stay = some.0 }
+            from named last (inr none) = absurd (apart none.1)
+
+            by : ((one : Told) × IsLast (Names key) told one) ⊎ AllByRecursion (λ one. ¬ Names key one.event) told → Stays factor moment told key
+            by (inl found) = from found.0 found.1 (fate-named found.0 found.1)
+            by (inr none) = absurd (apart (ap left_now (none-stays told none)))
+
+pub hold-last : (factor moment : ℕ) (told : List Told) (rows : List (RouteKey × Held)) → AreRowsAt modes.Hold factor moment told rows → AreHoldRows factor moment told rows
+hold-last factor moment told rows are = record {
+  route = λ key ann.
+      let lasts = route-lasts modes.Hold factor moment told key ann in
+      (λ listed. lasts.0 (are.held key (helds.Route ann) listed), λ last. are.all key (helds.Route ann) (lasts.1 last));
+  unreachable = λ key. (
+    λ listed.
+        let holds : HoldsAt modes.Hold factor moment told key helds.Unreachable = are.held key helds.Unreachable listed in (
+          held-stays factor key moment told helds.Unreachable holds,
+          λ ann last. let route = (route-lasts modes.Hold factor moment told key ann).1 last in cc,
+        ),
+    λ stays. else_unreachable key stays.1 (stays-held factor key moment told stays.0),
+  );
+  gone = λ key. (
+    λ none stays. let some = stays-held factor key moment told stays in none some.0 (are.all key some.0 some.1),
+    λ gone held listed. gone (held-stays factor key moment told held (are.held key held listed)),
+  );
+}
+  where
+    else_unreachable : (key : RouteKey) → ((ann : Announcement) → ¬ Lasts factor moment told key ann) → (held : Held) × HoldsAt modes.Hold factor moment told key held
+        → Contains rows (key, helds.Unreachable)
+    else_unreachable key none (helds.Unreachable, holds) = are.all key helds.Unreachable holds
+    else_unreachable key none (helds.Route ann, holds) = absurd (none ann ((route-lasts modes.Hold factor moment told key ann).0 holds))

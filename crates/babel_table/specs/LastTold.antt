@@ -1,27 +1,29 @@
--- What is held at a moment in mode Plain, in other words: this project's own. A law says that it is
--- the same.
-use Rattle.std.specs.Prelude.{◌≡◌, ◌↔◌, ℕ, ◌<◌, ◌≤◌, ◌+◌, ◌*◌, List, ◌∷◌, ◌++◌}
-use Rattle.std.specs.List.{AllByRecursion}
+-- What is held at a moment, in other words: by the last that was said of a key, and by what was
+-- said of it since it was last named. This project's own; laws say that it is the same.
+use Rattle.std.specs.Prelude.{◌≡◌, ◌↔◌, ℕ, ◌<◌, ◌≤◌, ◌+◌, ◌*◌, Bool, true, false, filter}
+use Rattle.std.specs.Prelude.{List, [], ◌∷◌, ◌++◌}
+use Rattle.std.specs.List.{AllByRecursion, Contains}
 use Rattle.babel_tlv.specs.declared.event.Event.{Event}
 use Rattle.babel_tlv.specs.declared.event.Event.TheVariants as events
+use Rattle.babel_tlv.specs.declared.held.Held.{Held}
 use Rattle.babel_tlv.specs.declared.held.Held.TheVariants as helds
 use Rattle.babel_tlv.specs.declared.mode.Mode.TheVariants as modes
 use Rattle.babel_tlv.specs.Route.{RouteKey, Announcement}
 use Rattle.babel_table.specs.Holds.{Names}
-use Rattle.babel_table.specs.Moments.{HoldsAt, Told, When}
+use Rattle.babel_table.specs.Moments.{AreRowsAt, HoldsAt, Told, When}
 
 -- the event announces or retracts the key, or retracts all
 abbrev pub SpeaksOf : RouteKey → Event → Type 0
 SpeaksOf key events.RetractAll = Unit {0}
 SpeaksOf key event = Names key event
 
--- this is the last of what was told that speaks of the key
-pub record IsLastTold (told : List Told) (key : RouteKey) (word : Told) : Type 0 where
+-- this is the last of what was told that is so
+pub record IsLast (Is : Event → Type 0) (told : List Told) (word : Told) : Type 0 where
   pub before : List Told
   pub after : List Told
   pub whole : told ≡ before ++ word ∷ after
-  pub speaks : SpeaksOf key word.event
-  pub silent : AllByRecursion (λ later. ¬ SpeaksOf key later.event) after
+  pub is : Is word.event
+  pub none : AllByRecursion (λ later. ¬ Is later.event) after
 
 -- at the moment so many times the Interval have passed
 abbrev pub HasPassed : ℕ → ℕ → When → Type 0
@@ -33,7 +35,7 @@ HasPassed factor moment when =
 pub record Lasts (factor moment : ℕ) (told : List Told) (key : RouteKey)
     (ann : Announcement) : Type 0 where
   pub when : When
-  pub last : IsLastTold told key (record { when = when; event = events.Announce key ann })
+  pub last : IsLast (SpeaksOf key) told (record { when = when; event = events.Announce key ann })
   pub lasts : ¬ HasPassed factor moment when
 
 -- in mode Plain a route is held at the moment where it lasts, and nothing else is
@@ -42,3 +44,44 @@ PlainIsLast = (factor moment : ℕ) (told : List Told) (key : RouteKey)
     → ((ann : Announcement) → HoldsAt modes.Plain factor moment told key (helds.Route ann)
     ↔ Lasts factor moment told key ann)
     × ¬ HoldsAt modes.Plain factor moment told key helds.Unreachable
+
+-- ---- mode Hold
+
+-- RFC 8966, 3.5.3: a route that has passed is unreachable, and gone after as long again; what was
+-- retracted is gone once it has passed
+abbrev pub IsGone : ℕ → ℕ → When → Event → Type 0
+IsGone factor moment when (events.Announce key ann) = HasPassed (2 * factor) moment when
+IsGone factor moment when event = HasPassed factor moment when
+
+-- this is not gone when the next of these comes, nor any of them when the one after it comes, nor
+-- the last at the moment
+abbrev pub AllStay : ℕ → ℕ → Told → List Told → Type 0
+AllStay factor moment one [] = ¬ IsGone factor moment one.when one.event
+AllStay factor moment one (next ∷ later) =
+    ¬ IsGone factor next.when.time one.when one.event × AllStay factor moment next later
+
+abbrev pub retracts_all : Event → Bool
+retracts_all events.RetractAll = true
+retracts_all event = false
+
+-- the key was announced or retracted by itself, and neither the last that did so nor a retraction
+-- of all after it was gone when the next one came, or at the moment
+pub record Stays (factor moment : ℕ) (told : List Told) (key : RouteKey) : Type 0 where
+  pub named : Told
+  pub last : IsLast (Names key) told named
+  pub stay : AllStay factor moment named (filter (λ one. retracts_all one.event) last.after)
+
+-- in mode Hold a row at the moment is a route that lasts, or else unreachable, where the key stays;
+-- a key that does not stay is gone
+pub record AreHoldRows (factor moment : ℕ) (told : List Told)
+    (rows : List (RouteKey × Held)) : Type 0 where
+  pub route : (key : RouteKey) (ann : Announcement) → Contains rows (key, helds.Route ann)
+      ↔ Lasts factor moment told key ann
+  pub unreachable : (key : RouteKey) → Contains rows (key, helds.Unreachable)
+      ↔ (Stays factor moment told key × ((ann : Announcement) → ¬ Lasts factor moment told key ann))
+  pub gone : (key : RouteKey) → ((held : Held) → ¬ Contains rows (key, held))
+      ↔ ¬ Stays factor moment told key
+
+abbrev pub HoldIsLast : Type 0
+HoldIsLast = (factor moment : ℕ) (told : List Told) (rows : List (RouteKey × Held))
+    → AreRowsAt modes.Hold factor moment told rows → AreHoldRows factor moment told rows

@@ -1,5 +1,5 @@
 //! Laws of the definitions.
-ghost use Rattle.babel_table.specs.LastTold.{PlainIsLast};
+ghost use Rattle.babel_table.specs.LastTold.{HoldIsLast, PlainIsLast};
 ghost use Rattle.babel_table.specs.OneOutcome.{FaultIsOne, FaultIsOfOctets, FaultStays, TableIsOne};
 ghost use Rattle.babel_table.specs.OneOutcome.{HopsFit, KeysNeedMemory, RoutesNeedMemory};
 ghost use Rattle.babel_table.specs.Words.{WordsAreHeld};
@@ -46,4 +46,10 @@ pub fn words_are_held()
 /// In mode Plain a route is held at a moment where it was announced last and has not passed.
 pub fn plain_is_last()
     ensures { PlainIsLast }
+{}
+
+/// In mode Hold a route is held at a moment where it was announced last and has not passed, and a
+/// key is gone where something that was said of it was gone when the next came, or at the moment.
+pub fn hold_is_last()
+    ensures { HoldIsLast }
 {}

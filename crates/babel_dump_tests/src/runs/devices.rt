@@ -1,8 +1,7 @@
 //! Devices in memory that follow a script.
-ghost use Rattle.std.specs.Prelude.{◌≡◌, ◌<◌, None, Some};
-ghost use Rattle.babel_dump.specs.Device.{no_times};
+ghost use Rattle.std.specs.Prelude.{◌≡◌, ◌<◌, Some};
 
-use babel_dump::{ByteIn, ByteOut, LeftOutDatagram};
+use babel_dump::{ByteIn, ByteOut};
 use std::alloc::Global;
 use std::io;
 use std::io::ErrorKind;
@@ -44,9 +43,6 @@ impl<'a> ScriptedIn<'a> {
 impl ByteIn for ScriptedIn<'_> {
     ghost state = { λ d. record {
       left = Some d.rest.now;
-      captured = None;
-      left_out = None;
-      times = no_times;
       failures = d.failures;
       reads = d.reads;
       ends = d.ends;
@@ -66,22 +62,6 @@ impl ByteIn for ScriptedIn<'_> {
             self.ends += 1;
         }
         Ok(n)
-    }
-
-    fn left_out(&self) -> Option<LeftOutDatagram> {
-        None
-    }
-
-    fn has_times(&self) -> bool {
-        false
-    }
-
-    fn time(&self) -> Option<u128> {
-        None
-    }
-
-    fn moment(&self) -> Option<u128> {
-        None
     }
 }
 

@@ -1,6 +1,6 @@
 //! Each read and each write that fails, in turn.
 use super::devices::ScriptedIn;
-use super::{Case, Script, asked, expect_fault, run};
+use super::{Case, Script, expect_fault, one_asked, run};
 use babel_dump::{Asked, InputFault, PairsFault, RunFault, Side};
 use babel_library_tests::dumps::{NESTED_SOURCES, ONE_FAMILY, ONE_ROUTE, TWO_FAMILIES, octets};
 use babel_tlv::Fault;
@@ -17,7 +17,7 @@ const CAPTURE: &str =
      45000022000000000111 0000 c0000202 e000006f 1a281a28 000e0000 2a020000 1234";
 
 /// What is asked, of which octets, and of which others: first of 13 dumps, then of captures.
-static ASKED: [(&str, &str, &str); 16] = [
+static ASKED: [(&str, &str, &str); 19] = [
     ("show --from 192.0.2.1", NESTED_SOURCES, ""),
     ("show --summary --from 192.0.2.1", ONE_ROUTE, ""),
     (
@@ -46,6 +46,13 @@ static ASKED: [(&str, &str, &str); 16] = [
     ("senders", CAPTURE, ""),
     ("extract --from 192.0.2.2 --hex", CAPTURE, ""),
     ("extract --from 192.0.2.1", CAPTURE, ""),
+    ("show --from 192.0.2.2", CAPTURE, ""),
+    ("lookup --to 10.1.2.3 --from 192.0.2.1", CAPTURE, ""),
+    (
+        "compare --from 192.0.2.1 --other-from 192.0.2.2 a b",
+        CAPTURE,
+        CAPTURE,
+    ),
 ];
 
 /// How many octets one write takes.
@@ -151,14 +158,13 @@ fn each_read_of_pairs(rt: HostRuntime) -> Result<(), Fail> {
 #[test]
 fn each_read_for_keys_of_senders(rt: HostRuntime) -> Result<(), Fail> {
     let capture = octets(rt.alloc(), CAPTURE)?;
-    let Asked::SenderKeys(files) = asked(rt.alloc(), "key x")? else {
+    let Asked::SenderKeys(keys) = one_asked(rt.alloc(), "key x")? else {
         return Err(Fail::from("no keys of senders"));
     };
-    for keys in &files {
-        for failing in 1..capture.len() as u64 + 2 {
-            let read = keys.gather(rt.alloc(), &mut ScriptedIn::new(&capture, 1, failing));
-            assert_eq!(rt; read.err(), Some(InputFault::Read));
-        }
+    for failing in 1..capture.len() as u64 + 2 {
+        let mut reader = ScriptedIn::new(&capture, 1, failing);
+        let read = keys.gather(rt.alloc(), 1, &mut reader);
+        assert_eq!(rt; read.err(), Some(InputFault::Read));
     }
     Ok(())
 }

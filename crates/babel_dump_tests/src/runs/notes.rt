@@ -23,7 +23,7 @@ fn writes_of_notes_that_fail(rt: HostRuntime) -> Result<(), Fail> {
     let mut writer = ScriptedOut::new(alloc, TAKEN, 0);
     let mut notes = Notes::new(alloc)?;
     match run_job(alloc, &job, &mut reader, &mut other, &mut writer) {
-        Ok(outcome) => notes.gather(&job, &outcome, None, None)?,
+        Ok(ran) => notes.gather(&job, &ran)?,
         Err(_fault) => return Err(Fail::from("a fault")),
     }
     for failing_call in 1..8 {

@@ -8,13 +8,13 @@ use std::test::Fail;
 /// Gives the number of the call in each read, and takes as many octets in each write. One call
 /// fails, if any.
 #[derive(Drop)]
-struct Numbered {
+pub struct Numbered {
     calls: u8,
     failing_call: u8,
 }
 
 impl Numbered {
-    fn failing_at(failing_call: u8) -> Numbered {
+    pub fn failing_at(failing_call: u8) -> Numbered {
         Numbered {
             calls: 0,
             failing_call,

@@ -1,10 +1,9 @@
 -- The counts stay below the octets of the body, and at its end they are those of all its TLVs.
-use Rattle.std.proofs.Common.{◌≡◌, ◌∙◌, List, ℕ, [], ap, rules, arith}
+use Rattle.std.proofs.Common.{arith}
 use Rattle.babel_tlv.specs.Frames.{tlv_value}
 use Rattle.babel_tlv.specs.Framing.{tlvs_of}
 use Rattle.babel_tlv.specs.Left.{tlvs_left}
-use Rattle.babel_capture.specs.Updates.{interval_in, interval_of, updates_in, updates_of}
-use Rattle.babel_capture.proofs.UpdateLaws.{interval-all, octets-few, octets-step, updates-all, updates-few, updates-step}
+use Rattle.babel_capture.proofs.UpdateLaws.{octets-few, octets-step, updates-few, updates-step}
 use Rattle.babel_capture.proofs.updates.updates_in.Goals as goal
 
 pub overflow_add-len : goal.overflow_add-len
@@ -29,18 +28,3 @@ overflow_add-count c =
       c.one_if_update-count.ensures,
       c.type_inv.body,
     )
-
-pub returns-then-len-body : goal.returns-then-len-body
-unfolding updates_in interval_in
-returns-then-len-body c =
-    let none : tlvs_left c.loop-tlv.tlvs ≡ [] = search rules in
-    record {
-      count = updates-all c.body_of-body.result.now (tlvs_of 0 c.body_of-body.result.now) (tlvs_left c.loop-tlv.tlvs) c.loop-tlv.count c.loop-tlv.len none c.loop-tlv.invariant.updates
-          c.loop-tlv.invariant.octets
-          c.if-len-body.true
-          ∙ ap (λ (b : List ℕ). updates_of b (tlvs_of 0 b)) c.body_of-body.ensures;
-      interval = interval-all c.body_of-body.result.now (tlvs_of 0 c.body_of-body.result.now) (tlvs_left c.loop-tlv.tlvs) c.loop-tlv.interval c.loop-tlv.len none c.loop-tlv.invariant.interval
-          c.loop-tlv.invariant.octets
-          c.if-len-body.true
-          ∙ ap (λ (b : List ℕ). interval_of b (tlvs_of 0 b)) c.body_of-body.ensures;
-    }

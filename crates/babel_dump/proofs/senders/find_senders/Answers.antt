@@ -9,8 +9,8 @@ returns g c =
       made = record {
         gathering = c.in_ok-read.read.gathered;
         cut = c.in_ok-read.read.cut;
-        gave = c.in_ok-read.ensures.made.0;
-        text_is = c.in_ok-rows.ensures.text ∙ ap (λ (after : List ℕ). lines ++ after) c.new.ensures.items ∙ append-nil lines;
+        gave = rw c.everyone.ensures at c.in_ok-read.ensures.made.gave;
+        text_is = c.or_absence.ensures.text ∙ c.in_ok-found.ensures.text ∙ ap (λ (after : List ℕ). lines ++ after) c.new.ensures.items ∙ append-nil lines;
         outcome_is = search rules;
       };
       cause = search rules;

@@ -1,22 +1,38 @@
-use Rattle.std.proofs.Common.{ap, refl, ◌∙◌, ◌++◌, subst, sym, rules}
+use Rattle.std.proofs.Common.{◌+◌, ◌∷◌, [], refl, ap, subst, ◌∙◌}
 use Rattle.std.specs.Prelude.{None}
-use Rattle.babel_capture.specs.Counting.{counted_at, counted_with}
-use Rattle.babel_capture.specs.Findings.{Finds, passed}
-use Rattle.babel_capture.specs.Gathering.{Gathering, with_taken}
-use Rattle.babel_capture.specs.Sight.{Sight}
-use Rattle.babel_capture.specs.Times.{Came, time_of}
-use Rattle.babel_capture.proofs.GatherLaws.{passed-push, told-one, told-plain}
+use Rattle.babel_capture.specs.declared.sink.Record.{Record}
+use Rattle.babel_capture.specs.declared.sink.Said.TheVariants as saids
+use Rattle.babel_capture.specs.Blocks.{skipped_of}
+use Rattle.babel_capture.specs.Contents.{captured_of}
+use Rattle.babel_capture.specs.Counts.{Counts}
+use Rattle.babel_capture.specs.Findings.{passed}
+use Rattle.babel_capture.specs.Gathering.{Gathering}
+use Rattle.babel_capture.specs.Sinking.{GatherMore, IsTold, Sinks}
+use Rattle.babel_capture.specs.contracts.gathered.Gathered.{the_view}
+use Rattle.babel_capture.proofs.GatherLaws.{gathered-push, made_of}
+use Rattle.babel_capture.proofs.SinkLaws.{sinks-told}
 use Rattle.babel_capture.proofs.gathered.Gathered.skip.Goals as goal
 
 pub returns-clause-skipped : goal.returns-clause-skipped
-returns-clause-skipped c next number nothing skips =
-    told-one next c.args.self.now _ passed c.plain.result
-    (told-plain next passed c.plain.result (search (rules, number)) (c.plain.ensures.counted.1 ∙ ap time_of (sym skips)) c.plain.ensures.nothing refl refl refl)
-    (λ taken before gathered.
-    passed-push before next (with_taken taken c.args.self.now) _ passed refl
-    (ap (λ (g : Gathering). g.wanted) c.self.view_is)
-    (ap (λ (g : Gathering). taken ++ g.dump) c.self.view_is) (ap (λ (g : Gathering). g.dumps) c.self.view_is)
-    (c.count.ensures ∙ ap (λ (g : Gathering). counted_with g.report None) c.self.view_is
-    ∙ ap (λ (came : Came). counted_with (counted_at c.args.self.now.report came) None) (sym skips))
-    (ap (λ (g : Gathering). g.senders) c.self.view_is)
-    gathered number (subst (λ (s : Sight). Finds c.args.self.now.wanted s passed) (sym nothing) refl))
+returns-clause-skipped g c at =
+    let old = the_view c.self.inside in
+    let new = the_view (record {
+      alloc = c.self.inside.alloc;
+      wanted = c.self.inside.wanted;
+      names = c.self.inside.names;
+      report = c.count_skipped.new.self;
+      senders = c.self.inside.senders;
+      outside = c.pass_skipped.new.self;
+    }) in
+    let packet = captured_of c.args.packet.now in
+    let next = skipped_of (old.report.packets + 1) at packet in
+    let telling : Record = record { number = c.packets.result; time = None; said = saids.Nothing } in
+    let told : IsTold (made_of next passed) telling = record {
+      number = c.packets.ensures ∙ ap (λ (r : Counts). r.packets) c.count_skipped.ensures;
+      time = refl;
+      packet = (refl, refl);
+      missed = refl;
+    } in
+    subst (λ (v : Gathering). Sinks g.S.Sink.has c.args.sink.now c.take.new.self (GatherMore v new (skipped_of (v.report.packets + 1) at packet ∷ []))) c.self.view_is
+    (sinks-told g.S.Sink.has c.args.sink.now c.take.new.self (GatherMore old new (next ∷ [])) telling (made_of next passed) told c.take.ensures
+    (gathered-push next old new passed refl c.count_skipped.ensures refl (λ few. few) tt refl refl))

@@ -6,7 +6,7 @@ use Rattle.babel_capture.proofs.StreamLaws.{read-to-cut}
 use Rattle.babel_capture.proofs.stream.Stream.cut.Goals as goal
 
 pub returns-clause-ok : goal.returns-clause-ok
-returns-clause-ok c account fed taken =
+returns-clause-ok c limit fed taken =
     let started : HasStarted c.args.self.now.reader.context = search rules in
     let some : c.args.self.now.pending.items ≢ [] = grind (arith, common_steps) in
-    read-to-cut account c.args.self.now.reader c.args.self.now.pending.items fed (Some c.at.result) started (inr (some, ap Some c.at.ensures)) taken
+    read-to-cut limit c.args.self.now.reader c.args.self.now.pending.items fed (Some c.at.result) started (inr (some, ap Some c.at.ensures)) taken

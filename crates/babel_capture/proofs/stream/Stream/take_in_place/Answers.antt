@@ -4,8 +4,10 @@ use Rattle.std.proofs.lemmas.Grind.{common_steps}
 use Rattle.std.proofs.lemmas.List.{nil_from_length}
 use Rattle.std.proofs.lemmas.Result.{err_from_is_err_and}
 use Rattle.babel_capture.proofs.MemoryLaws.{if-memory}
-use Rattle.babel_capture.proofs.ReadingLaws.{needs-behind}
-use Rattle.babel_capture.proofs.StreamLaws.{Fails, fails-here, needs-here, none-ends, sinks-next}
+use Rattle.babel_capture.proofs.ReadingLaws.{needs-behind, sinks-led}
+use Rattle.babel_capture.proofs.SinkLaws.{any-err}
+use Rattle.babel_capture.specs.Reading.{PieceFails}
+use Rattle.babel_capture.proofs.StreamLaws.{fails-here, needs-here, none-ends, sinks-next, sinks-stop}
 use Rattle.babel_capture.proofs.stream.Stream.take_in_place.Goals as goal
 
 pub returns-clause-ok : goal.returns-clause-ok
@@ -21,7 +23,7 @@ pub returns-in_err-used-clause-err : goal.returns-in_err-used-clause-err
 returns-in_err-used-clause-err g c =
     let none : c.args.self.now.pending.items ≡ [] = nil_from_length c.args.self.now.pending.items (search rules) in
     let all : c.args.piece.now ≡ c.args.self.now.pending.items ++ c.args.piece.now = ap (λ (t : List ℕ). t ++ c.args.piece.now) (sym none) in
-    let fails : Fails c.args.self.now.reader c.args.self.now.pending.items c.args.piece.now c.in_err-used.field-0.0 =
+    let fails : PieceFails c.args.self.now.reader c.args.self.now.pending.items c.args.piece.now c.in_err-used.field-0.0 =
     fails-here c.args.self.now.reader c.args.self.now.pending.items c.args.piece.now c.args.piece.now c.in_err-used.field-0.0 (none-ends c.args.self.now.reader c.args.self.now.pending.items none) all
     c.in_err-used.ensures.stops in
     search (rules, fails)
@@ -47,3 +49,16 @@ returns-in_err-extend_from_slice-clause-memory g c =
     if-memory c.from_residual-in_err-extend_from_slice.result _ (inr (needs-here c.args.self.now.reader c.args.self.now.pending.items c.args.piece.now none (λ limit read lead.
     needs-behind limit c.args.self.now.reader.gathering.wanted read c.args.piece.now c.in_ok-used.used c.take_blocks.new.self c.in_ok-used.ensures.wanted (c.in_ok-used.ensures.took.are_read limit read lead).0
     (inl (c.in_ok-used.ensures.partial, subst (λ (t : List ℕ). t ≢ []) c.split_at.ensures.back some)))))
+
+pub returns-in_err-used-clause-stopped : goal.returns-in_err-used-clause-stopped
+returns-in_err-used-clause-stopped g c =
+    let none : c.args.self.now.pending.items ≡ [] = nil_from_length c.args.self.now.pending.items (search rules) in
+    any-err c.from_residual.result (sinks-stop g.S.Sink.has c.args.sink.now c.take_blocks.new.sink _ _ _ _ (none-ends c.args.self.now.reader c.args.self.now.pending.items none)
+    (ap (λ (t : List ℕ). t ++ c.args.piece.now) (sym none)) c.in_err-used.ensures.stopped)
+
+pub returns-in_err-extend_from_slice-clause-stopped : goal.returns-in_err-extend_from_slice-clause-stopped
+returns-in_err-extend_from_slice-clause-stopped g c =
+    let none : c.args.self.now.pending.items ≡ [] = nil_from_length c.args.self.now.pending.items (search rules) in
+    any-err c.from_residual-in_err-extend_from_slice.result (sinks-stop g.S.Sink.has c.args.sink.now c.take_blocks.new.sink _ _ _ _
+    (none-ends c.args.self.now.reader c.args.self.now.pending.items none) (ap (λ (t : List ℕ). t ++ c.args.piece.now) (sym none))
+    (sinks-led g.S.Sink.has c.args.sink.now c.take_blocks.new.sink _ c.take_blocks.new.self _ c.in_ok-used.used c.in_ok-used.ensures.wanted c.in_ok-used.ensures.took))

@@ -1,41 +1,46 @@
--- The tally of a sender that is kept has one packet more.
-use Rattle.std.proofs.Common.{rules, ◌≡◌, ◌∙◌, sym, subst}
+-- The sender has one packet more.
+use Rattle.std.proofs.Common.{rules, ◌≡◌, ◌≤◌, ◌∙◌, sym, subst, length, inr, refl}
 use Rattle.std.specs.Prelude.{None, Option, Some}
-use Rattle.std.specs.BTreeMap.{is_at}
+use Rattle.std.specs.BTreeMap.{insert_entry, is_at}
 use Rattle.std.specs.List.Sorted.{IsStrictlySortedBy}
 use Rattle.std.specs.Map.{keys_of, lookup, set_value}
 use Rattle.babel_capture.specs.declared.tallies.Tally.{Tally}
-use Rattle.babel_capture.specs.Tallies.{CountNeedsMemory, Senders, one_more}
+use Rattle.babel_capture.specs.Tallies.{Senders, CountNeedsMemory, no_packets, one_more}
 use Rattle.babel_capture.specs.contracts.tallies.OriginOrd.TheImpl.{ghosts}
-use Rattle.babel_capture.proofs.MemoryLaws.{if-memory}
-use Rattle.babel_capture.proofs.TallyLaws.{unknown-by, updated-by}
+use Rattle.babel_capture.proofs.TallyLaws.{put-by, tallied-as, unknown-by, written-by}
 use Rattle.babel_capture.proofs.tallies.Tallies.add.Goals as goal
 
-pub add_first-requires : goal.add_first-requires
-add_first-requires c =
-    let none : lookup (is_at (ghosts.cmp c.args.origin)) c.get_mut.follows.lender-at-none.entries ≡ None = search rules in
-    record {
-      none = sym (unknown-by c.get_mut.follows.lender-at-none.entries c.args.origin) ∙ none;
-      count = c.requires.count;
-      interval = c.requires.interval;
-    }
+pub returns-then-len-ge-MAX_SENDERS-clause-err : goal.returns-then-len-ge-MAX_SENDERS-clause-err
+returns-then-len-ge-MAX_SENDERS-clause-err c =
+    let none : lookup (is_at (ghosts.cmp c.args.origin)) c.args.self.now ≡ None = search rules in
+    let many : 65536 ≤ length c.args.self.now = search rules in
+    inr (refl, (many, sym (unknown-by c.args.self.now c.args.origin) ∙ none))
+
+pub returns-in-Ok-clause-ok : goal.returns-in-Ok-clause-ok
+returns-in-Ok-clause-ok c =
+    let none : lookup (is_at (ghosts.cmp c.args.origin)) c.args.self.now ≡ None = search rules in
+    let first : c.in-Some-with.first ≡ one_more no_packets c.args.time c.args.packet.now c.args.has_trailer = search rules in
+    let put : c.insert.new.self.entries ≡ insert_entry ghosts.cmp c.args.self.now c.args.origin c.in-Some-with.first = search rules in
+    tallied-as c.args.self.now c.insert.new.self.entries c.args.origin c.args.time c.args.packet.now c.args.has_trailer None c.in-Some-with.first
+    (sym (unknown-by c.args.self.now c.args.origin) ∙ none) first (put ∙ put-by c.args.self.now c.args.origin c.in-Some-with.first)
+
+pub returns-in-Err-clause-memory : goal.returns-in-Err-clause-memory
+returns-in-Err-clause-memory c memory =
+    let none : lookup (is_at (ghosts.cmp c.args.origin)) c.args.self.now ≡ None = search rules in
+    subst (λ (t : Option Tally). CountNeedsMemory t c.args.packet.now c.args.has_trailer) (sym none ∙ unknown-by c.args.self.now c.args.origin) tt
+
+pub returns-in_default-with-2-clause-memory : goal.returns-in_default-with-2-clause-memory
+returns-in_default-with-2-clause-memory c memory =
+    let found : lookup (is_at (ghosts.cmp c.args.origin)) c.args.self.now ≡ Some c.in-Some.tally.now = search rules in
+    subst (λ (t : Option Tally). CountNeedsMemory t c.args.packet.now c.args.has_trailer) (sym found ∙ unknown-by c.args.self.now c.args.origin) (search rules)
 
 pub returns-clause-ok : goal.returns-clause-ok
 returns-clause-ok c =
     let found : lookup (is_at (ghosts.cmp c.args.origin)) c.args.self.now ≡ Some c.in-Some.tally.now = search rules in
-    let more : c.in-Some-with.more ≡ one_more c.in-Some.tally.now c.args.time c.args.packet.now c.args.has_trailer = search rules in
+    let more : c.in-Some-with-2.more ≡ one_more c.in-Some.tally.now c.args.time c.args.packet.now c.args.has_trailer = search rules in
     let sorted : IsStrictlySortedBy ghosts.cmp (keys_of c.args.self.now) = subst (λ (s : Senders). IsStrictlySortedBy ghosts.cmp (keys_of s)) c.self.view_is c.get_mut.ensures.ordered in
-    let written : (c.get_mut.follows.lender c.in-Some-with.more).entries ≡ set_value (is_at (ghosts.cmp c.args.origin)) c.args.self.now c.in-Some-with.more =
-    subst (λ (s : Senders). (c.get_mut.follows.lender c.in-Some-with.more).entries ≡ set_value (is_at (ghosts.cmp c.args.origin)) s c.in-Some-with.more) c.self.view_is
-    (c.get_mut.follows.holds c.in-Some-with.more).0 in
-    updated-by c.args.self.now (c.get_mut.follows.lender c.in-Some-with.more).entries c.args.origin c.args.time c.args.packet.now c.args.has_trailer c.in-Some.tally.now c.in-Some-with.more found more sorted written
-
-pub returns-in_default-clause-memory : goal.returns-in_default-clause-memory
-returns-in_default-clause-memory c =
-    let none : lookup (is_at (ghosts.cmp c.args.origin)) c.args.self.now ≡ None = search rules in
-    if-memory c.add_first.result _ (subst (λ (t : Option Tally). CountNeedsMemory t c.args.packet.now c.args.has_trailer) (sym none ∙ unknown-by c.args.self.now c.args.origin) tt)
-
-pub returns-in_default-with-clause-memory : goal.returns-in_default-with-clause-memory
-returns-in_default-with-clause-memory c memory =
-    let found : lookup (is_at (ghosts.cmp c.args.origin)) c.args.self.now ≡ Some c.in-Some.tally.now = search rules in
-    subst (λ (t : Option Tally). CountNeedsMemory t c.args.packet.now c.args.has_trailer) (sym found ∙ unknown-by c.args.self.now c.args.origin) (search rules)
+    let after = (c.get_mut.follows.lender c.in-Some-with-2.more).entries in
+    let written : after ≡ set_value (is_at (ghosts.cmp c.args.origin)) c.args.self.now c.in-Some-with-2.more =
+    subst (λ (s : Senders). after ≡ set_value (is_at (ghosts.cmp c.args.origin)) s c.in-Some-with-2.more) c.self.view_is (c.get_mut.follows.holds c.in-Some-with-2.more).0 in
+    tallied-as c.args.self.now after c.args.origin c.args.time c.args.packet.now c.args.has_trailer (Some c.in-Some.tally.now) c.in-Some-with-2.more
+    (sym (unknown-by c.args.self.now c.args.origin) ∙ found) more (written ∙ written-by c.args.self.now c.args.origin c.in-Some.tally.now c.in-Some-with-2.more found sorted)

@@ -1,0 +1,265 @@
+-- What is read of a capture for the dump of a sender in it.
+use Rattle.std.proofs.Common.{◌≡◌, ◌≢◌, refl, sym, ap, subst, ◌∙◌, ℕ, Bool, true, false, if◌then◌else◌, List, [], append-nil, Option, None, Some, IfSome, inl, inr}
+use Rattle.std.specs.Prelude.{◌⊎◌, Result, Ok, Err, OnOk}
+use Rattle.std.specs.Option.{is_some}
+use Rattle.std.specs.Result.{IsErrAnd, IsOkAnd}
+use Rattle.babel_capture.specs.Blocks.{context_behind, sightings_of, start}
+use Rattle.babel_capture.specs.Capture.{HasRead, IsReadToCut, State, moment_read}
+use Rattle.babel_capture.specs.Context.{Before}
+use Rattle.babel_capture.specs.Counts.{Made}
+use Rattle.babel_capture.specs.Reading.{HasTaken}
+use Rattle.babel_capture.specs.Window.{Extent}
+use Rattle.babel_capture.specs.declared.wanted.Wanted.{Wanted}
+use Rattle.babel_tlv.specs.declared.fault.Fault.{Fault}
+use Rattle.babel_tlv.specs.declared.fault.Fault.TheVariants as faults
+use Rattle.babel_table.specs.DumpFault.{DumpFault}
+use Rattle.babel_table.specs.Feeding.{HasHeard, HasReadTo}
+use Rattle.babel_table.specs.Moments.{dump_of}
+use Rattle.babel_dump.specs.CaptureGiven.{CaptureInput, GaveCapture, IsFedWhole, Took, TookSome, capture_from, extent_of, made_in, moment_in}
+use Rattle.babel_dump.specs.CaptureRun.{CaptureCause, IsNoFault}
+use Rattle.babel_dump.specs.Fed.{AreNotes, AreWhole, EndsRefused, EndsWith, FeedsOn, IsEnded, IsFed, IsFedSo}
+use Rattle.babel_dump.specs.Given.{Input, IsFaultOfGiven, IsFaultOfInput, capture_reading_of, capture_with, expired, wanted_by}
+use Rattle.babel_dump.specs.LeftOut.{first_left_out}
+use Rattle.babel_dump.specs.Packets.{packets_made}
+use Rattle.babel_dump.specs.Parts.{Gathered}
+use Rattle.babel_dump.specs.Run.{Called, InputCause, calls_of, capture_calls, stream_calls}
+use Rattle.babel_dump.specs.declared.capture_reading.CaptureReading.{CaptureReading}
+use Rattle.babel_dump.specs.declared.capture_notes.CaptureNotes.{CaptureNotes}
+use Rattle.babel_dump.specs.declared.input.Fed.{Fed}
+use Rattle.babel_dump.specs.declared.input_fault.InputFault.{InputFault}
+use Rattle.babel_dump.specs.declared.input_fault.InputFault.TheVariants as input_faults
+use Rattle.babel_dump.specs.declared.packet_feeder.PacketFeeder.{PacketFeeder}
+use Rattle.babel_dump.proofs.CaptureFeeding.{IsReadFrom}
+use Rattle.babel_dump.proofs.CaptureReads.{given_fault, moment_by}
+use Rattle.babel_dump.proofs.FedTables.{captured_fault}
+use Rattle.babel_dump.proofs.WholePackets.{whole_made}
+use Rattle.babel_dump.proofs.FollowLaws.{same_made}
+
+-- ---- what the feeder heard
+
+feeds_none : (packets : PacketFeeder) → FeedsOn packets packets []
+feeds_none packets =
+    record { limits = refl; mode = refl; sender = refl; factor = refl; heard = λ given whole heard. subst (HasHeard packets.feeder) (sym (append-nil given)) heard }
+
+-- the feeder is that of a dump which is read so
+pub record IsFor (reader : Input) (packets : PacketFeeder) : Type 0 where
+  pub heard : HasHeard packets.feeder []
+  pub limits : packets.feeder.limits ≡ reader.reading.limits
+  pub mode : packets.feeder.mode ≡ reader.reading.mode
+  pub sender : packets.feeder.sender ≡ reader.reading.sender
+  pub factor : IfSome reader.reading.expiry (λ factor. packets.feeder.factor ≡ factor)
+
+-- and heard these packets
+pub record HasTakenAll (reader : Input) (packets : PacketFeeder) (made : List Made) : Type 0 where
+  pub heard : HasHeard packets.feeder (packets_made made)
+  pub limits : packets.feeder.limits ≡ reader.reading.limits
+  pub mode : packets.feeder.mode ≡ reader.reading.mode
+  pub sender : packets.feeder.sender ≡ reader.reading.sender
+  pub factor : IfSome reader.reading.expiry (λ factor. packets.feeder.factor ≡ factor)
+
+module _ (reader : Input) (first now : PacketFeeder) (for : IsFor reader first) where
+  heard_made : (made : List Made) → Took FeedsOn first now made → AreWhole (packets_made made) → HasTakenAll reader now made
+  heard_made made took whole =
+      let on : FeedsOn first now made = took first [] (feeds_none first) in
+      record {
+        heard = on.heard [] whole for.heard;
+        limits = on.limits ∙ for.limits;
+        mode = on.mode ∙ for.mode;
+        sender = on.sender ∙ for.sender;
+        factor = subst (λ (n : ℕ). IfSome reader.reading.expiry (λ factor. n ≡ factor)) (sym on.factor) for.factor;
+      }
+
+  -- it has a fault
+  pub dump_fault : TookSome FeedsOn first now (capture_with reader) → reader.reading.is_capture ≡ true → (fault : Fault) → now.feeder.fault ≡ Some fault → fault ≢ faults.Memory
+      → IsFaultOfGiven reader fault
+  dump_fault some capture fault is not_memory =
+      let all = heard_made some.made some.took (whole_made (wanted_by reader.reading) (sightings_of some.begins.blocks) some.made some.begins.are_made) in
+      let fed = dump_of (packets_made some.made) in
+      let failed = subst (λ (f : Option Fault). HasReadTo now.feeder f fed) is all.heard.read in
+      let refused : DumpFault now.feeder.limits now.feeder.mode now.feeder.sender fed fault = elim failed [
+        | inl (memory, needs) ↦ absurd (not_memory memory)
+        | inr (lasting, is_fault) ↦ subst (λ (octets : List ℕ). DumpFault now.feeder.limits now.feeder.mode now.feeder.sender octets fault) (append-nil fed) (is_fault [])
+      ] in
+      let told : DumpFault reader.reading.limits reader.reading.mode reader.reading.sender fed fault = rw (← all.limits, ← all.mode, ← all.sender) refused in
+      subst (λ (k : Bool). IsFaultOfInput k reader fault) (sym capture) (captured_fault reader some.given some.made fault some.gave some.begins told)
+
+-- ---- why there is no dump
+
+-- the capture is refused
+pub refused_cause : (reader : Input) (Refuses : Fault → Type 0) → reader.reading.is_capture ≡ true → (fault : InputFault) → CaptureCause (capture_with reader) IsNoFault fault
+    → InputCause reader Refuses fault
+refused_cause reader Refuses capture (input_faults.Dump fault) cause = λ not_memory. absurd (not_memory cause)
+refused_cause reader Refuses capture (input_faults.Ignored tlv ignores_4) cause = absurd cause
+refused_cause reader Refuses capture (input_faults.Capture fault) cause = inr (capture, cause)
+refused_cause reader Refuses capture (input_faults.LeftOut datagram) cause = inr (capture, cause)
+refused_cause reader Refuses capture input_faults.NoUpdates cause = absurd cause
+refused_cause reader Refuses capture (input_faults.SeveralInterfaces interfaces) cause = absurd cause
+refused_cause reader Refuses capture (input_faults.NoPackets absence) cause = absurd cause
+refused_cause reader Refuses capture input_faults.Read cause = cause
+
+-- what was read of it
+module _ (reader : Input) (first now : PacketFeeder) (f : State) (from : IsReadFrom f (capture_reading_of reader.reading) (wanted_by reader.reading))
+    (all : IsFedWhole FeedsOn first now f (capture_with reader)) where
+  abbrev gave : (cut : Option ℕ) → IsEnded reader.reading f all.given cut → GaveCapture (capture_with reader) f.progress.gathering cut
+  gave cut ended = record {
+    octets = all.given;
+    gave = all.gave;
+    is_read = subst (λ (e : Extent). IsReadToCut e all.given f.progress.gathering cut) from.limit ended.is_read;
+    accepted = ended.accepted;
+    wanted = from.wanted;
+  }
+
+  -- it is refused at its end
+  pub ends_cause : (Refuses : Fault → Type 0) → reader.reading.is_capture ≡ true → (fault : InputFault)
+      → ((fed : List ℕ) → HasRead f fed → EndsRefused reader.reading f fed fault) → InputCause reader Refuses fault
+  ends_cause Refuses capture (input_faults.Dump fault) is = λ not_memory. absurd (not_memory (is all.given all.fed).not_one)
+  ends_cause Refuses capture (input_faults.Ignored tlv ignores_4) is = absurd (is all.given all.fed).not_one
+  ends_cause Refuses capture (input_faults.Capture fault) is =
+      inr (capture, λ not_memory. given_fault FeedsOn first now (capture_with reader) f from all fault (is all.given all.fed).1 (λ fed read. (is fed read).0 not_memory))
+  ends_cause Refuses capture (input_faults.LeftOut datagram) is =
+      let left = is all.given all.fed in
+      inr (capture, record { gathering = f.progress.gathering; cut = left.0; given = gave left.0 left.1; strict = left.2; first = left.3 })
+  ends_cause Refuses capture input_faults.NoUpdates is = absurd (is all.given all.fed).not_one
+  ends_cause Refuses capture (input_faults.SeveralInterfaces interfaces) is =
+      let there = is all.given all.fed in
+      inr (
+        capture,
+        record {
+          gathering = f.progress.gathering;
+          cut = there.cut;
+          gave = record { given = gave there.cut there.ended; strict = there.strict };
+          several = there.not_one.0;
+          are = there.not_one.1;
+        },
+      )
+  ends_cause Refuses capture (input_faults.NoPackets absence) is =
+      let there = is all.given all.fed in
+      inr (capture, (f.progress.gathering, there.cut, gave there.cut there.ended, there.not_one))
+  ends_cause Refuses capture input_faults.Read is = absurd (is all.given all.fed).not_one
+
+  -- it was fed so, at the extent that was asked for
+  record IsFedAt (extent : Extent) : Type 0 where
+    taken : HasTaken extent f.progress f.pending all.given
+    took : Took FeedsOn first now taken.leads.gathered.made
+
+  -- it has the dump
+  pub is_fed : reader.reading.is_capture ≡ true → IsFor reader first → TookSome FeedsOn first now (capture_with reader) → (notes : CaptureNotes) → EndsWith reader.reading f all.given notes
+      → (fed : Fed) → fed.feeder ≡ now.feeder → fed.expired ≡ expired reader.reading.expiry (moment_read f) → fed.left_out ≡ first_left_out notes.report
+      → IfSome fed.notes (λ said. (said.report ≡ notes.report) × (said.cut ≡ notes.cut)) → is_some fed.notes ≡ true → IsFed reader fed
+  is_fed capture for some notes ends fed feeder_is expired_is left_out_is noted some_notes =
+      let extent : Extent = extent_of (capture_reading_of reader.reading) in
+      let at : IsFedAt extent = subst IsFedAt from.limit (record { taken = all.taken; took = all.took }) in
+      let given = gave notes.cut ends.ended in
+      let same = same_made extent all.given f.progress f.pending f.progress.gathering notes.cut refl at.taken given.is_read in
+      let took : Took FeedsOn first now (made_in given) = subst (Took FeedsOn first now) (sym same.1) at.took in
+      let moment : moment_read f ≡ moment_in given =
+      ap (λ (e : Extent). moment_by e f.progress.context f.progress.gathering.report.timing) from.limit
+      ∙ ap (λ (b : Before). moment_by extent b f.progress.gathering.report.timing) (at.taken.leads.context ∙ ap (context_behind (start extent)) (sym same.0)) in
+      let heard = heard_made reader first now for (made_in given) took (whole_made f.progress.gathering.wanted (sightings_of given.is_read.is_read.blocks) (made_in given) given.is_read.is_read.gathered.taken.are_made) in
+      record {
+        limits = ap (λ p. p.limits) feeder_is ∙ heard.limits;
+        mode = ap (λ p. p.mode) feeder_is ∙ heard.mode;
+        sender = ap (λ p. p.sender) feeder_is ∙ heard.sender;
+        is_fed = subst (λ (k : Bool). IsFedSo k reader fed) (sym capture) (record {
+          gathering = f.progress.gathering;
+          cut = notes.cut;
+          gave = given;
+          one_place = ends.one_place;
+          heard = subst (λ p. HasHeard p (packets_made (made_in given))) (sym feeder_is) heard.heard;
+          factor = subst (λ p. IfSome reader.reading.expiry (λ factor. p.factor ≡ factor)) (sym feeder_is) heard.factor;
+          left_out_is = left_out_is ∙ ap first_left_out ends.report_is;
+          expired_is = expired_is ∙ ap (expired reader.reading.expiry) moment;
+        });
+        notes = noted_so fed.notes some_notes noted;
+      }
+    where
+      noted_so : (said : Option CaptureNotes) → is_some said ≡ true → IfSome said (λ n. (n.report ≡ notes.report) × (n.cut ≡ notes.cut)) → AreNotes reader said
+      noted_so None none is = absurd (let bad : false ≡ true = none in cc)
+      noted_so (Some n) there (report, cut) = (f.progress.gathering, notes.cut, gave notes.cut ends.ended, report ∙ ends.report_is, cut)
+
+-- ---- what reading answers
+
+-- the capture that is read is that of the dump
+pub input_is : (reader : Input) (how : CaptureReading) (whose : Wanted) → how ≡ capture_reading_of reader.reading → whose ≡ wanted_by reader.reading
+    → capture_from reader.old reader.new how whose ≡ capture_with reader
+input_is reader how whose how_is whose_is =
+    ap (λ (h : CaptureReading). capture_from reader.old reader.new h whose) how_is ∙ ap (capture_from reader.old reader.new (capture_reading_of reader.reading)) whose_is
+
+-- what feeding it answered, which a sink took
+pub record FedFrom (reader : Input) (first now : PacketFeeder) (f : State) (result : Result (Unit {0}) InputFault) : Type 0 where
+  pub capture : reader.reading.is_capture ≡ true
+  pub from : IsReadFrom f (capture_reading_of reader.reading) (wanted_by reader.reading)
+  pub for : IsFor reader first
+  pub some : TookSome FeedsOn first now (capture_with reader)
+  pub gathered : Gathered (capture_calls (capture_with reader)) (CaptureCause (capture_with reader) IsNoFault) (λ _. IsFedWhole FeedsOn first now f (capture_with reader)) result
+
+pub fed_from : (reader : Input) (first now : PacketFeeder) (f : State) (result : Result (Unit {0}) InputFault) (how : CaptureReading) (whose : Wanted)
+    → how ≡ capture_reading_of reader.reading → whose ≡ wanted_by reader.reading → reader.reading.is_capture ≡ true → f.limit ≡ extent_of how → f.progress.gathering.wanted ≡ whose
+    → IsFor reader first → TookSome FeedsOn first now (capture_from reader.old reader.new how whose)
+    → Gathered (capture_calls (capture_from reader.old reader.new how whose)) (CaptureCause (capture_from reader.old reader.new how whose) IsNoFault)
+    (λ _. IsFedWhole FeedsOn first now f (capture_from reader.old reader.new how whose)) result
+    → FedFrom reader first now f result
+fed_from reader first now f result how whose how_is whose_is capture limit wanted for some gathered =
+    let same = input_is reader how whose how_is whose_is in
+    record {
+      capture = capture;
+      from = record { limit = limit ∙ ap extent_of how_is; wanted = wanted ∙ whose_is };
+      for = for;
+      some = subst (TookSome FeedsOn first now) same some;
+      gathered = subst (λ (input : CaptureInput). Gathered (capture_calls input) (CaptureCause input IsNoFault) (λ _. IsFedWhole FeedsOn first now f input) result) same gathered;
+    }
+
+module _ (reader : Input) (first now : PacketFeeder) (f : State) where
+  -- it was called as often
+  called_so : {T : Type 0} (fed : Result (Unit {0}) InputFault) (result : Result T InputFault) → FedFrom reader first now f fed
+      → OnOk result (reader.new.failures ≡ reader.old.failures) → Called (calls_of reader) result
+  called_so {T} fed result is no_failure = subst (λ (k : Bool). Called (if k then capture_calls (capture_with reader) else stream_calls reader) result) (sym is.capture) (record {
+    no_failure = no_failure;
+    reads = is.gathered.called.reads;
+    failures = is.gathered.called.failures;
+    ends = is.gathered.called.ends;
+  })
+
+  answered_err : (fed : Result (Unit {0}) InputFault) (fault : InputFault) → FedFrom reader first now f fed → InputCause reader (IsFaultOfGiven reader) fault
+      → Gathered {T = Fed} (calls_of reader) (InputCause reader (IsFaultOfGiven reader)) (IsFed reader) (Err fault)
+  answered_err fed fault is cause = record { made = tt; cause = cause; called = called_so fed (Err fault) is tt }
+
+  -- the packets have a fault, or the capture is refused
+  why_refused : (fed : Result (Unit {0}) InputFault) (fault : Fault) (result : InputFault) → FedFrom reader first now f fed → now.feeder.fault ≡ Some fault
+      → (result ≡ input_faults.Dump fault) ⊎ (IsErrAnd fed (λ refusal. result ≡ refusal))
+      ⊎ (IsOkAnd fed (λ _. (octets : List ℕ) → HasRead f octets → EndsRefused reader.reading f octets result)) → InputCause reader (IsFaultOfGiven reader) result
+  why_refused fed fault result is kept (inl dump) =
+      subst (InputCause reader (IsFaultOfGiven reader)) (sym dump) (λ not_memory. dump_fault reader first now is.for is.some is.capture fault kept not_memory)
+  why_refused (Err refusal) fault result is kept (inr (inl same)) =
+      subst (InputCause reader (IsFaultOfGiven reader)) (sym same) (refused_cause reader (IsFaultOfGiven reader) is.capture refusal is.gathered.cause)
+  why_refused (Ok done) fault result is kept (inr (inl none)) = absurd none
+  why_refused (Ok done) fault result is kept (inr (inr ends)) =
+      ends_cause reader first now f is.from is.gathered.made (IsFaultOfGiven reader) is.capture result ends
+  why_refused (Err refusal) fault result is kept (inr (inr none)) = absurd none
+
+  pub refused : (fed : Result (Unit {0}) InputFault) (fault : Fault) (result : InputFault) → FedFrom reader first now f fed → now.feeder.fault ≡ Some fault
+      → (result ≡ input_faults.Dump fault) ⊎ (IsErrAnd fed (λ refusal. result ≡ refusal))
+      ⊎ (IsOkAnd fed (λ _. (octets : List ℕ) → HasRead f octets → EndsRefused reader.reading f octets result))
+      → Gathered {T = Fed} (calls_of reader) (InputCause reader (IsFaultOfGiven reader)) (IsFed reader) (Err result)
+  refused fed fault result is kept why = answered_err fed result is (why_refused fed fault result is kept why)
+
+  pub not_fed : (refusal fault : InputFault) → fault ≡ refusal → FedFrom reader first now f (Err refusal)
+      → Gathered {T = Fed} (calls_of reader) (InputCause reader (IsFaultOfGiven reader)) (IsFed reader) (Err fault)
+  not_fed refusal fault same is =
+      answered_err (Err refusal) fault is (subst (InputCause reader (IsFaultOfGiven reader)) (sym same) (refused_cause reader (IsFaultOfGiven reader) is.capture refusal is.gathered.cause))
+
+  pub not_ended : (fault : InputFault) → FedFrom reader first now f (Ok tt) → ((fed : List ℕ) → HasRead f fed → EndsRefused reader.reading f fed fault)
+      → Gathered {T = Fed} (calls_of reader) (InputCause reader (IsFaultOfGiven reader)) (IsFed reader) (Err fault)
+  not_ended fault is ends = answered_err (Ok tt) fault is (ends_cause reader first now f is.from is.gathered.made (IsFaultOfGiven reader) is.capture fault ends)
+
+  pub was_fed : (fed : Fed) (notes : CaptureNotes) → FedFrom reader first now f (Ok tt) → ((octets : List ℕ) → HasRead f octets → EndsWith reader.reading f octets notes)
+      → fed.feeder ≡ now.feeder → fed.expired ≡ expired reader.reading.expiry (moment_read f) → fed.left_out ≡ first_left_out notes.report
+      → IfSome fed.notes (λ said. (said.report ≡ notes.report) × (said.cut ≡ notes.cut)) → is_some fed.notes ≡ true
+      → Gathered {T = Fed} (calls_of reader) (InputCause reader (IsFaultOfGiven reader)) (IsFed reader) (Ok fed)
+  was_fed fed notes is ends feeder_is expired_is left_out_is noted some_notes =
+      let all = is.gathered.made in
+      record {
+        made = is_fed reader first now f is.from all is.capture is.for is.some notes (ends all.given all.fed) fed feeder_is expired_is left_out_is noted some_notes;
+        cause = tt;
+        called = called_so (Ok tt) (Ok fed) is is.gathered.called.no_failure;
+      }

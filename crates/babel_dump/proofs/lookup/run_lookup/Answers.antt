@@ -1,8 +1,0 @@
-use Rattle.babel_dump.specs.Given.{input}
-use Rattle.babel_dump.proofs.Finishing.{ran_alone}
-use Rattle.babel_dump.proofs.lookup.run_lookup.Goals as goal
-
-pub returns : goal.returns
-returns g c =
-    let reader = input c.args.limits c.args.mode c.args.sender (g.R.ByteIn.state c.args.reader.now) (g.R.ByteIn.state c.find_answer-found.new.reader) in
-    rw c.status_alone.ensures (ran_alone reader _ _ _ c.find_answer-found.result c.finish.result (rw c.of-reading.ensures at c.find_answer-found.ensures) c.finish.ensures)

@@ -1,8 +1,0 @@
-use Rattle.babel_dump.specs.Given.{input}
-use Rattle.babel_dump.proofs.Finishing.{ran_alone}
-use Rattle.babel_dump.proofs.normalise.run_normalise.Goals as goal
-
-pub returns : goal.returns
-returns g c =
-    let reader = input c.args.limits c.args.mode c.args.sender (g.R.ByteIn.state c.args.reader.now) (g.R.ByteIn.state c.find_normal-found.new.reader) in
-    rw (c.status_alone.ensures, ← c.all.ensures) (ran_alone reader _ _ _ c.find_normal-found.result c.finish.result (rw c.of-reading.ensures at c.find_normal-found.ensures) c.finish.ensures)

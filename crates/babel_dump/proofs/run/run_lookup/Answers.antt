@@ -1,0 +1,8 @@
+use Rattle.babel_dump.specs.Given.{input}
+use Rattle.babel_dump.proofs.Finishing.{alone_weaker, only_given}
+use Rattle.babel_dump.proofs.run.run_lookup.Goals as goal
+
+pub returns : goal.returns
+returns g c =
+    let dump = input c.args.limits c.args.mode c.args.sender (g.R.ByteIn.state c.args.reader.now) (g.R.ByteIn.state c.run_task.new.reader) in
+    alone_weaker dump _ _ _ _ _ c.run_task.result (only_given dump) (λ table text outcome says. says) c.run_task.ensures

@@ -1,0 +1,264 @@
+//! What came of what was asked for, and what is said of that.
+ghost use Rattle.std.specs.Prelude.{◌≡◌};
+ghost use Rattle.babel_dump.specs.Trouble.{done_status, read_status};
+
+use crate::absence::Absence;
+use crate::asked::Asked;
+use crate::byte_out::FromWriter;
+use crate::capture_input::CaptureRead;
+use crate::capture_notes::CaptureNotes;
+use crate::events_job::Events;
+use crate::events_outcome::{EventsOutcome, HeardSender};
+use crate::hint::Hint;
+use crate::input_fault::InputFault;
+use crate::job::Job;
+use crate::job_run::Ran;
+use crate::note::Note;
+use crate::notes::Notes;
+use crate::outcome::Reports;
+use crate::place_word::NamedOrigin;
+use crate::run_fault::{RunFault, Side};
+use crate::says::Says;
+use crate::sender_keys::SenderKeys;
+use crate::trouble::{Trouble, say_hint};
+use babel_capture::{Gathered, Origin};
+use babel_table::Report;
+use babel_tlv::Reason;
+use std::alloc::{AllocError, Global};
+use std::io::Write;
+
+/// What came of what was asked for, and what there is to say of it.
+#[derive(Drop)]
+pub struct Done {
+    /// The status of the run.
+    status: u8,
+    /// What is said of a capture that has no packets.
+    absence: Option<Absence>,
+    /// The report of a dump that the output has.
+    shown: Option<Report>,
+    /// What there is to know of the inputs.
+    notes: Notes,
+    /// The senders of a capture of which each is told by itself.
+    senders: Vec<ToldSender>,
+    /// What there is to know of one of these.
+    sender_notes: Notes,
+}
+
+/// A sender in a capture that is told by itself.
+#[derive(Drop)]
+pub struct ToldSender {
+    pub origin: Origin,
+    /// The name of its interface, as the capture has it; empty where it has none.
+    pub name: Vec<u8>,
+    /// What was read of it, or why its dump is refused.
+    pub read: Result<DumpRead, InputFault>,
+}
+
+/// What was read of the dump of a sender.
+#[derive(Clone, Copy)]
+pub struct DumpRead {
+    pub report: Report,
+    /// How many rows of its table were not announced again in time, if none was left out for that.
+    pub passed: usize,
+}
+
+impl ToldSender {
+    /// A sender at its place in what was gathered of a capture.
+    pub fn new(
+        alloc: Global,
+        gathered: &Gathered,
+        origin: &Origin,
+        read: Result<DumpRead, InputFault>,
+    ) -> Result<ToldSender, AllocError> {
+        let mut name = Vec::new(alloc);
+        name.extend_from_slice(gathered.name(origin.place.interface))?;
+        let origin = *origin;
+        Ok(ToldSender { origin, name, read })
+    }
+
+    /// The exit status by it.
+    fn status(&self) -> u8
+        ensures { result ≡ read_status self.now.read }
+    {
+        match &self.read {
+            Ok(_) => 0,
+            Err(fault) => fault.status(),
+        }
+    }
+}
+
+impl Done {
+    /// Nothing yet. The room for notes is taken before a run, so that memory cannot run out after
+    /// its output.
+    pub fn new(alloc: Global) -> Result<Done, AllocError> {
+        Ok(Done {
+            status: 0,
+            absence: None,
+            shown: None,
+            notes: Notes::new(alloc)?,
+            senders: Vec::new(alloc),
+            sender_notes: Notes::new(alloc)?,
+        })
+    }
+
+    /// What came of a job.
+    pub fn of_job(mut self, job: &Job, ran: &Ran) -> Result<Done, AllocError> {
+        let outcome = &ran.outcome;
+        self.status = outcome.status;
+        if outcome.status != 0 {
+            self.absence = ran.aside.absence;
+        }
+        if let Reports::Dump(report) = outcome.reports {
+            if job.reports_ignored() {
+                self.shown = Some(report);
+            }
+        }
+        self.notes.gather(job, ran)?;
+        Ok(self)
+    }
+
+    /// What came of `events`.
+    pub fn of_events(mut self, events: &Events, answer: EventsOutcome) -> Result<Done, AllocError> {
+        self.status = answer.outcome.status;
+        if answer.outcome.status != 0 {
+            self.absence = Some(Absence::at(None));
+        }
+        self.notes.gather_followed(events, &answer)?;
+        if answer.named_report(events).is_none() {
+            for heard in answer.senders {
+                let HeardSender {
+                    origin,
+                    name,
+                    report,
+                } = heard;
+                let read = Ok(DumpRead { report, passed: 0 });
+                self.senders.push(ToldSender { origin, name, read })?;
+            }
+        }
+        Ok(self)
+    }
+
+    /// What came of `key` without `--from`, of the senders of what it read, if there are any.
+    pub fn of_senders(
+        mut self,
+        keys: &SenderKeys,
+        read: &CaptureRead,
+        senders: Vec<ToldSender>,
+    ) -> Result<Done, Trouble> {
+        if senders.is_empty() {
+            let absence = Absence::at(keys.place);
+            return Err(Trouble::from(InputFault::NoPackets(absence)));
+        }
+        let capture = CaptureNotes {
+            report: read.gathered.report(),
+            cut: read.cut,
+            are_apart: true,
+            passed: 0,
+        };
+        let interval = keys.interval(&read.gathered);
+        self.notes.add_capture(Side::First, capture, interval)?;
+        self.senders = senders;
+        Ok(self)
+    }
+
+    /// The exit status: the greatest of that of the run and those of the senders.
+    pub fn status(&self) -> u8
+        ensures { result ≡ done_status self.now }
+    {
+        let mut status = self.status;
+        for sender in &self.senders {
+            status = status.max(sender.status());
+        }
+        status
+    }
+
+    /// Writes the notes where the output is JSON, which has them after all else.
+    pub fn write_notes<W: Write + Drop>(
+        &mut self,
+        asked: &Asked,
+        mut writer: W,
+    ) -> Result<(), RunFault> {
+        let Some(spelling) = asked.json_notes() else {
+            return Ok(());
+        };
+        self.notes.write_json(&mut FromWriter::new(&mut writer))?;
+        for sender in &self.senders {
+            if let Ok(read) = sender.read {
+                let notes = &mut self.sender_notes;
+                notes.gather_sender(read)?;
+                notes.write_json_of(&mut FromWriter::new(&mut writer), spelling, sender)?;
+            }
+        }
+        Ok(())
+    }
+}
+
+/// Says that there are no packets, and the notes, with what can be done about what they tell.
+pub fn say_done<S: Says>(says: &mut S, asked: &Asked, done: &mut Done) {
+    if let Some(absence) = done.absence {
+        says.say(&absence);
+    }
+    if !asked.is_quiet() {
+        say_notes(says, asked, done);
+    }
+    for sender in &done.senders {
+        say_sender(says, asked, sender, &mut done.sender_notes);
+    }
+}
+
+/// Says what there is to know of the inputs.
+fn say_notes<S: Says>(says: &mut S, asked: &Asked, done: &Done) {
+    let file = asked.named();
+    if let Some(report) = &done.shown {
+        say_reasons(says, asked, Side::First, report);
+    }
+    for note in done.notes.list() {
+        says.say(&format_args!("{file}{note}"));
+        say_note_hints(says, asked, note.side, &note.note);
+    }
+}
+
+/// Says the notes of a sender, or why its dump is refused.
+fn say_sender<S: Says>(says: &mut S, asked: &Asked, told: &ToldSender, notes: &mut Notes) {
+    let file = asked.named();
+    let sender = NamedOrigin {
+        origin: told.origin,
+        name: &told.name,
+    };
+    match &told.read {
+        Ok(read) => {
+            if asked.is_quiet() || notes.gather_sender(*read).is_err() {
+                return;
+            }
+            for note in notes.list() {
+                says.say(&format_args!("{file}note: {sender}: {}", note.note));
+                say_note_hints(says, asked, note.side, &note.note);
+            }
+        }
+        Err(fault) => {
+            says.say(&format_args!("{file}{sender}: {fault}"));
+            say_hint(says, &Hint::of(asked, Side::First, fault, &[]));
+        }
+    }
+}
+
+/// Says what can be done about what a note tells of the input on this side.
+fn say_note_hints<S: Says>(says: &mut S, asked: &Asked, side: Side, note: &Note) {
+    if let Note::Ignored(ignored) = note {
+        say_reasons(says, asked, side, &ignored.report);
+    }
+    say_hint(says, &Hint::of_note(note));
+}
+
+/// Says what there is to know about reasons for which TLVs of the dump on this side were ignored.
+fn say_reasons<S: Says>(says: &mut S, asked: &Asked, side: Side, report: &Report) {
+    for reason in [Reason::UnknownEncoding, Reason::NoNextHop] {
+        if report.ignored(reason).is_some() {
+            let ignores_encoding_4 = report.ignores_encoding_4();
+            say_hint(
+                says,
+                &Hint::of_reason(asked, reason, ignores_encoding_4, side),
+            );
+        }
+    }
+}

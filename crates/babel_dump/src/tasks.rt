@@ -1,0 +1,114 @@
+//! What each task finds of the tables that it is of.
+ghost use Rattle.std.specs.Prelude.{◌≡◌, IfErr, IfOk};
+ghost use Rattle.babel_dump.specs.Files.{name_of};
+ghost use Rattle.babel_dump.specs.Parts.{ComparedTooMany, FoundTooMany, Says};
+ghost use Rattle.babel_dump.specs.RunText.{answer_in};
+ghost use Rattle.babel_dump.specs.Tasks.{ComparisonFinds, ComparisonFindsTooMany};
+ghost use Rattle.babel_dump.specs.Tasks.{TaskFinds, TaskFindsTooMany};
+
+use crate::addr_pair::AddrPair;
+use crate::any_source::found_any_source;
+use crate::both::SeenTables;
+use crate::compare::found_verdict;
+use crate::diff::found_diff;
+use crate::differences::found_differences;
+use crate::format::Format;
+use crate::job::{Comparison, DumpSource, Form, Listed, Task};
+use crate::key::found_key;
+use crate::lookup::found_answer;
+use crate::normalise::found_octets;
+use crate::pairs::found_pairs;
+use crate::routes::{found_route_differences, found_routes};
+use crate::run_fault::RunFault;
+use crate::show::found_rows;
+use crate::slices::Found;
+use babel_table::{Answer, Table};
+use babel_tlv::{Fault, View};
+use std::alloc::Global;
+
+/// What a task finds of the table of a dump.
+pub(crate) fn found_of(
+    alloc: Global,
+    source: &DumpSource,
+    task: Task,
+    format: Format,
+    quiet: bool,
+    table: Table,
+) -> Result<Found, Fault>
+    ensures ok { IfOk result (Says (TaskFinds task format quiet (name_of source.now.file)
+        source.now.reading table)) }
+    ensures err { IfErr result
+        (FoundTooMany (TaskFindsTooMany task source.now.reading.limits table)) }
+{
+    let (reading, name) = (source.reading, source.file.name());
+    match task {
+        Task::Show { filter, summary } => {
+            Ok(found_rows(alloc, filter, summary, quiet, format, table)?)
+        }
+        Task::Lookup(pair) => Ok(found_answer(alloc, pair, format, &answer_of(&table, pair))?),
+        Task::AnySource(dst) => Ok(found_any_source(alloc, dst, format, &table)?),
+        Task::Normalise {
+            form,
+            view,
+            body,
+            hex,
+        } => found_octets(alloc, reading, form, view, body, hex, table),
+        Task::Key { form, view } => found_key(alloc, reading, form, view, name, table),
+        Task::Pairs {
+            form,
+            view,
+            filter,
+            count,
+        } => match form {
+            Form::Answers => {
+                found_pairs(alloc, reading.limits, view, filter, count, format, table)
+            }
+            Form::Routes => Ok(found_routes(alloc, view, filter, count, format, table)?),
+        },
+    }
+}
+
+/// What a comparison finds of the tables of two dumps. Its faults are the first dump's.
+pub(crate) fn found_of_both(
+    alloc: Global,
+    first: &DumpSource,
+    second: &DumpSource,
+    view: View,
+    task: Comparison,
+    format: Format,
+    seen: SeenTables,
+) -> Result<Found, RunFault>
+    ensures ok { IfOk result (Says (ComparisonFinds task format view (name_of first.now.file)
+        (name_of second.now.file) first.now.reading second.now.reading seen.left seen.right)) }
+    ensures err { IfErr result (ComparedTooMany
+        (ComparisonFindsTooMany task first.now.reading.limits seen.left seen.right)) }
+{
+    let (one, two) = (first.reading, second.reading);
+    match task {
+        Comparison::Compare { form, listed } => match form {
+            Form::Answers => match listed {
+                Listed::First => found_verdict(alloc, view, format, &seen),
+                Listed::All => found_differences(alloc, one.limits, view, false, format, seen),
+                Listed::Count => found_differences(alloc, one.limits, view, true, format, seen),
+            },
+            Form::Routes => found_route_differences(alloc, view, listed, format, &seen),
+        },
+        Comparison::Diff(style) => {
+            let (file, other_file) = (first.file.name(), second.file.name());
+            found_diff(alloc, one, two, view, style, file, other_file, &seen)
+        }
+    }
+}
+
+/// What a table answers for a destination and a source.
+fn answer_of(table: &Table, pair: AddrPair) -> Answer
+    ensures { result ≡ record {
+      held = answer_in table.now pair.dst pair.src;
+      report = table.now.report;
+    } }
+{
+    Answer {
+        held: table.lookup(&pair.dst, &pair.src),
+        report: *table.report(),
+    }
+}

@@ -1,0 +1,264 @@
+//! Why nothing came of what was asked for, and what is said of that.
+ghost use Rattle.std.specs.Prelude.{◌≡◌, None};
+ghost use Rattle.std.specs.Option.{option_copied};
+ghost use Rattle.babel_dump.specs.Trouble.{refused_status, trouble_status, unwritten_status};
+
+use crate::asked::Asked;
+use crate::escaped::Escaped;
+use crate::hearing::Unheard;
+use crate::hint::Hint;
+use crate::input_fault::InputFault;
+use crate::job::{DumpFile, Job};
+use crate::pairs_fault::PairsFault;
+use crate::place_word::NamedOrigin;
+use crate::run_fault::{RunFault, Side};
+use crate::says::{Says, Watched};
+use crate::write::WriteFailed;
+use babel_capture::{Fault as CaptureFault, Origin};
+use babel_tlv::Fault;
+use std::alloc::AllocError;
+use std::io;
+use std::io::ErrorKind;
+
+/// Why nothing came of what was asked for.
+#[derive(Drop)]
+pub enum Trouble {
+    /// This option is for captures alone, and was given for a dump.
+    Misplaced(&'static str),
+    /// What has no `--from` is a dump.
+    NoSender,
+    /// By the capture's first packet the moment of one option is later than that of the other.
+    Backwards {
+        since: &'static str,
+        until: &'static str,
+    },
+    /// The tables of a capture's senders have more routes than the limit.
+    TooManyRoutes,
+    /// The run has a fault.
+    Fault(RunFault),
+    /// The TLVs of a sender in a capture are refused.
+    Sender {
+        origin: Origin,
+        /// The name of its interface, as the capture has it, once that is told.
+        name: Option<Vec<u8>>,
+        fault: InputFault,
+    },
+}
+
+impl From<AllocError> for Trouble {
+    fn from(error: AllocError) -> Trouble {
+        Trouble::Fault(RunFault::from(error))
+    }
+}
+
+impl From<RunFault> for Trouble {
+    fn from(fault: RunFault) -> Trouble {
+        Trouble::Fault(fault)
+    }
+}
+
+impl From<InputFault> for Trouble {
+    fn from(fault: InputFault) -> Trouble {
+        Trouble::of_input(Side::First, fault, ("--since", "--until"))
+    }
+}
+
+impl From<WriteFailed> for Trouble {
+    fn from(failed: WriteFailed) -> Trouble {
+        Trouble::Fault(RunFault::from(failed))
+    }
+}
+
+impl From<Unheard> for Trouble {
+    fn from(fault: Unheard) -> Trouble {
+        match fault {
+            Unheard::Memory => Trouble::from(AllocError),
+            Unheard::Sender { origin, fault } => Trouble::Sender {
+                origin,
+                name: None,
+                fault: InputFault::Dump(fault),
+            },
+        }
+    }
+}
+
+impl Trouble {
+    /// That of a job whose input on this side has a fault.
+    pub fn of_job(job: &Job, side: Side, fault: InputFault) -> Trouble
+        ensures { trouble_status None result ≡ refused_status fault }
+    {
+        Trouble::of_input(side, fault, job.moment_options(side))
+    }
+
+    /// That of a fault of the input on this side, which these options have read from a moment and
+    /// up to one.
+    fn of_input(side: Side, fault: InputFault, options: (&'static str, &'static str)) -> Trouble
+        ensures { trouble_status None result ≡ refused_status fault }
+    {
+        if fault.is_empty_window() {
+            let (since, until) = options;
+            Trouble::Backwards { since, until }
+        } else {
+            Trouble::Fault(RunFault::Input(side, fault))
+        }
+    }
+
+    /// The exit status, where it is not known why a write failed: 2 where the words don't suit the
+    /// input.
+    fn status(&self) -> u8
+        ensures { result ≡ trouble_status None self.now }
+    {
+        match self {
+            Trouble::Misplaced(_) | Trouble::NoSender | Trouble::Backwards { .. } => 2,
+            Trouble::TooManyRoutes => 3,
+            Trouble::Fault(fault) => fault.status(),
+            Trouble::Sender { fault, .. } => fault.status(),
+        }
+    }
+
+    /// The file that it is of, if it is of one file, and its line does not name that. Too many
+    /// differences are of both.
+    fn file<'a>(&self, asked: &'a Asked) -> Option<&'a DumpFile> {
+        if self.status() == 5 || asked.named().0.is_some() {
+            return None;
+        }
+        match self {
+            Trouble::Fault(RunFault::Input(_, InputFault::Dump(Fault::TooManyPairs)))
+                if asked.compares() => None,
+            Trouble::Fault(RunFault::Input(Side::First, _)) | Trouble::Sender { .. } => {
+                Some(asked.file())
+            }
+            Trouble::Fault(RunFault::Input(Side::Other, _) | RunFault::Pairs(_)) => asked.other(),
+            _ => None,
+        }
+    }
+}
+
+/// Says why nothing came of what was asked for, and what can be done about it, by what is
+/// remembered of the readers, and why a write failed. The answer is the exit status.
+pub fn say_trouble<S: Says, R: Watched>(
+    says: &mut S,
+    asked: &Asked,
+    trouble: &Trouble,
+    reader: &R,
+    other: &R,
+    unwritten: Option<&io::Error>,
+) -> u8
+    ensures status { result ≡ trouble_status (option_copied unwritten.entry) trouble.now }
+    ensures silent { result ≡ 141 → says.new ≡ says.old }
+{
+    if let Trouble::Fault(RunFault::Write) = trouble {
+        return say_unwritten(says, unwritten);
+    }
+    say_line(says, asked, trouble);
+    if let Some(DumpFile::Named(name)) = trouble.file(asked) {
+        let name = Escaped(name.as_str());
+        says.say(&format_args!("hint: in {name}"));
+    }
+    match trouble {
+        Trouble::Fault(RunFault::Input(side, fault)) => {
+            let reader = match side {
+                Side::First => reader,
+                Side::Other => other,
+            };
+            explain(says, asked, *side, fault, reader);
+        }
+        Trouble::Fault(RunFault::Pairs(fault)) => explain_pairs(says, asked, fault, other),
+        Trouble::Sender { origin, fault, .. } => {
+            say_hint(says, &Hint::of(asked, Side::First, fault, &[]));
+            say_hint(says, &Hint::of_offset_in(*origin, fault));
+        }
+        Trouble::TooManyRoutes => say_hint(says, &Hint::of_routes(asked)),
+        _ => {}
+    }
+    trouble.status()
+}
+
+/// Says that a write failed, and why; but nothing where the reader of the output has closed the
+/// pipe. The answer is the exit status; a shell's for SIGPIPE where it is closed.
+pub fn say_unwritten<S: Says>(says: &mut S, error: Option<&io::Error>) -> u8
+    ensures status { result ≡ unwritten_status (option_copied error.entry) }
+    ensures silent { result ≡ 141 → says.new ≡ says.old }
+{
+    match error {
+        Some(error) if matches!(error.kind(), ErrorKind::BrokenPipe) => 141,
+        _ => {
+            says.say(&RunFault::Write);
+            say_why(says, error);
+            4
+        }
+    }
+}
+
+/// Says the line of a trouble.
+fn say_line<S: Says>(says: &mut S, asked: &Asked, trouble: &Trouble) {
+    let file = asked.named();
+    match trouble {
+        Trouble::Misplaced(option) => {
+            says.say(&format_args!("{file}{option} is for captures, and this is a dump"));
+        }
+        Trouble::NoSender => says.say(&format_args!("{file}a dump needs --from")),
+        Trouble::Backwards { since, until } => {
+            says.say(&format_args!("{file}{since} is later than {until}"));
+        }
+        Trouble::TooManyRoutes => says.say(&format_args!("{file}too many routes")),
+        Trouble::Fault(fault) => says.say(&format_args!("{file}{fault}")),
+        Trouble::Sender {
+            origin,
+            name,
+            fault,
+        } if !asked.names_sender() => {
+            let name = name.as_deref().unwrap_or(&[]);
+            let origin = *origin;
+            let sender = NamedOrigin { origin, name };
+            says.say(&format_args!("{file}{sender}: {fault}"));
+        }
+        Trouble::Sender { fault, .. } => says.say(&format_args!("{file}{fault}")),
+    }
+}
+
+/// Says why the input on this side has a fault, and what can be done about it. Captures were joined
+/// where the first octets of one stand in place of a block.
+fn explain<S: Says, R: Watched>(
+    says: &mut S,
+    asked: &Asked,
+    side: Side,
+    fault: &InputFault,
+    reader: &R,
+) {
+    match fault {
+        InputFault::Read => say_why(says, reader.error()),
+        InputFault::Capture(CaptureFault::BadLength { at }) => {
+            if let Some(octets) = reader.four_at(*at) {
+                say_hint(says, &Hint::of_block(&octets));
+            }
+        }
+        _ => {
+            say_hint(says, &Hint::of(asked, side, fault, reader.begins()));
+            say_hint(says, &Hint::of_offset(fault, reader.begins()));
+        }
+    }
+}
+
+/// Says why the pairs of `--each` have a fault, and what can be done about it.
+fn explain_pairs<S: Says, R: Watched>(says: &mut S, asked: &Asked, fault: &PairsFault, reader: &R) {
+    match fault {
+        PairsFault::Read => say_why(says, reader.error()),
+        PairsFault::TooLong => say_hint(says, &Hint::of_octets(asked)),
+        PairsFault::NotAPair { .. } => say_hint(says, &Some(Hint::NotAPair)),
+    }
+}
+
+/// Says why a device failed, if it did.
+fn say_why<S: Says>(says: &mut S, error: Option<&io::Error>) {
+    if let Some(error) = error {
+        says.say(&format_args!("hint: {error}"));
+    }
+}
+
+/// Says a hint, if there is one.
+pub(crate) fn say_hint<S: Says>(says: &mut S, hint: &Option<Hint>) {
+    if let Some(hint) = hint {
+        says.say(hint);
+    }
+}
