@@ -6,29 +6,31 @@ ghost use Rattle.babel_dump.specs.OneOutcome.{FaultIsOfAll, FaultIsOne, NamedIsN
 ghost use Rattle.babel_dump.specs.OneOutcome.{NothingWritten, OutcomeIsOne, OutcomeOrFault};
 ghost use Rattle.babel_dump.specs.OneOutcome.{WrittenIsPrefix};
 
-/// What a job's run over devices that say their octets answers, failed calls and running out of
-/// memory aside, is settled by the octets of its readers: one outcome and one text, or one fault.
-/// This does not speak of the faults of captures.
+/// What the run of a job that reads no dump of a capture answers over devices that say their octets,
+/// failed calls and running out of memory aside, is settled by the octets of its readers: one outcome
+/// and one text, or one fault. This does not speak of the faults of captures.
 pub fn outcome_is_one()
     ensures outcome { OutcomeIsOne }
     ensures outcome_or_fault { OutcomeOrFault }
     ensures fault { FaultIsOne }
 {}
 
-/// The fault of a dump is that of all octets that its reader had.
+/// Where a job reads no dump of a capture, the fault of a dump is that of all octets that its reader
+/// had.
 pub fn fault_is_of_all()
     ensures { FaultIsOfAll }
 {}
 
-/// A run whose write failed leaves the first octets of the text that it was to write, and a run
-/// with any other fault nothing.
+/// Where a job reads no dump of a capture, a run whose write failed leaves the first octets of the
+/// text that it was to write, and a run with any other fault nothing.
 pub fn written_is_prefix()
     ensures prefix { WrittenIsPrefix }
     ensures nothing { NothingWritten }
 {}
 
-/// What a run of `extract` wrote, as it is, no job over dumps refuses as truncated, or for a wrong
-/// magic or version: not as its first dump, and not as the other of a comparison.
+/// What a run of `extract` wrote, as it is, no job that reads no dump of a capture refuses as
+/// truncated, or for a wrong magic or version: not as its first dump, and not as the other of a
+/// comparison.
 pub fn extracted_is_framed()
     ensures { ExtractedIsFramed }
 {}
