@@ -1,10 +1,12 @@
 # Completions of babel-dump for bash.
 
 # The files that the line names after its command. The word at the cursor may be empty: something
-# has to stand there.
+# has to stand there. xargs takes quotes and backslashes as a shell does.
 _babel_dump_files() {
     local word words skip=
-    read -ra words <<<"${COMP_LINE:0:COMP_POINT}_${COMP_LINE:COMP_POINT}"
+    mapfile -t words < <(
+        xargs printf '%s\n' <<<"${COMP_LINE:0:COMP_POINT}_${COMP_LINE:COMP_POINT}" 2>/dev/null
+    )
     for word in "${words[@]:2}"; do
         if [[ $skip ]]; then
             skip=
@@ -18,12 +20,23 @@ _babel_dump_files() {
     done
 }
 
-# The senders of a capture: the first file that the line names, or a later one.
-_babel_dump_senders() {
+# What sed makes of the senders of a capture: of the first file that the line names, or a later one.
+_babel_dump_listed() {
     local file
     file=$(_babel_dump_files | sed -n "$1p")
     [[ -f $file ]] && "${COMP_WORDS[0]}" senders --short --accept-cut --quiet "$file" 2>/dev/null |
-        cut -d ' ' -f 1
+        sed -E "$2" | sort -u
+}
+
+_babel_dump_senders() {
+    _babel_dump_listed "$1" 's/ .*//'
+}
+
+# The places, as --interface takes them.
+_babel_dump_places() {
+    _babel_dump_listed "$1" \
+        's|.* interface ([0-9]+)( \([^ ]*\))?( link ([0-9]+))?( vlan ([0-9.]+))? .*|\1/\4:\6|
+        s|/:|:|; s|:$||'
 }
 
 _babel_dump() {
@@ -37,8 +50,11 @@ _babel_dump() {
     fi
     case ${#words[@]}:$option in
         2:*) found=$_babel_dump_names ;;
+        3:help) found=${_babel_dump_names%% help *} ;;
         *:--from) found=$(_babel_dump_senders 1) ;;
         *:--other-from) found=$(_babel_dump_senders 2) ;;
+        *:--interface) found=$(_babel_dump_places 1) ;;
+        *:--other-interface) found=$(_babel_dump_places 2) ;;
         *:--ignore)
             [[ $word == *,* ]] && front=${word%,*},
             found="next-hop router-id seqno metric"
@@ -52,7 +68,7 @@ _babel_dump() {
     esac
     if [[ $found || $word == -* ]]; then
         mapfile -t COMPREPLY < <(compgen -P "$front" -W "$found" -- "${word#"$front"}")
-    elif [[ $option != --*from ]]; then
+    elif [[ $option != --*from && $option != --*interface ]]; then
         compopt -o filenames 2>/dev/null
         mapfile -t COMPREPLY < <(compgen -f -- "$word")
     fi

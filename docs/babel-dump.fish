@@ -1,7 +1,7 @@
 # Completions of babel-dump for fish.
 
-# The senders of a capture: the first file that the line names, or a later one.
-function __babel_dump_senders
+# What sed makes of the senders of a capture: of the first file that the line names, or a later one.
+function __babel_dump_listed
     set -l words (commandline -po)
     set -l before (commandline -poc)
     # The word at the cursor may be empty: something has to stand there.
@@ -21,8 +21,18 @@ function __babel_dump_senders
     end
     set -l file $files[$argv[1]]
     test -f "$file"
-    and $words[1] senders --short --accept-cut --quiet $file 2>/dev/null |
-        string replace -r ' .*' ''
+    and $words[1] senders --short --accept-cut --quiet $file 2>/dev/null | sed -E $argv[2] | sort -u
+end
+
+function __babel_dump_senders
+    __babel_dump_listed $argv[1] 's/ .*//'
+end
+
+# The places, as --interface takes them.
+function __babel_dump_places
+    __babel_dump_listed $argv[1] \
+        's|.* interface ([0-9]+)( \([^ ]*\))?( link ([0-9]+))?( vlan ([0-9.]+))? .*|\1/\4:\6|
+        s|/:|:|; s|:$||'
 end
 
 # An option of these commands.
@@ -63,6 +73,7 @@ complete -c babel-dump -n __fish_use_subcommand -a events \
     -d 'Print what changed in a capture, and when'
 complete -c babel-dump -n __fish_use_subcommand -a help \
     -d 'Print help'
+__babel_dump_option help -f -a 'show lookup normalise key pairs compare diff senders extract events'
 
 __babel_dump_option 'show lookup normalise key pairs compare diff senders extract events' -l help -d 'Print help'
 __babel_dump_option 'show lookup normalise pairs extract' -l from -x -a '(__babel_dump_senders 1)' \
@@ -75,13 +86,13 @@ __babel_dump_option 'events' -l from -x -a '(__babel_dump_senders 1)' \
     -d 'The source address of the packets'
 __babel_dump_option 'compare diff' -l other-from -x -a '(__babel_dump_senders 2)' \
     -d 'The address that the packets of OTHER were sent from'
-__babel_dump_option 'show lookup normalise key pairs extract' -l interface -x \
+__babel_dump_option 'show lookup normalise key pairs extract' -l interface -x -a '(__babel_dump_places 1)' \
     -d 'The place in a capture: the interface, as 1, with its link and VLANs if there are any, as 1/3, 1:10 or 1/3:10.20'
-__babel_dump_option 'compare diff' -l interface -x \
+__babel_dump_option 'compare diff' -l interface -x -a '(__babel_dump_places 1)' \
     -d 'The place in FILE, if it is a capture: the interface, with its link and VLANs, as senders lists it'
-__babel_dump_option 'events' -l interface -x \
+__babel_dump_option 'events' -l interface -x -a '(__babel_dump_places 1)' \
     -d 'The place in the capture: the interface, with its link and VLANs, as senders lists it'
-__babel_dump_option 'compare diff' -l other-interface -x \
+__babel_dump_option 'compare diff' -l other-interface -x -a '(__babel_dump_places 2)' \
     -d 'The same for OTHER, if it is a capture'
 __babel_dump_option 'extract' -l hex \
     -d 'Write the octets as lower-case hexadecimal digits on one line'
@@ -92,13 +103,13 @@ __babel_dump_option 'show lookup normalise key pairs compare diff senders extrac
 __babel_dump_option 'show lookup normalise key pairs compare diff' -l expiry -x \
     -d 'Leave out what was not announced again within FACTOR times its Interval, at --until or else at the end of a capture'
 __babel_dump_option 'events' -l expiry -x \
-    -d 'Tell as well when a route was not announced again within FACTOR times its Interval'
+    -d 'Also report routes that expire, not announced again within FACTOR times their Interval'
 __babel_dump_option 'show lookup normalise key pairs compare diff' -l hold \
     -d 'Keep a retracted route as unreachable, so that no less specific route takes its place'
 __babel_dump_option 'events' -l ignore -x -a '(__fish_append , next-hop router-id seqno metric)' \
     -d 'Fields of a route that do not count: next-hop, router-id, seqno, metric, separated by commas'
 __babel_dump_option 'events' -l to -x \
-    -d 'Tell when the answer for this destination changes, and not what routes do'
+    -d 'Report changes of the answer for this destination, instead of route changes'
 __babel_dump_option 'events' -l src -x \
     -d 'The source of that answer, of the destination'\''s family'
 __babel_dump_option 'senders extract' -l strict \
@@ -110,7 +121,7 @@ __babel_dump_option 'show lookup normalise key pairs compare diff' -l quiet \
 __babel_dump_option 'show lookup normalise key pairs compare diff senders extract events' -l accept-cut \
     -d 'Read a truncated capture up to its last complete record'
 __babel_dump_option 'show lookup normalise key pairs compare diff' -l max-routes -x \
-    -d 'How many routes, and how many canonical pairs or differences, there may be'
+    -d 'How many routes, and how many canonical pairs or differences, there may be, at most 51746593'
 __babel_dump_option 'events' -l max-routes -x \
     -d 'How many routes there may be, of all senders together'
 __babel_dump_option 'events' -l json \
@@ -126,11 +137,11 @@ __babel_dump_option 'compare diff' -l other-since -x \
 __babel_dump_option 'compare diff' -l other-until -x \
     -d 'The same for OTHER'
 __babel_dump_option 'show pairs' -l within -x \
-    -d 'Only what has PREFIX or a longer prefix in it as its destination'
+    -d 'Only destinations that are PREFIX or inside it'
 __babel_dump_option 'show pairs' -l match -x \
-    -d 'Only what has a destination that contains PREFIX, which may be an address'
+    -d 'Only destinations that contain PREFIX, which may be an address'
 __babel_dump_option 'show pairs' -l source -x \
-    -d 'Only what has exactly PREFIX as its source'
+    -d 'Only sources that are exactly PREFIX'
 __babel_dump_option 'show pairs' -l id -x \
     -d 'Only routes with this router-id: 16 hexadecimal digits, or with colons as babeld writes it'
 __babel_dump_option 'lookup normalise key pairs compare diff' -l strict \
@@ -152,7 +163,7 @@ __babel_dump_option 'show' -l summary \
 __babel_dump_option 'diff' -l stat \
     -d 'Print a last line: how many routes are gone, new, changed, and alike'
 __babel_dump_option 'diff' -l color -x -a 'auto always never' \
-    -d 'When routes are in colour'
+    -d 'When to colour routes'
 __babel_dump_option 'show lookup pairs compare senders' -l json \
     -d 'Print one JSON object per line'
 __babel_dump_option 'show lookup pairs compare diff senders' -l short \

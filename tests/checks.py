@@ -11,7 +11,8 @@ ROUTERS = TOP / "examples/routers"
 DRILL = TOP / "examples/drill"
 
 # Whoever imports their scripts imports this module first.
-sys.path += [str(ROUTERS), str(DRILL), str(TOP / "reference"), str(TOP / "tools")]
+sys.path += [str(ROUTERS), str(DRILL), str(ROUTERS.parent)]
+sys.path += [str(TOP / "reference"), str(TOP / "tools")]
 
 
 class Missing(Exception):

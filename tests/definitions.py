@@ -2,6 +2,7 @@
 """docs/DEFINITIONS.md: how long each file of definitions is, that each uses only those above it,
 those that the headline needs, the clauses that are quoted, and those that public contracts name.
 docs/PROMISES.md: what it names. The manual page and the completions: the options of the source.
+All documents: their links.
 
 Run by itself, this prints the lists and the numbers of that page anew, into it.
 """
@@ -22,6 +23,9 @@ LENGTH = re.compile(r"\d+\s+definitions\s+of\s+\d+\s+files,\s+\d+\s+lines,\s+of\
 LIST = re.compile(r"(?m)(?:^- `babel_\w+` \w+: .*\n(?:^  .*\n)*)+")
 QUOTED = re.compile(r"(?m)(?:^    .*\n)+")
 IMPORT = re.compile(r"use Rattle\.(babel_\w+)\.specs\.(\w+)\.")
+LINK = re.compile(r"\]\(([^)\s]*)\)")
+HEADING = re.compile(r"(?m)^#+ (.*)")
+LINKING = "*.md", "docs/*.md", "examples/**/*.md", "bench/*.md"
 COLUMNS = {"width": 100, "break_long_words": False, "break_on_hyphens": False}
 
 
@@ -63,6 +67,25 @@ def check_options(tally):
         tally.check(f"the options in {path.name}", told and told + hint)
 
 
+def places(file):
+    """The headings of a document, as links name them."""
+    headings = HEADING.findall(file.read_text()) if file.suffix == ".md" else []
+    return {re.sub(r"[^\w -]", "", each).lower().replace(" ", "-") for each in headings}
+
+
+def check_links(tally):
+    """Each link leads to a file that is there, and to a heading in it if it names one."""
+    for file in sorted(each for pattern in LINKING for each in TOP.glob(pattern)):
+        lost = []
+        for link in LINK.findall(file.read_text()):
+            name, _, place = link.partition("#")
+            to = file.parent / name if name else file
+            if not to.exists() or (place and place not in places(to)):
+                lost.append(link)
+        told = lost and f"they lead nowhere: {' '.join(lost)}\n"
+        tally.check(f"the links of {file.relative_to(TOP)}", told)
+
+
 def check(tally, _long):
     text = headline.DOCUMENT.read_text()
     clauses = (TOP / "crates/babel_canon/src/normal_form.rt").read_text()
@@ -73,6 +96,7 @@ def check(tally, _long):
     hint = "python3 tests/definitions.py prints them anew\n"
     tally.check("the lists and numbers of docs/DEFINITIONS.md", told and told + hint)
     check_options(tally)
+    check_links(tally)
     check_order(tally)
     cited.check(tally, set(headline.files()))
     promises.check(tally)

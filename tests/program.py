@@ -1,6 +1,7 @@
 """The program as a process: rows of the .txt files, and what a shell's words can't bring about."""
 
 import contextlib
+import dataclasses
 import ipaddress
 import itertools
 import json
@@ -21,6 +22,7 @@ from checks import DRILL, ROUTERS, TOP, built_program
 
 import agree
 import options
+import typed
 
 HEADER = bytes((42, 2))
 ROUTER_ID = bytes.fromhex("060a0000 0200000000000001")
@@ -274,6 +276,10 @@ COMPLETED = (
     ("babel-dump show x.dump --from f", []),
     ("babel-dump pairs --ignore next-hop,s", ["next-hop,seqno"]),
     ("babel-dump diff --color a", ["always", "auto"]),
+    ("babel-dump help k", ["key"]),
+    ("babel-dump show 'a b.pcap' --from f", ["fe80::1"]),
+    ("babel-dump diff x.pcap a\\ b.pcap --other-interface ", ["0:10"]),
+    ("babel-dump events links.pcap --interface ", ["0/3", "0/4"]),
 )
 
 # How a shell lists what it completes of the line $1.
@@ -283,9 +289,29 @@ SHELLS = {
     "fish": "source $argv[2]; complete -C $argv[1] | string replace -r '\\t.*' ''",
 }
 
+# What tells that a shell has found the completions below its folder $1, and what it says then.
+BASH_COMPLETION = pathlib.Path("/usr/share/bash-completion/bash_completion")
+FOUND = {
+    "bash": (
+        f". {BASH_COMPLETION}; _completion_loader babel-dump; complete -p babel-dump",
+        " _babel_dump ",
+    ),
+    "zsh": (
+        "fpath+=($1/zsh/site-functions); autoload -U compinit; compinit -uD; "
+        "print $_comps[babel-dump]",
+        "_babel-dump",
+    ),
+    "fish": ("complete -C 'babel-dump nor'", "normalise"),
+}
+
 
 def check_completions(folder, tally):
-    """The shells that are here complete options, words and senders."""
+    """The shells that are here complete options, words, senders and places."""
+    dump = (ROUTERS / "babeld-basic-a.dump").read_bytes()
+    tagged = extract.records_of(dump, "fe80::1", extract.tagged((0x8100, 10)))
+    (folder / "a b.pcap").write_bytes(capture_files.pcap(tagged))
+    links = [extract.records_of(dump, "fe80::1", extract.linked(link)) for link in (3, 4)]
+    (folder / "links.pcap").write_bytes(capture_files.pcap(sum(links, []), 276))
     for shell, script in SHELLS.items():
         if not shutil.which(shell):
             continue
@@ -302,6 +328,18 @@ def check_completions(folder, tally):
         expect(tally, "zsh reads its completions", (done.returncode, done.stderr), (0, b""))
 
 
+def check_found_completions(folder, tally):
+    """The shells that are here find the completions where they are installed."""
+    share = folder / "usr/share"
+    for shell, (script, wanted) in FOUND.items():
+        if shutil.which(shell) and (shell != "bash" or BASH_COMPLETION.exists()):
+            path = f"{folder / 'usr/bin'}:{os.environ['PATH']}"
+            where = {"XDG_DATA_DIRS": f"{share}:/usr/share", "HOME": str(folder), "PATH": path}
+            how = {"env": {**os.environ, **where}, "capture_output": True, "text": True}
+            done = subprocess.run([shell, "-c", script, shell, share], **how)
+            expect(tally, f"{shell} finds its completions", wanted in done.stdout, True)
+
+
 def example_captures():
     """The captures that help texts name: what fe80::1 and fe80::2 sent, and what changed in it."""
     network = TOP / "examples/network"
@@ -311,24 +349,39 @@ def example_captures():
     yield "now.pcap", [(network / "north-after", "fe80::1")]
 
 
+# A tcpdump that records what the file recorded.pcap has, until `timeout` stops it.
+RECORDER = """#!/bin/sh
+while [ "$1" != -w ]; do shift; done
+if [ "$2" = - ]; then cat recorded.pcap; else cp recorded.pcap "$2" && exit 124; fi
+"""
+
+
+def put_recorder(folder):
+    recorder = folder / "tools/tcpdump"
+    recorder.write_text(RECORDER)
+    recorder.chmod(0o755)
+
+
 def put_example_files(folder):
     for name, sent in example_captures():
         records = []
         for dump, sender in sent:
             records += extract.records_of(dump.with_suffix(".dump").read_bytes(), sender)
         (folder / name).write_bytes(capture_files.pcap(records))
+    shutil.copy(folder / "x.pcap", folder / "recorded.pcap")
     shutil.copy(TOP / "examples/pairs.txt", folder)
     shutil.copy(ONE_ROUTE, folder / "x.dump")
+    put_recorder(folder)
 
 
 def examples(program):
-    """The examples of the help texts and of the manual page, but for those that record."""
+    """The examples of the help texts and of the manual page, but for those that only record."""
     for words in [], *([command] for command in options.COMMANDS):
         yield from re.findall(r"^  (babel-dump .*)$", help_of(program, *words), re.MULTILINE)
     manual = options.MANUAL.read_text().replace("\\-", "-").replace("\\(aq", "'")
     for block in re.findall(r"^\.EX\n(.*?)^\.EE$", manual, re.MULTILINE | re.DOTALL):
         commands = block.replace("|\n", "| ").splitlines()
-        yield from (command for command in commands if command.startswith("babel-dump "))
+        yield from (command for command in commands if "babel-dump " in command)
 
 
 def check_examples(program, folder, tally):
@@ -377,6 +430,35 @@ def check_json(program, tally):
             printed = re.sub("(?m)^! hint: .*\n", "", transcript.printed(text))
             found = "".join(map(text_of, lines.stdout.decode().splitlines()))
             tally.check(f"{command} --json of {name}", transcript.difference(printed, found))
+
+
+def lines_read(lines):
+    """What the reader of examples/ makes of lines, or why it refuses one."""
+    try:
+        return [typed.line(line) for line in lines]
+    except (KeyError, TypeError, ValueError) as error:
+        return repr(error)
+
+
+def check_typed(tally):
+    """The reader of examples/ reads each whole line of JSON of the transcripts, of each kind, and
+    has the members and the notes that OUTPUT has."""
+    kinds = set()
+    for file in sorted((TOP / "tests").glob("*.txt")):
+        found = lines_read(re.findall(r'^\{".*\}$', file.read_text(), re.MULTILINE))
+        is_read = isinstance(found, list)
+        kinds |= {type(each) for each in found} if is_read else set()
+        tally.check(f"examples/typed.py reads the JSON of {file.name}", "" if is_read else found)
+    expect(tally, "the kinds of lines in transcripts", kinds, {*typed.KINDS, typed.Note})
+    text = (TOP / "docs/OUTPUT.md").read_text()
+    section = text.partition("\n## JSON\n")[2].partition("\n## ")[0]
+    objects = *typed.KINDS, typed.Route, typed.Counted, typed.Family
+    members = {field.name for each in objects for field in dataclasses.fields(each)}
+    expect(tally, "the members in OUTPUT", {*re.findall(r"`(\w+)`:", section)}, members)
+    notes = re.findall(r'`(\{"note":[^`]*\})`', text)
+    filled = [re.sub(r":[MN]\b", ":0", note).replace("COUNTS", "[]") for note in notes]
+    found = lines_read(note.replace("ADDRESS", "::") for note in filled)
+    expect(tally, "the notes in OUTPUT", {each.note for each in found}, {*typed.NOTES})
 
 
 def groups_of(number):
@@ -502,7 +584,9 @@ def check(tally, _long):
         check_examples(program, folder, tally)
         check_completions(folder, tally)
         check_json(program, tally)
+        check_typed(tally)
         check_short(program, tally)
         check_refused_installs(tally)
         check_install(folder, tally)
+        check_found_completions(folder, tally)
         check_package(folder, tally)

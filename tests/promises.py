@@ -1,4 +1,5 @@
-"""docs/PROMISES.md: each call, clause and definition that a promise names is in the crates.
+"""docs/PROMISES.md, and the heads of the crates: each call, clause and definition that a promise
+names is in the crates.
 
 A call has the clauses that are named with it in its contract, a definition among its fields.
 """
@@ -10,6 +11,7 @@ from checks import TOP
 
 SECTION = re.compile(r"(?m)^## .*\(`(\w+)`\)\n")
 PROMISE = re.compile(r"(?m)^- .*\n(?:  .*\n)*")
+HEAD = re.compile(r"(?m)^//! ?(.*\n)")
 # A call, a type or a definition, or a clause, which stands after these, or before `of` and these.
 TOKEN = re.compile(r"`([\w:]+)`|\*(\w+)\*(?=(\s+of\s+`)?)")
 IMPL = r"impl(?:<[^{]*?>)? (?:(\w+)(?:<.*>)? for )?(\w+)"
@@ -98,12 +100,23 @@ def faults(promise, crate, each):
             yield from (clause for clause in clauses if clause not in fields)
 
 
-def check(tally):
-    """The promises of each section about a crate."""
-    each = crates()
+def promises(crates_named):
+    """Each promise, with its crate: those of the document, and then those of the crates' heads."""
     _, *sections = SECTION.split((TOP / "docs/PROMISES.md").read_text())
     for crate, section in zip(sections[::2], sections[1::2]):
         for promise in PROMISE.findall(section.partition("\n## ")[0]):
-            missing = ", ".join(faults(promise, crate, each))
-            told = missing and f"not there: {missing}\n{promise}"
-            tally.check(f"a promise of {crate}", told)
+            yield crate, promise
+    for crate in crates_named:
+        library = TOP / "crates" / crate / "src/lib.rt"
+        head = "".join(HEAD.findall(library.read_text())) if library.is_file() else ""
+        for promise in PROMISE.findall(head):
+            yield crate, promise
+
+
+def check(tally):
+    """The promises of each crate."""
+    each = crates()
+    for crate, promise in promises(each):
+        missing = ", ".join(faults(promise, crate, each))
+        told = missing and f"not there: {missing}\n{promise}"
+        tally.check(f"a promise of {crate}", told)

@@ -29,12 +29,16 @@ FIELDS = "next-hop router-id seqno metric"
 ZSH = {
     "from": "_babel_dump_senders 1",
     "other-from": "_babel_dump_senders 2",
+    "interface": "_babel_dump_places 1",
+    "other-interface": "_babel_dump_places 2",
     "each": "_files",
     "ignore": f"_values -s , field {FIELDS}",
 }
 FISH = {
     "from": "(__babel_dump_senders 1)",
     "other-from": "(__babel_dump_senders 2)",
+    "interface": "(__babel_dump_places 1)",
+    "other-interface": "(__babel_dump_places 2)",
     "ignore": f"(__fish_append , {FIELDS})",
 }
 
@@ -229,6 +233,7 @@ def zsh():
     lines += ["        " + quoted(f"{name}:{about}") for name, about in COMMANDS.items()]
     lines += ["        'help:Print help'", "    )", "    _describe command commands", "}", ""]
     lines += ["_babel_dump_arguments() {", "    local -a options"]
+    lines += ["    [[ $1 == help ]] && _babel_dump_commands && return"]
     for row in ROWS:
         lines.append(f"    [[ $1 == ({'|'.join(row.commands)}) ]] &&")
         lines.append(f"        options+=({zsh_spec(row)})")
@@ -245,6 +250,7 @@ def fish():
     lines += [f"{once} -l help -d 'Print help'", f"{once} -l version -d 'Print the version'"]
     for name, about in {**COMMANDS, "help": "Print help"}.items():
         lines.append(f"{once} -a {name} \\\n    -d {quoted(about)}")
+    lines.append(f"__babel_dump_option help -f -a '{' '.join(COMMANDS)}'")
     lines += ["", f"__babel_dump_option '{' '.join(COMMANDS)}' -l help -d 'Print help'"]
     for row in OPTIONS:
         more = "" if row.kind == "Nothing" else " -r" if row.id == "each" else " -x"

@@ -1,6 +1,21 @@
 //! The canonical dump: the largest blocks of addresses that share one answer of a table, as
 //! pairs, and the octets that say them; and how the answers of two tables compare. It knows nothing
 //! of files, of texts, or of a command line.
+//!
+//! What it promises the crates above, each with its contract as docs/PROMISES.md has them:
+//!
+//! - Any sink can be given the pairs, once they are counted. — `CanonicalPairs::of`, `put` · *ok*,
+//!   *err*; `count`
+//! - Boxes have the answers of their rows, and tell tables apart exactly where these do. —
+//!   `laws::boxes_are_answers` · *answer*, *tell_apart*
+//! - The differences of two tables are the boxes of what they answer differently, IPv4 first; too
+//!   many pairs exactly where they are more than the limit. There is one such list at most, as of
+//!   one family. — `differences`, `difference_count` · *ok*, *few*, *err*;
+//!   `laws::differences_are_one` · *one*, *many*; `differences_are_boxes` · *none*, *first*,
+//!   *fewest*
+//! - The keys for which two tables hold what differs are listed in order, each once, with what both
+//!   hold, in one list, empty exactly where their rows are equal. — `route_differences`;
+//!   `laws::route_differences_are_one` · *one*, *none*
 #![tactic(auto)]
 
 mod body;

@@ -20,6 +20,7 @@ pub mod SeenInFrames
 pub mod SeenLaws
 pub mod SenderLaws
 pub mod SinkLaws
+pub mod SkippedLaws
 pub mod StreamLaws
 pub mod TallyLaws
 pub mod TimeLaws

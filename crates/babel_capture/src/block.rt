@@ -50,15 +50,14 @@ const MICROSECONDS: Resolution = Resolution::Ten(6);
 
 const NANOSECONDS: Resolution = Resolution::Ten(9);
 
-/// A captured packet.
+/// A captured packet. Its fields of less than eight octets come last, so that copies of it are made
+/// by the words that it was written in.
 #[derive(Clone, Copy)]
 pub struct Packet<'a> {
     /// The number of its interface in the capture.
     pub interface: u64,
     /// The number of its section's first interface.
     pub section: u64,
-    /// The interface's link type.
-    pub link: Link,
     /// How the interface's times are counted.
     pub clock: Clock,
     /// The time of its record, where that has one.
@@ -67,10 +66,13 @@ pub struct Packet<'a> {
     pub frame: &'a [u8],
     /// How many octets the packet had.
     pub whole_len: u32,
+    /// The interface's link type.
+    pub link: Link,
 }
 
 impl<'a> Packet<'a> {
     /// What its frame is.
+    #[inline(always)]
     pub(crate) fn look(&self) -> Seen<'a>
         ensures { sight_of result ≡ sight_in (captured_of self.now) }
     {
@@ -165,11 +167,11 @@ fn read_packet<'a>(
     let packet = Packet {
         interface: interface as u64,
         section: before.first() as u64,
-        link,
         clock: described.clock,
         stamp,
         frame,
         whole_len,
+        link,
     };
     read_by(before, at, packet)
 }
@@ -242,7 +244,7 @@ fn record_stamp(order: Order, block: &[u8]) -> Stamp
     ensures { result ≡ record_stamp order block.now }
 {
     Stamp {
-        seconds: order.u32_at(block, 0),
+        seconds: u64::from(order.u32_at(block, 0)),
         units: u64::from(order.u32_at(block, 4)),
     }
 }
@@ -497,6 +499,7 @@ fn read_pcapng<'a>(
 
 /// What a whole block says, which begins at this offset.
 #[tactic(auto, unfolding(crate::specs::Contents::block_said))]
+#[inline(always)]
 pub fn read_block<'a>(before: &Context, at: u64, block: &'a [u8]) -> Result<Block<'a>, Fault>
     requires { header_len before.now.layout ≤ length block.now }
     ensures ok { IfOk result (λ said. block_said before.now at block.now ≡ Ok (content_of said)) }

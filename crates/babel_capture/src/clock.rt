@@ -30,7 +30,7 @@ pub struct Clock {
 /// The time of a packet, as its record has it: seconds, and then units of its interface.
 #[derive(Clone, Copy)]
 pub struct Stamp {
-    pub seconds: u32,
+    pub seconds: u64,
     pub units: u64,
 }
 
@@ -57,8 +57,21 @@ impl Resolution {
     }
 
     /// So many units in nanoseconds, rounded down.
-    #[tactic(auto, using(crate::proofs::TimeLaws::some_units))]
     fn nanoseconds(self, units: u64) -> u128
+        ensures value { result ≡ units * 1000000000 / per_second self }
+        ensures fits { result < 2 ^ 94 }
+    {
+        match self {
+            // Micro- and nanoseconds, as nearly all captures have them, take no division.
+            Resolution::Ten(6) => u128::from(units) * 1_000,
+            Resolution::Ten(9) => u128::from(units),
+            _ => self.divided(units),
+        }
+    }
+
+    /// The same by a division, whatever the resolution.
+    #[tactic(auto, using(crate::proofs::TimeLaws::some_units))]
+    fn divided(self, units: u64) -> u128
         ensures value { result ≡ units * 1000000000 / per_second self }
         ensures fits { result < 2 ^ 94 }
     {

@@ -182,6 +182,7 @@ impl Context {
     }
 
     /// Takes what a block says.
+    #[inline(always)]
     pub fn take(&mut self, said: &Block<'_>) -> Result<(), AllocError>
         ensures limit { self.new.limit ≡ self.old.limit }
         ensures ok { OnOk result (self.new ≡ context_after self.old (content_of said.now)) }

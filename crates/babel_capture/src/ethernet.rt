@@ -90,9 +90,14 @@ impl<'a> Payload<'a> {
     }
 
     /// After the VLAN tags, of which at most `MAX_TAGS` are skipped.
+    #[tactic(auto, using(crate::proofs::SkippedLaws::no_tag))]
     fn past_tags(self) -> Payload<'a>
         ensures { payload result ≡ past_tags 4 (payload self.entry) }
     {
+        // Most frames have no tag.
+        if !is_tag(self.ether_type) {
+            return self;
+        }
         let mut payload = self;
         for _ in 0..MAX_TAGS {
             payload = payload.past_tag();

@@ -81,6 +81,7 @@ fn payload_finding<'a>(origin: Origin, payload: &'a [u8]) -> Finding<'a>
 
 impl Wanted {
     /// What is made of a captured packet that is seen so.
+    #[inline(always)]
     pub fn finding<'a>(&self, seen: &Seen<'a>) -> Finding<'a>
         ensures { Finds self.now (sight_of seen.now) (finding_of result) }
     {

@@ -57,6 +57,7 @@ const FAMILY_LEN: usize = 4;
 /// Checksums are not looked at. A frame that has more octets than `whole_len` counts as a whole
 /// one.
 #[tactic(auto, unfolding(crate::specs::Frame::frame_sight))]
+#[inline(always)]
 pub fn look(interface: u64, link: Link, frame: &[u8], whole_len: u32) -> Seen<'_>
     ensures { sight_of result ≡ frame_sight interface link frame.now
         (max whole_len (length frame.now)) }

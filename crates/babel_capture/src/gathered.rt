@@ -1,7 +1,8 @@
 ghost use Rattle.std.specs.Prelude.{◌≡◌, ◌+◌, ◌^◌, ◌<◌, ◌≤◌, ◌++◌, ◌∷◌, [], ◌⊎◌, ℕ, OnOk, IfErr};
-ghost use Rattle.babel_capture.specs.Blocks.{sighting_of, sightings_in, skipped_of};
+ghost use Rattle.babel_capture.specs.Blocks.{sight_in, sighting_of, sightings_in, skipped_of};
 ghost use Rattle.babel_capture.specs.Contents.{captured_of, content_of, holds, names_in};
 ghost use Rattle.babel_capture.specs.Gathering.{BlockNeedsMemory, IsGathered, IsRefused, name_of};
+ghost use Rattle.babel_capture.specs.Sight.{other};
 ghost use Rattle.babel_capture.specs.Sinking.{GatherMore, Sinks};
 
 use crate::block::{Block, Packet};
@@ -9,6 +10,7 @@ use crate::fault::Fault;
 use crate::finding::Finding;
 use crate::outside::Outside;
 use crate::report::Report;
+use crate::seen::Seen;
 use crate::sink::{Record, Said, Sink};
 use crate::tallies::{Origin, Tallies, Tally};
 use crate::time::Time;
@@ -118,6 +120,11 @@ impl Gathered {
             self.old.wanted self.old.senders (holds (captured_of packet.now))) }
     {
         let seen = packet.look();
+        // Nearly all packets of most captures end here.
+        if let Seen::Other = seen {
+            self.pass(packet, sink);
+            return Ok(());
+        }
         let finding = self.wanted.finding(&seen);
         if let Finding::Refused(lack) = finding {
             return Err(lack.fault(at));
@@ -168,6 +175,25 @@ impl Gathered {
             Block::Interface { name, .. } => self.add_name(name),
             Block::Section(_) | Block::Other => Ok(()),
         }
+    }
+
+    /// Takes a packet that is no datagram of Babel, and tells the sink of it.
+    fn pass<S: Sink>(&mut self, packet: &Packet<'_>, sink: &mut S)
+        requires room { self.old.report.packets + 1 < 2 ^ 64 }
+        requires other { sight_in (captured_of packet.now) ≡ other }
+        ensures wanted { self.new.wanted ≡ self.old.wanted }
+        ensures names { self.new.names ≡ self.old.names }
+        ensures report { self.new.report.packets ≤ self.old.report.packets + 1 }
+        ensures passed { (at : ℕ) → Sinks S.has sink.old sink.new (GatherMore self.old self.new
+            (sighting_of (self.old.report.packets + 1) at (captured_of packet.now) ∷ [])) }
+    {
+        let time = packet.time();
+        self.report.count_other(&time);
+        sink.take(&Record {
+            number: self.report.packets(),
+            time,
+            said: Said::Nothing,
+        });
     }
 
     /// Skips a packet, of which the sink is told no more than that it is one of the capture.

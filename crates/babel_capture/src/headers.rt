@@ -52,9 +52,14 @@ impl<'a> NextHeader<'a> {
 
     /// The header after the extension headers, of which at most `MAX_EXTENSION_HEADERS` are
     /// skipped.
+    #[tactic(auto, using(crate::proofs::SkippedLaws::no_header))]
     pub fn past_all(self) -> NextHeader<'a>
         ensures { next_header result ≡ past_headers 8 (next_header self.entry) }
     {
+        // Most packets have no extension header.
+        if telling_len(self.number) == 0 {
+            return self;
+        }
         let mut header = self;
         for _ in 0..MAX_EXTENSION_HEADERS {
             header = header.past_one();

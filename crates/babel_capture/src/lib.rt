@@ -4,6 +4,26 @@
 //! A `Capture` is read in pieces of any size. It tells its blocks, and each captured packet to the
 //! layer of frames, which looks into one frame and takes no memory; and then, where it lies, to a
 //! `Sink`. This crate knows nothing of files and streams, nor of what the TLVs of a packet say.
+//!
+//! What it promises the crates above, each with its contract as docs/PROMISES.md has them:
+//!
+//! - A sink takes each packet as it is read, in order, each once: its number, its time, and the
+//!   Babel packet in it and from whom, or, where no sender is named, whose datagram is missed for
+//!   what it lacks. With a fault it took the packets of the blocks before it. — `Capture::feed` ·
+//!   *sunk*, *stopped* (`Sinks`, `FeedMore`, `StopMore`); `Sink::take` (`IsTold`). A Babel packet
+//!   that is found is whole — `laws::found_is_a_packet`
+//! - Of a capture whose last block is cut short, `finish_at_cut` gives what the whole blocks before
+//!   it give, and where the cut is, as does `cut` of a reader that is kept; a cut in the first
+//!   block is refused. With `to_cut` a record of pcap without octets is such a cut, whatever comes
+//!   after it, up to the limit (`record_len`, `IsEnd`, `IsPartial`). — `Capture::finish_at_cut`,
+//!   `cut` · *ok*, *not_cut*; `finish_at_cut`, `finish` · *wanted*
+//! - Out of memory comes only where a block came in several pieces, or one that begins in this
+//!   piece is not whole, describes an interface, or has a packet of a sender not listed yet (or has
+//!   2^64 packets, octets or Updates); at the end only if answered before. — `Capture::feed`,
+//!   `finish`, `finish_at_cut`, `cut` · *memory*
+//! - Where nobody is named, the packets found of a sender at its place are those that the same
+//!   octets give where it alone is wanted, with number and time; they give nothing then if one is
+//!   missed. — `laws::alone_is_the_same` · *whole*, *missing*
 #![tactic(auto)]
 
 mod block;

@@ -93,11 +93,15 @@ impl Reader {
             × (block_said self.old.context self.old.at block.now ≡ Ok content)
             × BlockNeedsMemory self.old.gathering.wanted self.old.gathering.senders content) }
     {
-        let said = read_block(&self.context, self.at, block)?;
+        let read = read_block(&self.context, self.at, block);
+        let said = match &read {
+            Ok(said) => said,
+            Err(fault) => return Err(*fault),
+        };
         let at = self.at;
         self.at += block.len() as u64;
-        self.context.take(&said)?;
-        self.gathered.take_said(at, &said, sink)
+        self.context.take(said)?;
+        self.gathered.take_said(at, said, sink)
     }
 
     /// The whole block that the octets begin with; `None` if they are less than a block.

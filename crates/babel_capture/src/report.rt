@@ -140,6 +140,7 @@ impl Report {
     /// Counts a packet of an interface of this link type, which came then, and in this section, if
     /// it is a datagram of Babel, and of which this is made; a packet that is found has this
     /// Interval.
+    #[inline(always)]
     pub(crate) fn count(
         &mut self,
         link: Link,
@@ -154,7 +155,7 @@ impl Report {
             (finding_of finding.now) }
     {
         self.packets += 1;
-        self.timing = self.timing.with(self.packets, time);
+        self.timing.take(self.packets, time);
         self.sections = self.sections.with(section);
         match finding {
             Finding::Passed | Finding::Refused(_) => {}
@@ -169,6 +170,15 @@ impl Report {
                 self.cooked += u64::from(link == Link::Cooked);
             }
         }
+    }
+
+    /// Counts a packet that is no datagram of Babel, which came then.
+    pub(crate) fn count_other(&mut self, time: &Option<Time>)
+        requires { self.old.packets + 1 < 2 ^ 64 }
+        ensures { self.new ≡ counted_with (counted_at self.old (kept time.now None)) None }
+    {
+        self.packets += 1;
+        self.timing.take(self.packets, *time);
     }
 
     /// Counts a packet that is skipped.

@@ -123,6 +123,7 @@ impl Tallies {
 
     /// Counts the packet in the block at this offset, if one is found there: the greatest Interval
     /// of its Updates that announce.
+    #[inline(always)]
     pub fn take(
         &mut self,
         at: u64,

@@ -27,25 +27,23 @@ impl Timing {
         }
     }
 
-    /// With one packet more, which has this number.
-    pub(crate) fn with(self, number: u64, time: Option<Time>) -> Timing
-        ensures { result ≡ with_time self number time }
+    /// Takes one packet more, which has this number.
+    pub(crate) fn take(&mut self, number: u64, time: Option<Time>)
+        ensures { self.new ≡ with_time self.old number time }
     {
         let Some(time) = time else {
-            return Timing {
-                has_untimed: true,
-                ..self
-            };
+            self.has_untimed = true;
+            return;
         };
-        let backwards = match self.latest {
-            Some(latest) if time.nanoseconds() < latest.nanoseconds() => Some(number),
-            _ => None,
-        };
-        Timing {
-            has_untimed: self.has_untimed,
-            earliest: earlier(self.earliest, Some(time)),
-            latest: later(self.latest, Some(time)),
-            backwards: self.backwards.or(backwards),
+        match self.latest {
+            Some(latest) if time.nanoseconds() < latest.nanoseconds() => {
+                self.backwards = self.backwards.or(Some(number));
+            }
+            _ => self.latest = Some(time),
+        }
+        match self.earliest {
+            Some(earliest) if earliest.nanoseconds() <= time.nanoseconds() => {}
+            _ => self.earliest = Some(time),
         }
     }
 }

@@ -13,10 +13,20 @@ use Rattle.babel_capture.specs.declared.fault.Fault.TheVariants as faults
 use Rattle.babel_capture.specs.declared.timing.Timing.{Timing}
 use Rattle.babel_capture.specs.declared.wanted.Wanted.{Wanted}
 use Rattle.babel_dump.specs.CaptureGiven.{CaptureInput, GaveCapture, GaveRead, IsAccepted, IsFaultOfCapture, IsFedWhole, Took, extent_of}
+use Rattle.babel_dump.specs.CaptureRun.{CaptureCause, FeedCause}
 use Rattle.babel_dump.specs.LeftOut.{LeavesNoneOut}
 use Rattle.babel_dump.specs.declared.capture_input.CaptureRead.{CaptureRead}
+use Rattle.babel_dump.specs.declared.input_fault.InputFault.{InputFault}
+use Rattle.babel_dump.specs.declared.input_fault.InputFault.TheVariants as input_faults
+use Rattle.babel_dump.specs.declared.interfaces.Interfaces.{Interfaces}
 use Rattle.babel_dump.proofs.CaptureFeeding.{IsReadFrom}
 use Rattle.babel_dump.proofs.FollowLaws.{same_made}
+
+-- why it was not read to its end
+pub feed_cause : (reader : CaptureInput) (Several : Interfaces → Type 0) (fault : InputFault) → FeedCause reader fault → CaptureCause reader Several fault
+feed_cause reader Several input_faults.Read cause = cause
+feed_cause reader Several (input_faults.Capture fault) cause = cause
+feed_cause reader Several fault cause = absurd cause
 
 -- up to a place where it is cut short is a fault of it
 cut_short : (limit : Extent) (octets : List ℕ) (gathering : Gathering) (at : ℕ) → IsReadToCut limit octets gathering (Some at) → EndsShort limit gathering.wanted octets (faults.CutShort at)

@@ -16,7 +16,7 @@ use Rattle.babel_table.specs.DumpFault.{DumpFault}
 use Rattle.babel_table.specs.Feeding.{HasHeard, HasReadTo}
 use Rattle.babel_table.specs.Moments.{dump_of}
 use Rattle.babel_dump.specs.CaptureGiven.{CaptureInput, GaveCapture, IsFedWhole, Took, TookSome, capture_from, extent_of, made_in, moment_in}
-use Rattle.babel_dump.specs.CaptureRun.{CaptureCause, IsNoFault}
+use Rattle.babel_dump.specs.CaptureRun.{FeedCause}
 use Rattle.babel_dump.specs.Fed.{AreNotes, AreWhole, EndsRefused, EndsWith, FeedsOn, IsEnded, IsFed, IsFedSo}
 use Rattle.babel_dump.specs.Given.{Input, IsFaultOfGiven, IsFaultOfInput, capture_reading_of, capture_with, expired, wanted_by}
 use Rattle.babel_dump.specs.LeftOut.{first_left_out}
@@ -85,13 +85,12 @@ module _ (reader : Input) (first now : PacketFeeder) (for : IsFor reader first) 
 
 -- ---- why there is no dump
 
--- the capture is refused
-pub refused_cause : (reader : Input) (Refuses : Fault → Type 0) → reader.reading.is_capture ≡ true → (fault : InputFault) → CaptureCause (capture_with reader) IsNoFault fault
-    → InputCause reader Refuses fault
-refused_cause reader Refuses capture (input_faults.Dump fault) cause = λ not_memory. absurd (not_memory cause)
+-- the capture was not read to its end
+pub refused_cause : (reader : Input) (Refuses : Fault → Type 0) → reader.reading.is_capture ≡ true → (fault : InputFault) → FeedCause (capture_with reader) fault → InputCause reader Refuses fault
+refused_cause reader Refuses capture (input_faults.Dump fault) cause = absurd cause
 refused_cause reader Refuses capture (input_faults.Ignored tlv ignores_4) cause = absurd cause
 refused_cause reader Refuses capture (input_faults.Capture fault) cause = inr (capture, cause)
-refused_cause reader Refuses capture (input_faults.LeftOut datagram) cause = inr (capture, cause)
+refused_cause reader Refuses capture (input_faults.LeftOut datagram) cause = absurd cause
 refused_cause reader Refuses capture input_faults.NoUpdates cause = absurd cause
 refused_cause reader Refuses capture (input_faults.SeveralInterfaces interfaces) cause = absurd cause
 refused_cause reader Refuses capture (input_faults.NoPackets absence) cause = absurd cause
@@ -118,7 +117,7 @@ module _ (reader : Input) (first now : PacketFeeder) (f : State) (from : IsReadF
       inr (capture, λ not_memory. given_fault FeedsOn first now (capture_with reader) f from all fault (is all.given all.fed).1 (λ fed read. (is fed read).0 not_memory))
   ends_cause Refuses capture (input_faults.LeftOut datagram) is =
       let left = is all.given all.fed in
-      inr (capture, record { gathering = f.progress.gathering; cut = left.0; given = gave left.0 left.1; strict = left.2; first = left.3 })
+      inr (capture, (record { gathering = f.progress.gathering; cut = left.0; given = gave left.0 left.1; strict = left.2; first = left.3 }, left.4))
   ends_cause Refuses capture input_faults.NoUpdates is = absurd (is all.given all.fed).not_one
   ends_cause Refuses capture (input_faults.SeveralInterfaces interfaces) is =
       let there = is all.given all.fed in
@@ -191,12 +190,12 @@ pub record FedFrom (reader : Input) (first now : PacketFeeder) (f : State) (resu
   pub from : IsReadFrom f (capture_reading_of reader.reading) (wanted_by reader.reading)
   pub for : IsFor reader first
   pub some : TookSome FeedsOn first now (capture_with reader)
-  pub gathered : Gathered (capture_calls (capture_with reader)) (CaptureCause (capture_with reader) IsNoFault) (λ _. IsFedWhole FeedsOn first now f (capture_with reader)) result
+  pub gathered : Gathered (capture_calls (capture_with reader)) (FeedCause (capture_with reader)) (λ _. IsFedWhole FeedsOn first now f (capture_with reader)) result
 
 pub fed_from : (reader : Input) (first now : PacketFeeder) (f : State) (result : Result (Unit {0}) InputFault) (how : CaptureReading) (whose : Wanted)
     → how ≡ capture_reading_of reader.reading → whose ≡ wanted_by reader.reading → reader.reading.is_capture ≡ true → f.limit ≡ extent_of how → f.progress.gathering.wanted ≡ whose
     → IsFor reader first → TookSome FeedsOn first now (capture_from reader.old reader.new how whose)
-    → Gathered (capture_calls (capture_from reader.old reader.new how whose)) (CaptureCause (capture_from reader.old reader.new how whose) IsNoFault)
+    → Gathered (capture_calls (capture_from reader.old reader.new how whose)) (FeedCause (capture_from reader.old reader.new how whose))
     (λ _. IsFedWhole FeedsOn first now f (capture_from reader.old reader.new how whose)) result
     → FedFrom reader first now f result
 fed_from reader first now f result how whose how_is whose_is capture limit wanted for some gathered =
@@ -206,7 +205,7 @@ fed_from reader first now f result how whose how_is whose_is capture limit wante
       from = record { limit = limit ∙ ap extent_of how_is; wanted = wanted ∙ whose_is };
       for = for;
       some = subst (TookSome FeedsOn first now) same some;
-      gathered = subst (λ (input : CaptureInput). Gathered (capture_calls input) (CaptureCause input IsNoFault) (λ _. IsFedWhole FeedsOn first now f input) result) same gathered;
+      gathered = subst (λ (input : CaptureInput). Gathered (capture_calls input) (FeedCause input) (λ _. IsFedWhole FeedsOn first now f input) result) same gathered;
     }
 
 module _ (reader : Input) (first now : PacketFeeder) (f : State) where

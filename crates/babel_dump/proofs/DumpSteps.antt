@@ -1,112 +1,44 @@
--- What comes of the octets of a dump, of a text of pairs, and of a capture: one thing, or one fault.
-use Rattle.std.proofs.Common.{◌≡◌, ◌≤◌, ◌<◌, ◌⊎◌, refl, ℕ, Bool, true, false, List, [], ◌++◌, length, length-append, append-nil, Option, None, Some, Result, Ok, Err}
+-- What comes of the octets of a dump, or of a capture that has it, and of a text of pairs: one thing, or alike faults.
+use Rattle.std.proofs.Common.{◌≡◌, ◌≢◌, ◌≤◌, ◌<◌, ◌⊎◌, refl, ℕ, Bool, true, false, List, ◌++◌, length, length-append, append_assoc, Option, None, Some, Result, Ok, Err}
 use Rattle.std.proofs.Common.{arith, ap, sym, ◌∙◌, inl, inr, subst}
-use Rattle.babel_capture.proofs.OneCapture.{cut_capture_is_one}
-use Rattle.babel_capture.specs.Gathering.{Gathering}
+use Rattle.babel_capture.specs.Blocks.{IsPartial, context_behind, octets_of, sightings_of, start}
+use Rattle.babel_capture.specs.Gathering.{AreMade}
 use Rattle.babel_capture.specs.declared.wanted.Wanted.{Wanted}
 use Rattle.babel_dump.proofs.AskedLaws.{first_wrong_one, not_wrong}
-use Rattle.babel_dump.proofs.LeftOutLaws.{none_is_first_left_out}
-use Rattle.babel_dump.proofs.Steps.{Always, always_one, Checked, checked_one, IsOne, Then, then_one}
+use Rattle.babel_dump.proofs.CaptureBegins.{dump_made, either_begins, whole_begins}
+use Rattle.babel_dump.proofs.CaptureSteps.{all_of, begins, is_read_of, IsReadOf, Read, read_of, read_one}
+use Rattle.babel_dump.proofs.OneMoment.{table_at_is_one}
+use Rattle.babel_dump.proofs.Steps.{Checked, checked_one, IsAlike, IsOne, Then, then_one}
 use Rattle.babel_dump.proofs.StrictLaws.{not_whole_one, whole_or_not}
 use Rattle.babel_dump.specs.AskedPairs.{AskFor, IsFirstWrong, lines_of}
-use Rattle.babel_capture.specs.Capture.{IsReadToCut}
-use Rattle.babel_dump.specs.CaptureGiven.{CaptureInput, extent_of, GaveCapture, GaveSound, made_in}
-use Rattle.babel_dump.specs.CaptureRun.{CaptureCause}
-use Rattle.babel_dump.specs.Packets.{packets_made}
-use Rattle.babel_table.specs.Moments.{dump_of as dump_heard}
+use Rattle.babel_dump.specs.CaptureGiven.{BeginsWith, extent_of}
 use Rattle.babel_dump.specs.Command.{IsFaultWith, IsOfMemory}
 use Rattle.babel_dump.specs.Each.{GavePairsOf, RefusesPairs}
-use Rattle.babel_dump.specs.Given.{Dump, GaveAll, GaveDump, GaveTable, GaveUnread, Input, IsDump, IsFaultOfGiven, IsFaultOfInput, IsFaultOfStream, IsOfWhole, IsStream}
-use Rattle.babel_dump.specs.LeftOut.{first_left_out, LeavesNoneOut}
+use Rattle.babel_dump.specs.Given.{capture_reading_of, capture_with, Dump, expired, GaveAll, GaveDump, GaveTable, GaveUnread, Input, IsDump, IsFaultInCapture, IsFaultOfGiven, IsFaultOfInput}
+use Rattle.babel_dump.specs.Given.{IsOfWhole, IsTableRead, wanted_by}
+use Rattle.babel_dump.specs.LeftOut.{first_left_out}
 use Rattle.babel_dump.specs.Octets.{HasTable}
-use Rattle.babel_dump.specs.OneOutcome.{IsOfDump, IsOfOctets}
+use Rattle.babel_dump.specs.OneOutcome.{IsFaultOfOctets, IsNotAtOnePlace, IsOfDump, IsOfOctets}
+use Rattle.babel_dump.specs.Packets.{packets_made}
 use Rattle.babel_dump.specs.Run.{InputCause}
 use Rattle.babel_dump.specs.Strict.{IsNotReadWhole, IsReadWhole}
 use Rattle.babel_dump.specs.declared.addr_pair.AddrPair.{AddrPair}
-use Rattle.babel_dump.specs.declared.capture_reading.CaptureReading.{CaptureReading}
+use Rattle.babel_dump.specs.declared.input.Expired.{Expired}
 use Rattle.babel_dump.specs.declared.input_fault.InputFault.TheVariants as input_faults
 use Rattle.babel_dump.specs.declared.input_fault.InputFault.{InputFault}
-use Rattle.babel_dump.specs.declared.interfaces.Interfaces.{Interfaces}
 use Rattle.babel_dump.specs.declared.left_out.LeftOutDatagram.{LeftOutDatagram}
 use Rattle.babel_dump.specs.declared.pairs_fault.PairsFault.TheVariants as pairs_faults
 use Rattle.babel_dump.specs.declared.reading.Reading.{Reading}
 use Rattle.babel_dump.specs.declared.run_fault.RunFault.TheVariants as run_faults
 use Rattle.babel_dump.specs.declared.run_fault.RunFault.{RunFault}
 use Rattle.babel_table.proofs.OutcomeLaws.{fault_is_one, fault_stays, table_is_one}
-use Rattle.babel_table.specs.DumpFault.{DumpFault, IsTruncated}
+use Rattle.babel_table.specs.DumpFault.{DumpFault, HasNoFault, IsTruncated}
 use Rattle.babel_table.specs.Rows.{Routes}
 use Rattle.babel_tlv.specs.declared.fault.Fault.TheVariants as faults
 use Rattle.babel_tlv.specs.declared.fault.Fault.{Fault}
-use Rattle.std.specs.Io.KnownBytes.{Consumes, IsAtEnd}
 
--- the octets that a reader gave are the first of those that it had
-begins : (old new : Option (List ℕ)) (dump given : List ℕ) → old ≡ Some dump → Consumes old new given → (rest : List ℕ) × (dump ≡ given ++ rest)
-begins None new dump given has gave = absurd cc
-begins (Some xs) None dump given has gave = absurd gave
-begins (Some xs) (Some ys) dump given has gave = (ys, cc)
-
--- at its end they are all
-all_of : (old new : Option (List ℕ)) (dump given : List ℕ) → old ≡ Some dump → Consumes old new given → IsAtEnd new → given ≡ dump
-all_of None new dump given has gave end = absurd cc
-all_of (Some xs) None dump given has gave end = absurd gave
-all_of (Some xs) (Some ys) dump given has gave end =
-    let joined : xs ≡ given ++ [] = rw end at gave in
-    let whole = append-nil given in
-    cc
-
-gave_all : (reader : Input) (dump given : List ℕ) → reader.old.left ≡ Some dump → GaveAll reader given → given ≡ dump
-gave_all reader dump given has gave = all_of reader.old.left reader.new.left dump given has gave.gave gave.all
-
--- ---- a dump
-
--- the octets have no fault, and this table; or this fault
-abbrev pub OctetsCome : Reading → List ℕ → Result Routes InputFault → Type 0
-OctetsCome reading dump (Ok table) = HasTable reading dump table
-OctetsCome reading dump (Err fault) = (own : Fault) × (fault ≡ input_faults.Dump own) × DumpFault reading.limits reading.mode reading.sender dump own
-
-octets_one : (reading : Reading) (dump : List ℕ) → IsOne (OctetsCome reading dump)
-octets_one reading dump (Ok table) (Ok too) is is_too = ap (λ t. Ok t) (table_is_one _ _ _ dump table too is.is_table is_too.is_table)
-octets_one reading dump (Ok table) (Err fault) is (own, same, has) = absurd (is.accepted own has)
-octets_one reading dump (Err fault) (Ok table) (own, same, has) is = absurd (is.accepted own has)
-octets_one reading dump (Err fault) (Err too) (own, same, has) (other, same_too, has_too) =
-    let owns = fault_is_one reading.limits reading.mode reading.sender dump own other has has_too in cc
-
--- and of one that is read strictly nothing was left unread
-abbrev pub DumpComes : Reading → List ℕ → Result Routes InputFault → Type 0
-DumpComes reading dump = Then (OctetsCome reading dump)
-    (λ table. Checked table reading.strict (IsReadWhole None table.report) (IsNotReadWhole None table.report))
-
-pub dump_one : (reading : Reading) (dump : List ℕ) → IsOne (DumpComes reading dump)
-dump_one reading dump = then_one (octets_one reading dump)
-    (λ table. checked_one table reading.strict (whole_or_not None table.report) (not_whole_one None table.report))
-
--- a reader of a dump that is read of no capture, which has these octets
-pub record Plain (reader : Input) (dump : List ℕ) : Type 0 where
-  pub no_capture : reader.reading.is_capture ≡ false
-  pub has : reader.old.left ≡ Some dump
-
-stream_of : (is_capture : Bool) (reader : Input) (dump : Dump) (table : Routes) → is_capture ≡ false → IsDump is_capture reader dump table → IsStream reader dump table
-stream_of false reader dump table no_capture is = is
-stream_of true reader dump table no_capture is = absurd cc
-
-is_stream : (reader : Input) (dump : List ℕ) (table : Routes) → Plain reader dump → (given : GaveDump reader table) → IsStream reader given.dump table
-is_stream reader dump table plain given = stream_of reader.reading.is_capture reader given.dump table plain.no_capture given.is_dump
-
-is_dump : (reader : Input) (dump : List ℕ) (table : Routes) → Plain reader dump → GaveDump reader table → HasTable reader.reading dump table
-is_dump reader dump table plain given =
-    let stream = is_stream reader dump table plain given in
-    let same = gave_all reader dump given.dump.octets plain.has stream.gave in
-    record { accepted = rw same at given.accepted; is_table = rw same at stream.is_table }
-
-pub table_comes : (reader : Input) (dump : List ℕ) (table : Routes) → Plain reader dump → GaveTable reader table → DumpComes reader.reading dump (Ok table)
-table_comes reader dump table plain gave =
-    let none = (is_stream reader dump table plain gave.given).none_left_out in
-    inl (table, is_dump reader dump table plain gave.given, (refl, λ is. rw none at (gave.strict is)))
-
-unread_comes : (reader : Input) (dump : List ℕ) (fault : InputFault) → Plain reader dump → GaveUnread reader fault → DumpComes reader.reading dump (Err fault)
-unread_comes reader dump fault plain gave =
-    let none = (is_stream reader dump gave.table plain gave.given).none_left_out in
-    inl (gave.table, is_dump reader dump gave.table plain gave.given, (gave.strict, rw none at gave.unread))
+gave_all : (reader : Input) (octets given : List ℕ) → reader.old.left ≡ Some octets → GaveAll reader given → given ≡ octets
+gave_all reader octets given has gave = all_of reader.old.left reader.new.left octets given has gave.gave gave.all
 
 -- what holds of a fault's octets holds of all, or more octets do not mend it
 whole_or_stays : (fault : Fault) → IsOfWhole fault ⊎ (¬ IsTruncated fault)
@@ -120,58 +52,247 @@ whole_or_stays faults.TooLong = inr (λ no. no)
 whole_or_stays faults.TooManyPairs = inl tt
 whole_or_stays faults.Memory = inr (λ no. no)
 
-stream_fault : (is_capture : Bool) (reader : Input) (fault : Fault) → is_capture ≡ false → IsFaultOfInput is_capture reader fault → IsFaultOfStream reader fault
-stream_fault false reader fault no_capture is = is
-stream_fault true reader fault no_capture is = absurd cc
+-- ---- a fault in a capture
 
-fault_of_all : (reader : Input) (dump : List ℕ) (fault : Fault) → Plain reader dump → IsFaultOfGiven reader fault
-    → DumpFault reader.reading.limits reader.reading.mode reader.reading.sender dump fault
-fault_of_all reader dump fault plain is =
-    let given = stream_fault reader.reading.is_capture reader fault plain.no_capture is in
-    elim (whole_or_stays fault) [
-      | inl whole ↦ rw (gave_all reader dump given.given plain.has (given.whole whole)) at given.refused
-      | inr stays ↦
-          let more = begins reader.old.left reader.new.left dump given.given plain.has given.gave in
-          rw more.1 (fault_stays _ _ _ given.given more.0 fault given.refused stays)
-    ]
-
-fault_comes : (reader : Input) (dump : List ℕ) (fault : Fault) → Plain reader dump → IsFaultOfGiven reader fault
-    → DumpComes reader.reading dump (Err (input_faults.Dump fault))
-fault_comes reader dump fault plain given = inr (input_faults.Dump fault, (fault, refl, fault_of_all reader dump fault plain given), refl)
-
-unread_or_capture : (reader : Input) (dump : List ℕ) (fault : InputFault) {Of : Type 0} → Plain reader dump → GaveUnread reader fault ⊎ ((reader.reading.is_capture ≡ true) × Of)
-    → DumpComes reader.reading dump (Err fault)
-unread_or_capture reader dump fault plain (inl unread) = unread_comes reader dump fault plain unread
-unread_or_capture reader dump fault plain (inr (is_capture, of_capture)) = let never = plain.no_capture in absurd cc
-
--- the dump comes to the fault; or it is its own, and has this cause
-own_cause : (Cause : Fault → Type 0) (reader : Input) (dump : List ℕ) (fault : InputFault) → Plain reader dump → IsOfDump fault → InputCause reader Cause fault
-    → DumpComes reader.reading dump (Err fault) ⊎ ((own : Fault) × (fault ≡ input_faults.Dump own) × Cause own)
-own_cause Cause reader dump (input_faults.Dump fault) plain is cause = inr (fault, refl, cause is)
-own_cause Cause reader dump (input_faults.Ignored tlv ignores_4) plain is cause = inl (unread_or_capture reader dump (input_faults.Ignored tlv ignores_4) plain cause)
-own_cause Cause reader dump (input_faults.Capture fault) plain is cause = absurd is
-own_cause Cause reader dump (input_faults.LeftOut datagram) plain is cause = inl (unread_or_capture reader dump (input_faults.LeftOut datagram) plain cause)
-own_cause Cause reader dump input_faults.NoUpdates plain is cause = inl (unread_or_capture reader dump input_faults.NoUpdates plain cause)
-own_cause Cause reader dump (input_faults.SeveralInterfaces interfaces) plain is cause = absurd is
-own_cause Cause reader dump (input_faults.NoPackets absence) plain is cause = absurd is
-own_cause Cause reader dump input_faults.Read plain is cause = absurd is
-
-pub dump_fault : (reader : Input) (dump : List ℕ) (fault : InputFault) → Plain reader dump → IsOfDump fault
-    → InputCause reader (IsFaultOfGiven reader) fault → DumpComes reader.reading dump (Err fault)
-dump_fault reader dump fault plain is cause = elim (own_cause (IsFaultOfGiven reader) reader dump fault plain is cause) [
-  | inl comes ↦ comes
-  | inr (own, same, given) ↦ rw same (fault_comes reader dump own plain given)
+-- it stays where what is made of the capture goes on
+stays_in : (reading : Reading) (octets dump : List ℕ) (fault : Fault) (is : IsFaultInCapture reading octets fault) → (more : List ℕ) × (dump ≡ dump_made is.made ++ more)
+    → DumpFault reading.limits reading.mode reading.sender dump fault
+stays_in reading octets dump fault is on = elim (whole_or_stays fault) [
+  | inl whole ↦ absurd (is.not_whole whole)
+  | inr stays ↦ rw on.1 (fault_stays _ _ _ (dump_made is.made) on.0 fault is.refused stays)
 ]
 
--- the dump comes to the fault, or its table has too many pairs
-pub table_fault : (Many : Routes → Type 0) (reader : Input) (dump : List ℕ) (fault : InputFault) → Plain reader dump → IsOfDump fault
-    → InputCause reader (IsFaultWith reader Many) fault
-    → DumpComes reader.reading dump (Err fault) ⊎ ((table : Routes) × DumpComes reader.reading dump (Ok table) × (fault ≡ input_faults.Dump faults.TooManyPairs) × Many table)
-table_fault Many reader dump fault plain is cause = elim (own_cause (IsFaultWith reader Many) reader dump fault plain is cause) [
-  | inl comes ↦ inl comes
-  | inr (own, same, inl given) ↦ inl (rw same (fault_comes reader dump own plain given))
-  | inr (own, same, inr (many, gave)) ↦ inr (gave.table, table_comes reader dump gave.table plain gave.gave, same ∙ ap (λ (f : Fault). input_faults.Dump f) many, gave.holds)
+fault_in_one : (reading : Reading) (octets : List ℕ) (fault too : Fault) → IsFaultInCapture reading octets fault → IsFaultInCapture reading octets too → fault ≡ too
+fault_in_one reading octets fault too is is_too = elim (either_begins (capture_reading_of reading) (wanted_by reading) octets is.made is_too.made is.begins is_too.begins) [
+  | inl on ↦ fault_is_one reading.limits reading.mode reading.sender (dump_made is.made) fault too is.refused (stays_in reading octets (dump_made is.made) too is_too on)
+  | inr on ↦ fault_is_one reading.limits reading.mode reading.sender (dump_made is_too.made) fault too (stays_in reading octets (dump_made is_too.made) fault is on) is_too.refused
 ]
+
+-- what is read of a capture to its end
+module _ (reading : Reading) (octets : List ℕ) (read : Read) (is : IsReadOf (capture_reading_of reading) (wanted_by reading) octets read) where
+  abbrev made_whole : BeginsWith (capture_reading_of reading) (wanted_by reading) octets is.is_read.is_read.gathered.made
+  made_whole = record {
+    blocks = is.is_read.is_read.blocks;
+    rest = is.is_read.rest;
+    whole = is.is_read.whole ∙ ap (λ (front : List ℕ). front ++ is.is_read.rest) is.is_read.is_read.whole;
+    are_blocks = is.is_read.is_read.are_blocks;
+    are_made = subst (λ (w : Wanted). AreMade w (sightings_of is.is_read.is_read.blocks) is.is_read.is_read.gathered.made) is.wanted_is is.is_read.is_read.gathered.taken.are_made;
+  }
+
+  -- and has no fault
+  no_fault_in : HasNoFault reading.limits reading.mode reading.sender (dump_made read.made) → (fault : Fault) → IsFaultInCapture reading octets fault → ⊥
+  no_fault_in accepted fault has =
+      let partial = subst (λ (front : List ℕ). IsPartial (context_behind (start (extent_of (capture_reading_of reading))) is.is_read.is_read.blocks) (length front) is.is_read.rest)
+      is.is_read.is_read.whole is.is_read.partial in
+      let on = whole_begins (capture_reading_of reading) (wanted_by reading) octets is.is_read.is_read.gathered.made has.made made_whole has.begins partial in
+      accepted fault (stays_in reading octets (dump_made read.made) fault has (on.0, ap dump_made is.made_is ∙ on.1))
+
+-- ---- what is read as a dump
+
+-- the first datagram that was left out, and the table
+pub record Source : Type 0 where
+  pub left_out : Option LeftOutDatagram
+  pub table : Routes
+
+-- the octets are a capture that has the dump
+pub record IsSourceIn (reading : Reading) (octets : List ℕ) (source : Source) : Type 0 where
+  pub read : Read
+  pub is_read : IsReadOf (capture_reading_of reading) (wanted_by reading) octets read
+  pub one_place : length read.gathering.senders ≡ 1
+  pub accepted : HasNoFault reading.limits reading.mode reading.sender (dump_made read.made)
+  pub left_out_is : source.left_out ≡ first_left_out read.gathering.report
+  pub is_table : IsTableRead (expired reading.expiry read.moment) reading (packets_made read.made) source.table
+
+-- they are one in which the sender is not at one place, and the datagram is the first that was left out
+pub record IsLeftOutOf (reading : Reading) (octets : List ℕ) (datagram : LeftOutDatagram) : Type 0 where
+  pub read : Read
+  pub is_read : IsReadOf (capture_reading_of reading) (wanted_by reading) octets read
+  pub not_one : length read.gathering.senders ≢ 1
+  pub first : first_left_out read.gathering.report ≡ Some datagram
+
+abbrev pub SourceComes : (is_capture : Bool) → Reading → List ℕ → Result Source InputFault → Type 0
+SourceComes false reading octets (Ok source) = HasTable reading octets source.table × (source.left_out ≡ None)
+SourceComes true reading octets (Ok source) = IsSourceIn reading octets source
+SourceComes is_capture reading octets (Err (input_faults.Dump fault)) = IsFaultOfOctets is_capture reading octets fault
+SourceComes true reading octets (Err (input_faults.LeftOut datagram)) = IsLeftOutOf reading octets datagram
+SourceComes is_capture reading octets (Err fault) = ⊥
+
+-- two faults are one, or that of the dump and that a datagram was left out
+abbrev pub Differ : Reading → List ℕ → InputFault → InputFault → Type 0
+Differ reading octets (input_faults.Dump fault) (input_faults.LeftOut datagram) = IsNotAtOnePlace reading octets
+Differ reading octets fault too = ⊥
+
+abbrev pub Alike : Reading → List ℕ → InputFault → InputFault → Type 0
+Alike reading octets fault too = (fault ≡ too) ⊎ (Differ reading octets fault too ⊎ Differ reading octets too fault)
+
+one_source : (one two : Source) → one.left_out ≡ two.left_out → one.table ≡ two.table → one ≡ two
+one_source one two left_out table =
+    let of : Option LeftOutDatagram → Routes → Source = λ l t. record { left_out = l; table = t } in
+    let same : of one.left_out one.table ≡ of two.left_out two.table = cc in same
+
+table_read_one : (at : Option Expired) (reading : Reading) (packets : List (ℕ × List ℕ)) (table other : Routes) → IsTableRead at reading packets table → IsTableRead at reading packets other
+    → table ≡ other
+table_read_one None reading packets table other is is_too = table_is_one _ _ _ _ table other is is_too
+table_read_one (Some at) reading packets table other is is_too = table_at_is_one _ _ _ packets at.factor at.moment table other is is_too
+
+source_same : (is_capture : Bool) (reading : Reading) (octets : List ℕ) (one two : Source) → SourceComes is_capture reading octets (Ok one) → SourceComes is_capture reading octets (Ok two)
+    → one ≡ two
+source_same false reading octets one two (is, none) (is_too, none_too) = one_source one two (none ∙ sym none_too) (table_is_one _ _ _ octets one.table two.table is.is_table is_too.is_table)
+source_same true reading octets one two is is_too =
+    let reads = read_one _ _ octets is_too.read is.read is_too.is_read is.is_read in
+    one_source one two (is.left_out_is ∙ ap (λ (r : Read). first_left_out r.gathering.report) (sym reads) ∙ sym is_too.left_out_is)
+    (table_read_one (expired reading.expiry is.read.moment) reading (packets_made is.read.made) one.table two.table is.is_table
+    (subst (λ (r : Read). IsTableRead (expired reading.expiry r.moment) reading (packets_made r.made) two.table) reads is_too.is_table))
+
+source_fault : (is_capture : Bool) (reading : Reading) (octets : List ℕ) (source : Source) (fault : InputFault) → SourceComes is_capture reading octets (Ok source)
+    → SourceComes is_capture reading octets (Err fault) → ⊥
+source_fault false reading octets source (input_faults.Dump fault) is has = is.0.accepted fault has
+source_fault true reading octets source (input_faults.Dump fault) is has = no_fault_in reading octets is.read is.is_read is.accepted fault has
+source_fault true reading octets source (input_faults.LeftOut datagram) is left =
+    left.not_one (ap (λ (r : Read). length r.gathering.senders) (read_one _ _ octets left.read is.read left.is_read is.is_read) ∙ is.one_place)
+source_fault is_capture reading octets source fault is never = never
+
+not_at_one : (reading : Reading) (octets : List ℕ) (datagram : LeftOutDatagram) → reading.is_capture ≡ true → IsLeftOutOf reading octets datagram → IsNotAtOnePlace reading octets
+not_at_one reading octets datagram is_capture left = record {
+  is_capture = is_capture;
+  gathering = left.read.gathering;
+  cut = left.read.cut;
+  is_read = left.is_read.is_read;
+  wanted_is = left.is_read.wanted_is;
+  not_one = left.not_one;
+}
+
+dump_alike : (is_capture : Bool) (reading : Reading) (octets : List ℕ) (own : Fault) (too : InputFault) → reading.is_capture ≡ is_capture → IsFaultOfOctets is_capture reading octets own
+    → SourceComes is_capture reading octets (Err too) → Alike reading octets (input_faults.Dump own) too
+dump_alike false reading octets own (input_faults.Dump fault) is_so has has_too = inl (ap (λ (f : Fault). input_faults.Dump f) (fault_is_one _ _ _ octets own fault has has_too))
+dump_alike true reading octets own (input_faults.Dump fault) is_so has has_too = inl (ap (λ (f : Fault). input_faults.Dump f) (fault_in_one reading octets own fault has has_too))
+dump_alike true reading octets own (input_faults.LeftOut datagram) is_so has left = inr (inl (not_at_one reading octets datagram is_so left))
+dump_alike is_capture reading octets own too is_so has never = absurd never
+
+left_alike : (reading : Reading) (octets : List ℕ) (datagram : LeftOutDatagram) (too : InputFault) → reading.is_capture ≡ true → IsLeftOutOf reading octets datagram
+    → SourceComes true reading octets (Err too) → Alike reading octets (input_faults.LeftOut datagram) too
+left_alike reading octets datagram (input_faults.Dump fault) is_so left has = inr (inr (not_at_one reading octets datagram is_so left))
+left_alike reading octets datagram (input_faults.LeftOut other) is_so left left_too =
+    let same : Some datagram ≡ Some other =
+    sym left.first ∙ ap (λ (r : Read). first_left_out r.gathering.report) (read_one _ _ octets left.read left_too.read left.is_read left_too.is_read) ∙ left_too.first in
+    inl (cc)
+left_alike reading octets datagram too is_so left never = absurd never
+
+faults_alike : (is_capture : Bool) (reading : Reading) (octets : List ℕ) (fault too : InputFault) → reading.is_capture ≡ is_capture → SourceComes is_capture reading octets (Err fault)
+    → SourceComes is_capture reading octets (Err too) → Alike reading octets fault too
+faults_alike is_capture reading octets (input_faults.Dump own) too is_so has comes = dump_alike is_capture reading octets own too is_so has comes
+faults_alike true reading octets (input_faults.LeftOut datagram) too is_so left comes = left_alike reading octets datagram too is_so left comes
+faults_alike is_capture reading octets fault too is_so never comes = absurd never
+
+source_one : (is_capture : Bool) (reading : Reading) (octets : List ℕ) → reading.is_capture ≡ is_capture → IsAlike (Alike reading octets) (SourceComes is_capture reading octets)
+source_one is_capture reading octets is_so (Ok one) (Ok two) is is_too = source_same is_capture reading octets one two is is_too
+source_one is_capture reading octets is_so (Ok one) (Err fault) is comes = source_fault is_capture reading octets one fault is comes
+source_one is_capture reading octets is_so (Err fault) (Ok two) comes is = source_fault is_capture reading octets two fault is comes
+source_one is_capture reading octets is_so (Err fault) (Err too) comes comes_too = faults_alike is_capture reading octets fault too is_so comes comes_too
+
+-- and of one that is read strictly nothing was left unread
+abbrev pub DumpComes : Reading → List ℕ → Result Routes InputFault → Type 0
+DumpComes reading octets = Then (SourceComes reading.is_capture reading octets)
+    (λ source. Checked source.table reading.strict (IsReadWhole source.left_out source.table.report) (IsNotReadWhole source.left_out source.table.report))
+
+pub dump_one : (reading : Reading) (octets : List ℕ) → IsAlike (Alike reading octets) (DumpComes reading octets)
+dump_one reading octets = then_one (source_one reading.is_capture reading octets refl) (λ source. checked_one source.table reading.strict (whole_or_not source.left_out source.table.report)
+    (λ fault too is is_too. inl (not_whole_one source.left_out source.table.report fault too is is_too)))
+
+-- ---- what a reader gave as a dump
+
+module _ (reader : Input) (octets : List ℕ) (has : reader.old.left ≡ Some octets) where
+  abbrev source_of : Dump → Routes → Source
+  source_of dump table = record { left_out = dump.left_out; table = table }
+
+  is_source : (is_capture : Bool) (dump : Dump) (table : Routes) → IsDump is_capture reader dump table
+      → HasNoFault reader.reading.limits reader.reading.mode reader.reading.sender dump.octets → SourceComes is_capture reader.reading octets (Ok (source_of dump table))
+  is_source false dump table is accepted =
+      let same = gave_all reader octets dump.octets has is.gave in
+      (record { accepted = rw same at accepted; is_table = rw same at is.is_table }, is.none_left_out)
+  is_source true dump table is accepted = record {
+    read = read_of is.gave;
+    is_read = is_read_of (capture_with reader) octets is.gathering is.cut has is.gave;
+    one_place = is.one_place;
+    accepted = rw is.octets_are at accepted;
+    left_out_is = is.left_out_is;
+    is_table = rw is.at_is at is.is_table;
+  }
+
+  source_comes : (table : Routes) (given : GaveDump reader table) → SourceComes reader.reading.is_capture reader.reading octets (Ok (source_of given.dump table))
+  source_comes table given = is_source reader.reading.is_capture given.dump table given.is_dump given.accepted
+
+  pub table_comes : (table : Routes) → GaveTable reader table → DumpComes reader.reading octets (Ok table)
+  table_comes table gave = inl (source_of gave.given.dump table, source_comes table gave.given, (refl, gave.strict))
+
+  unread_comes : (fault : InputFault) → GaveUnread reader fault → DumpComes reader.reading octets (Err fault)
+  unread_comes fault gave = inl (source_of gave.given.dump gave.table, source_comes gave.table gave.given, (gave.strict, gave.unread))
+
+  fault_of_all : (is_capture : Bool) (fault : Fault) → IsFaultOfInput is_capture reader fault → IsFaultOfOctets is_capture reader.reading octets fault
+  fault_of_all false fault is = elim (whole_or_stays fault) [
+    | inl whole ↦ rw (gave_all reader octets is.given has (is.whole whole)) at is.refused
+    | inr stays ↦
+        let more = begins reader.old.left reader.new.left octets is.given has is.gave in
+        rw more.1 (fault_stays _ _ _ is.given more.0 fault is.refused stays)
+  ]
+  fault_of_all true fault is =
+      let more = begins reader.old.left reader.new.left octets is.given has is.gave in
+      let own = is.is_fault in
+      record {
+        made = own.made;
+        begins = record {
+          blocks = own.begins.blocks;
+          rest = own.begins.rest ++ more.0;
+          whole = more.1 ∙ ap (λ (front : List ℕ). front ++ more.0) own.begins.whole ∙ append_assoc (octets_of own.begins.blocks) own.begins.rest more.0;
+          are_blocks = own.begins.are_blocks;
+          are_made = own.begins.are_made;
+        };
+        refused = own.refused;
+        not_whole = own.not_whole;
+      }
+
+  -- it comes of the octets
+  comes_itself : (fault : InputFault) → SourceComes reader.reading.is_capture reader.reading octets (Err fault) → DumpComes reader.reading octets (Err fault)
+  comes_itself fault comes = inr (fault, comes, refl)
+
+  fault_comes : (fault : Fault) → IsFaultOfGiven reader fault → DumpComes reader.reading octets (Err (input_faults.Dump fault))
+  fault_comes fault given = comes_itself (input_faults.Dump fault) (fault_of_all reader.reading.is_capture fault given)
+
+  left_comes : (datagram : LeftOutDatagram) → reader.reading.is_capture ≡ true → IsLeftOutOf reader.reading octets datagram → DumpComes reader.reading octets (Err (input_faults.LeftOut datagram))
+  left_comes datagram is_capture left =
+      comes_itself (input_faults.LeftOut datagram) (subst (λ (k : Bool). SourceComes k reader.reading octets (Err (input_faults.LeftOut datagram))) (sym is_capture) left)
+
+  -- the dump comes to the fault; or it is its own, and has this cause
+  own_cause : (Cause : Fault → Type 0) (fault : InputFault) → IsOfDump fault → InputCause reader Cause fault
+      → DumpComes reader.reading octets (Err fault) ⊎ ((own : Fault) × (fault ≡ input_faults.Dump own) × Cause own)
+  own_cause Cause (input_faults.Dump fault) is cause = inr (fault, refl, cause is)
+  own_cause Cause (input_faults.Ignored tlv ignores_4) is (inl unread) = inl (unread_comes (input_faults.Ignored tlv ignores_4) unread)
+  own_cause Cause (input_faults.Ignored tlv ignores_4) is (inr (is_capture, never)) = absurd never
+  own_cause Cause (input_faults.Capture fault) is cause = absurd is
+  own_cause Cause (input_faults.LeftOut datagram) is (inl unread) = inl (unread_comes (input_faults.LeftOut datagram) unread)
+  own_cause Cause (input_faults.LeftOut datagram) is (inr (is_capture, (gave, not_one))) =
+      inl (left_comes datagram is_capture
+      (record { read = read_of gave.given; is_read = is_read_of (capture_with reader) octets gave.gathering gave.cut has gave.given; not_one = not_one; first = gave.first }))
+  own_cause Cause input_faults.NoUpdates is (inl unread) = inl (unread_comes input_faults.NoUpdates unread)
+  own_cause Cause input_faults.NoUpdates is (inr (is_capture, never)) = absurd never
+  own_cause Cause (input_faults.SeveralInterfaces interfaces) is cause = absurd is
+  own_cause Cause (input_faults.NoPackets absence) is cause = absurd is
+  own_cause Cause input_faults.Read is cause = absurd is
+
+  pub dump_fault : (fault : InputFault) → IsOfDump fault → InputCause reader (IsFaultOfGiven reader) fault → DumpComes reader.reading octets (Err fault)
+  dump_fault fault is cause = elim (own_cause (IsFaultOfGiven reader) fault is cause) [
+    | inl comes ↦ comes
+    | inr (own, same, given) ↦ rw same (fault_comes own given)
+  ]
+
+  -- the dump comes to the fault, or its table has too many pairs
+  pub table_fault : (Many : Routes → Type 0) (fault : InputFault) → IsOfDump fault → InputCause reader (IsFaultWith reader Many) fault
+      → DumpComes reader.reading octets (Err fault) ⊎ ((table : Routes) × DumpComes reader.reading octets (Ok table) × (fault ≡ input_faults.Dump faults.TooManyPairs) × Many table)
+  table_fault Many fault is cause = elim (own_cause (IsFaultWith reader Many) fault is cause) [
+    | inl comes ↦ inl comes
+    | inr (own, same, inl given) ↦ inl (rw same (fault_comes own given))
+    | inr (own, same, inr (many, gave)) ↦ inr (gave.table, table_comes gave.table gave.gave, same ∙ ap (λ (f : Fault). input_faults.Dump f) many, gave.holds)
+  ]
 
 -- ---- a text of pairs
 
@@ -218,78 +339,3 @@ pairs_fault reader text (run_faults.Pairs pairs_faults.TooLong) has is many =
 pairs_fault reader text (run_faults.Pairs pairs_faults.Read) has is refuses = absurd is
 pairs_fault reader text (run_faults.Input side fault) has is memory = absurd (not_of_octets (run_faults.Input side fault) memory is)
 pairs_fault reader text run_faults.Write has is memory = absurd is
-
--- ---- a capture
-
--- what is read of a capture: where it is cut, and its packets, end to end
-pub record Read : Type 0 where
-  pub gathering : Gathering
-  pub cut : Option ℕ
-  pub packets : List ℕ
-
--- the octets are a capture of which this is read
-pub record IsReadOf (reading : CaptureReading) (wanted : Wanted) (octets : List ℕ) (read : Read) : Type 0 where
-  pub is_read : IsReadToCut (extent_of reading) octets read.gathering read.cut
-  pub wanted_is : read.gathering.wanted ≡ wanted
-  pub packets_are : read.packets ≡ dump_heard (packets_made is_read.is_read.gathered.made)
-
-one_read : (one two : Read) → one.gathering ≡ two.gathering → one.cut ≡ two.cut → one.packets ≡ two.packets → one ≡ two
-one_read one two gathering cut packets =
-    let made : Gathering → Option ℕ → List ℕ → Read = λ g c p. record { gathering = g; cut = c; packets = p } in
-    ap (λ g. made g one.cut one.packets) gathering ∙ ap (λ c. made two.gathering c one.packets) cut ∙ ap (λ p. made two.gathering two.cut p) packets
-
-read_one : (reading : CaptureReading) (wanted : Wanted) (octets : List ℕ) (one two : Read) → IsReadOf reading wanted octets one → IsReadOf reading wanted octets two → one ≡ two
-read_one reading wanted octets one two is is_too =
-    let (gatherings, cuts, made) =
-    cut_capture_is_one (extent_of reading) octets one.gathering two.gathering one.cut two.cut is.is_read is_too.is_read (is.wanted_is ∙ sym is_too.wanted_is) in
-    one_read one two gatherings cuts (is.packets_are ∙ ap (λ all. dump_heard (packets_made all)) made ∙ sym is_too.packets_are)
-
--- where it is read strictly, the first datagram that was left out is its fault
-abbrev pub IsLeftOut : Read → InputFault → Type 0
-IsLeftOut read fault = (datagram : LeftOutDatagram) × (fault ≡ input_faults.LeftOut datagram) × (first_left_out read.gathering.report ≡ Some datagram)
-
-abbrev pub CaptureComes : CaptureReading → Wanted → List ℕ → Result Read InputFault → Type 0
-CaptureComes reading wanted octets = Then (Always (IsReadOf reading wanted octets)) (λ read. Checked read reading.strict (LeavesNoneOut read.gathering.report) (IsLeftOut read))
-
-left_one : (read : Read) (fault too : InputFault) → IsLeftOut read fault → IsLeftOut read too → fault ≡ too
-left_one read fault too (datagram, is, first) (other, is_too, first_too) = let same : Some datagram ≡ Some other = sym first ∙ first_too in cc
-
-none_left : (read : Read) (fault : InputFault) → LeavesNoneOut read.gathering.report → IsLeftOut read fault → ⊥
-none_left read fault none (datagram, is, first) = let never : None ≡ Some datagram = sym (none_is_first_left_out read.gathering.report none) ∙ first in absurd cc
-
-pub capture_one : (reading : CaptureReading) (wanted : Wanted) (octets : List ℕ) → IsOne (CaptureComes reading wanted octets)
-capture_one reading wanted octets = then_one (always_one (read_one reading wanted octets)) (λ read. checked_one read reading.strict (none_left read) (left_one read))
-
--- what a reader gave of it
-abbrev pub read_of : {reader : CaptureInput} {gathering : Gathering} {cut : Option ℕ} → GaveCapture reader gathering cut → Read
-read_of {reader} {gathering} {cut} gave = record { gathering = gathering; cut = cut; packets = dump_heard (packets_made (made_in gave)) }
-
--- of octets that are all that the reader gave
-read_of_all : (reading : CaptureReading) (wanted : Wanted) (gathering : Gathering) (cut : Option ℕ) (given octets : List ℕ) → given ≡ octets
-    → (is : IsReadToCut (extent_of reading) given gathering cut) → gathering.wanted ≡ wanted
-    → IsReadOf reading wanted octets (record { gathering = gathering; cut = cut; packets = dump_heard (packets_made is.is_read.gathered.made) })
-read_of_all reading wanted gathering cut given octets same is wanted_is =
-    subst (λ (o : List ℕ). IsReadOf reading wanted o (record { gathering = gathering; cut = cut; packets = dump_heard (packets_made is.is_read.gathered.made) })) same
-    (record { is_read = is; wanted_is = wanted_is; packets_are = refl })
-
-gathered : (reader : CaptureInput) (octets : List ℕ) (gathering : Gathering) (cut : Option ℕ) → reader.old.left ≡ Some octets → (gave : GaveCapture reader gathering cut)
-    → IsReadOf reader.reading reader.wanted octets (read_of gave)
-gathered reader octets gathering cut has gave =
-    read_of_all reader.reading reader.wanted gathering cut gave.octets octets (all_of reader.old.left reader.new.left octets gave.octets has gave.gave.gave gave.gave.all) gave.is_read gave.wanted
-
-pub gathering_comes : (reader : CaptureInput) (octets : List ℕ) (gathering : Gathering) (cut : Option ℕ) → reader.old.left ≡ Some octets → (gave : GaveSound reader gathering cut)
-    → CaptureComes reader.reading reader.wanted octets (Ok (read_of gave.given))
-gathering_comes reader octets gathering cut has gave = inl (read_of gave.given, gathered reader octets gathering cut has gave.given, (refl, gave.strict))
-
--- of the faults of a capture this is that of what was left out
-pub capture_fault : (reader : CaptureInput) (octets : List ℕ) (Several : Interfaces → Type 0) (fault : InputFault) → reader.old.left ≡ Some octets
-    → IsOfDump fault → CaptureCause reader Several fault → CaptureComes reader.reading reader.wanted octets (Err fault)
-capture_fault reader octets Several (input_faults.Dump fault) has is memory = absurd (is memory)
-capture_fault reader octets Several (input_faults.Ignored tlv ignores_4) has is cause = absurd cause
-capture_fault reader octets Several (input_faults.Capture fault) has is cause = absurd is
-capture_fault reader octets Several (input_faults.LeftOut datagram) has is cause =
-    inl (read_of cause.given, gathered reader octets cause.gathering cause.cut has cause.given, (cause.strict, (datagram, refl, cause.first)))
-capture_fault reader octets Several input_faults.NoUpdates has is cause = absurd cause
-capture_fault reader octets Several (input_faults.SeveralInterfaces interfaces) has is cause = absurd is
-capture_fault reader octets Several (input_faults.NoPackets absence) has is cause = absurd is
-capture_fault reader octets Several input_faults.Read has is cause = absurd is

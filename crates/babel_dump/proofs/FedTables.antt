@@ -21,7 +21,7 @@ use Rattle.babel_dump.specs.CaptureGiven.{BeginsWith, CaptureInput, GaveCapture,
 use Rattle.babel_dump.specs.Device.{Gave}
 use Rattle.babel_dump.specs.ExtractLaws.{IsOfFraming}
 use Rattle.babel_dump.specs.Fed.{IsFed, IsFedSo}
-use Rattle.babel_dump.specs.Given.{Dump, GaveDump, GaveTable, Input, IsDump, IsFaultOfCaptured, IsFaultOfGiven, IsFaultOfInput, IsFaultOfStream, IsOfWhole, IsTableRead, capture_with, expired, wanted_by}
+use Rattle.babel_dump.specs.Given.{Dump, GaveDump, GaveTable, Input, IsDump, IsFaultOfCaptured, IsFaultOfGiven, IsFaultOfInput, IsFaultOfStream, IsOfWhole, IsTableRead, capture_reading_of, capture_with, expired, wanted_by}
 use Rattle.babel_dump.specs.Parts.{Gathered, GaveAnswer, IsFedAll}
 use Rattle.babel_dump.specs.Run.{Called, InputCause, calls_of, capture_calls, stream_calls}
 use Rattle.babel_dump.specs.Strict.{IsNotReadWhole, IsReadWhole}
@@ -170,7 +170,8 @@ framing_of faults.TooManyPairs whole not_pairs = absurd (not_pairs refl)
 framing_of faults.Memory whole not_pairs = absurd whole
 
 -- that of packets which are whole
-pub captured_fault : (reader : Input) (given : List ℕ) (made : List Made) (fault : Fault) → Gave reader.old reader.new given → BeginsWith (capture_with reader) given made
+pub captured_fault : (reader : Input) (given : List ℕ) (made : List Made) (fault : Fault) → Gave reader.old reader.new given
+    → BeginsWith (capture_reading_of reader.reading) (wanted_by reader.reading) given made
     → DumpFault reader.reading.limits reader.reading.mode reader.reading.sender (dump_of (packets_made made)) fault → IsFaultOfCaptured reader fault
 captured_fault reader given made fault gave begins is_fault =
     let packets = packets_made made in
@@ -178,14 +179,16 @@ captured_fault reader given made fault gave begins is_fault =
     record {
       given = given;
       gave = gave;
-      made = made;
-      begins = begins;
-      refused = is_fault;
-      not_whole = λ of_whole. dump_framed reader.reading.limits reader.reading.mode reader.reading.sender (dump_of packets) (whole_dump packets whole) fault is_fault
-          (framing_of fault of_whole (not_pairs reader (dump_of packets) fault is_fault));
+      is_fault = record {
+        made = made;
+        begins = begins;
+        refused = is_fault;
+        not_whole = λ of_whole. dump_framed reader.reading.limits reader.reading.mode reader.reading.sender (dump_of packets) (whole_dump packets whole) fault is_fault
+            (framing_of fault of_whole (not_pairs reader (dump_of packets) fault is_fault));
+      };
     }
 
-begins_with : (reader : CaptureInput) (gathering : Gathering) (cut : Option ℕ) (gave : GaveCapture reader gathering cut) → BeginsWith reader gave.octets (made_in gave)
+begins_with : (reader : CaptureInput) (gathering : Gathering) (cut : Option ℕ) (gave : GaveCapture reader gathering cut) → BeginsWith reader.reading reader.wanted gave.octets (made_in gave)
 begins_with reader gathering cut gave =
     let read = gave.is_read.is_read in
     record {

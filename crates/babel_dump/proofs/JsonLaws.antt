@@ -6,10 +6,7 @@ use Rattle.std.proofs.lemmas.List.Elements.{filter_map-append}
 use Rattle.std.specs.Prelude.{codes}
 use Rattle.std.specs.List.{filter_map}
 use Rattle.std.specs.Option.{option_map}
-use Rattle.babel_tlv.specs.declared.reason.Reason.{Reason}
-use Rattle.babel_table.specs.Counts.{Counts, count_at, reason_place}
-use Rattle.babel_dump.specs.JsonText.{ignored_object}
-use Rattle.babel_dump.specs.TextParts.{comma_separated, ignored_objects}
+use Rattle.babel_dump.specs.JsonText.{comma_separated, counted_object, counted_objects}
 
 -- what stands between these values and one more
 abbrev pub comma_after : List (List ℕ) → List ℕ
@@ -32,13 +29,13 @@ text_more before text comma value after values more is_text is_comma is_more is_
     let separated = comma_separated-more values value in
     grind (arith, common_steps)
 
--- one reason more, which occurred or did not
-pub objects_more : (counts : Counts) (reasons : List Reason) (i : ℕ) (d : Reason) (counted : Option (ℕ × ℕ)) → i < length reasons
-    → counted ≡ count_at counts.ignored (reason_place (get_or reasons i d))
-    → ignored_objects counts (take (i + 1) reasons)
-    ≡ ignored_objects counts (take i reasons) ++ filter_map (λ found. found) (option_map (ignored_object (get_or reasons i d)) counted ∷ [])
-objects_more counts reasons i d counted within is =
-    let object : Reason → Option (List ℕ) = λ reason. option_map (ignored_object reason) (count_at counts.ignored (reason_place reason)) in
-    ap (filter_map object) (take_more reasons i d within)
-    ∙ filter_map-append object (take i reasons) (get_or reasons i d ∷ [])
-    ∙ ap (λ (found : Option (ℕ × ℕ)). ignored_objects counts (take i reasons) ++ filter_map (λ value. value) (option_map (ignored_object (get_or reasons i d)) found ∷ [])) (sym is)
+-- one reason more, for which something is counted or nothing is
+pub objects_more : {R : Type 0} (name : R → List ℕ) (counted : R → Option (ℕ × ℕ)) (reasons : List R) (i : ℕ) (reason : R) (count : Option (ℕ × ℕ)) → i < length reasons
+    → reason ≡ get_or reasons i reason → count ≡ counted reason
+    → counted_objects name counted (take (i + 1) reasons)
+    ≡ counted_objects name counted (take i reasons) ++ filter_map (λ found. found) (option_map (counted_object (name reason)) count ∷ [])
+objects_more {R} name counted reasons i reason count within reason_is is =
+    let object : R → Option (List ℕ) = λ r. option_map (counted_object (name r)) (counted r) in
+    ap (filter_map object) (take_more reasons i reason within ∙ ap (λ (r : R). take i reasons ++ r ∷ []) (sym reason_is))
+    ∙ filter_map-append object (take i reasons) (reason ∷ [])
+    ∙ ap (λ (found : Option (ℕ × ℕ)). counted_objects name counted (take i reasons) ++ filter_map (λ value. value) (option_map (counted_object (name reason)) found ∷ [])) (sym is)

@@ -66,10 +66,10 @@ Gives Finds Many (Err fault) = IsOfMany fault × Many
 
 gives_one : (Finds : List ℕ → Outcome → Type 0) (Many : Type 0) → ((it too : Said) → Finds it.text it.outcome → Finds too.text too.outcome → it ≡ too)
     → ((text : List ℕ) (outcome : Outcome) → Finds text outcome → Many → ⊥) → IsOne (Gives Finds Many)
-gives_one Finds Many found few (Ok it) (Ok too) is is_too = ap (λ s. Ok s) (found it too is is_too)
+gives_one Finds Many found few (Ok it) (Ok too) is is_too = found it too is is_too
 gives_one Finds Many found few (Ok it) (Err fault) is is_too = absurd (few it.text it.outcome is is_too.1)
 gives_one Finds Many found few (Err fault) (Ok it) is is_too = absurd (few it.text it.outcome is_too is.1)
-gives_one Finds Many found few (Err fault) (Err too) is is_too = ap (λ f. Err f) (is.0 ∙ sym is_too.0)
+gives_one Finds Many found few (Err fault) (Err too) is is_too = is.0 ∙ sym is_too.0
 
 -- ---- what a task finds of a table
 

@@ -1,14 +1,15 @@
 -- What a job's run answers and writes is settled by the octets of its readers.
-use Rattle.std.proofs.Common.{◌≡◌, ◌≢◌, refl, ℕ, false, List, ◌++◌, take, Option, None, Some, Result, Ok, Err, inl, inr, subst, ap, sym, ◌∙◌}
-use Rattle.babel_dump.proofs.DumpSteps.{asked_by, capture_fault, capture_one, CaptureComes, dump_fault, dump_one, DumpComes, gathering_comes, not_of_octets, Plain, Read, read_of}
-use Rattle.babel_dump.proofs.DumpSteps.{pairs_fault, pairs_one, PairsCome, table_comes, table_fault}
-use Rattle.babel_dump.proofs.Steps.{Always, always_one, At, at_one, IsOne, Then, then_one}
+use Rattle.std.proofs.Common.{◌≡◌, ◌≢◌, ◌⊎◌, refl, ℕ, List, ◌++◌, take, Option, None, Some, Result, Ok, Err, inl, inr, subst, ap, sym, ◌∙◌}
+use Rattle.babel_dump.proofs.CaptureBegins.{dump_made}
+use Rattle.babel_dump.proofs.CaptureSteps.{capture_fault, capture_one, CaptureComes, gathering_comes, Read, read_of}
+use Rattle.babel_dump.proofs.DumpSteps.{Alike, asked_by, Differ, dump_fault, dump_one, DumpComes, not_of_octets, pairs_fault, pairs_one, PairsCome, SourceComes, table_comes, table_fault}
+use Rattle.babel_dump.proofs.Steps.{alike_one, Always, always_one, At, at_one, IsAlike, Then, then_one}
 use Rattle.babel_dump.specs.CaptureText.{dump_status, dump_text, senders_in, senders_status}
 use Rattle.babel_dump.specs.Command.{InTurn}
 use Rattle.babel_dump.specs.Files.{name_of, reading_of}
 use Rattle.babel_dump.specs.Given.{IsFaultOfGiven, dump_of, Input, Reads}
 use Rattle.babel_dump.specs.JobRun.{capture_of, CauseBy, SaysBy}
-use Rattle.babel_dump.specs.OneOutcome.{FaultIsOfAll, FaultIsOne, IsOfDump, IsOfOctets, NothingWritten, octets_at, OutcomeIsOne, OutcomeOrFault, RanOver, WrittenIsPrefix}
+use Rattle.babel_dump.specs.OneOutcome.{FaultIsOfAll, FaultIsOne, IsFaultOfOctets, IsOfDump, IsOfOctets, MayDiffer, NothingWritten, octets_at, OutcomeIsOne, OutcomeOrFault, RanOver, WrittenIsPrefix}
 use Rattle.babel_dump.specs.Run.{InputCause, OfFirst, UnlessWrite}
 use Rattle.babel_dump.specs.Tasks.{CaptureTaskCause, CaptureTaskSays, wanted_of}
 use Rattle.babel_dump.specs.declared.capture_reading.CaptureReading.{CaptureReading}
@@ -27,7 +28,6 @@ use Rattle.babel_dump.specs.declared.run_fault.RunFault.TheVariants as run_fault
 use Rattle.babel_dump.specs.declared.run_fault.RunFault.{RunFault}
 use Rattle.babel_dump.specs.declared.run_fault.Side.TheVariants as sides
 use Rattle.babel_dump.specs.declared.run_fault.Side.{Side}
-use Rattle.babel_table.specs.DumpFault.{DumpFault}
 use Rattle.babel_table.specs.Rows.{Routes}
 use Rattle.babel_tlv.specs.declared.fault.Fault.TheVariants as faults
 use Rattle.babel_tlv.specs.declared.fault.Fault.{Fault}
@@ -45,8 +45,8 @@ CaptureOf capture_tasks.Senders format read it =
     }
 CaptureOf (capture_tasks.Extract sender place hex) format read it =
     it ≡ record {
-      text = dump_text hex read.packets;
-      outcome = record { status = dump_status read.packets; reports = reports.Capture read.gathering.report read.cut };
+      text = dump_text hex (dump_made read.made);
+      outcome = record { status = dump_status (dump_made read.made); reports = reports.Capture read.gathering.report read.cut };
     }
 
 capture_said : (task : CaptureTask) (format : Format) (read : Read) (it too : Said) → CaptureOf task format read it → CaptureOf task format read too → it ≡ too
@@ -84,45 +84,71 @@ Comes (works.Two first second view task) job contents other =
 Comes (works.Capture reading file task) job contents other =
     Then (At sides.First (CaptureComes reading (wanted_of task) contents)) (λ read. Always (CaptureOf task job.format read))
 
--- it is one
-comes_one : (work : Work) (job : Job) (contents other : List ℕ) → IsOne (Comes work job contents other)
+-- two faults of it are one, or may differ
+abbrev pub AlikeOf : Work → (contents other : List ℕ) → RunFault → RunFault → Type 0
+AlikeOf work contents other fault too = (fault ≡ too) ⊎ (MayDiffer work contents other fault too ⊎ MayDiffer work contents other too fault)
+
+one_alike : (work : Work) (contents other : List ℕ) (fault too : RunFault) → fault ≡ too → AlikeOf work contents other fault too
+one_alike work contents other fault too same = inl same
+
+-- those of the dump on a side
+module _ (work : Work) (contents other : List ℕ) (side : Side) (reading : Reading) (is_read : reading_of side work ≡ Some reading) where
+  may_differ : (fault too : InputFault) → Differ reading (octets_at side contents other) fault too
+      → MayDiffer work contents other (run_faults.Input side fault) (run_faults.Input side too)
+  may_differ (input_faults.Dump own) (input_faults.LeftOut datagram) differ = record {
+    side = side;
+    reading = reading;
+    is_read = is_read;
+    not_at_one = differ;
+    own = own;
+    datagram = datagram;
+    fault_is = refl;
+    fault_too_is = refl;
+  }
+  may_differ fault too never = absurd never
+
+  alike_at : (fault too : InputFault) → Alike reading (octets_at side contents other) fault too → AlikeOf work contents other (run_faults.Input side fault) (run_faults.Input side too)
+  alike_at fault too (inl same) = inl (ap (λ (f : InputFault). run_faults.Input side f) same)
+  alike_at fault too (inr (inl differ)) = inr (inl (may_differ fault too differ))
+  alike_at fault too (inr (inr differ)) = inr (inr (may_differ too fault differ))
+
+  dump_at_one : IsAlike (AlikeOf work contents other) (At side (DumpComes reading (octets_at side contents other)))
+  dump_at_one = at_one _ side alike_at (dump_one reading (octets_at side contents other))
+
+-- it is one, or alike faults
+comes_one : (work : Work) (job : Job) (contents other : List ℕ) → IsAlike (AlikeOf work contents other) (Comes work job contents other)
 comes_one (works.Dump source task) job contents other =
-    then_one (at_one sides.First (dump_one source.reading contents)) (task_one task job.format job.quiet (name_of source.file) source.reading)
+    let work = works.Dump source task in
+    then_one (dump_at_one work contents other sides.First source.reading refl)
+    (λ table. alike_one (one_alike work contents other) (task_one task job.format job.quiet (name_of source.file) source.reading table))
 comes_one (works.Each source pairs) job contents other =
-    then_one (pairs_one source.reading other) (λ is. then_one (at_one sides.First (dump_one source.reading contents))
-    (λ table. always_one (each_one job.format source.reading other table)))
+    let work = works.Each source pairs in
+    then_one (alike_one (one_alike work contents other) (pairs_one source.reading other)) (λ is. then_one (dump_at_one work contents other sides.First source.reading refl)
+    (λ table. always_one _ (each_one job.format source.reading other table)))
 comes_one (works.Two first second view task) job contents other =
-    then_one (at_one sides.First (dump_one first.reading contents)) (λ table. then_one (at_one sides.Other (dump_one second.reading other))
-    (comparison_one task job.format view (name_of first.file) (name_of second.file) first.reading second.reading table))
+    let work = works.Two first second view task in
+    then_one (dump_at_one work contents other sides.First first.reading refl) (λ table. then_one (dump_at_one work contents other sides.Other second.reading refl)
+    (λ second_table. alike_one (one_alike work contents other)
+    (comparison_one task job.format view (name_of first.file) (name_of second.file) first.reading second.reading table second_table)))
 comes_one (works.Capture reading file task) job contents other =
-    then_one (at_one sides.First (capture_one reading (wanted_of task) contents)) (λ read. always_one (capture_said task job.format read))
-
--- no dump of the work is read of a capture
-abbrev pub NoCaptures : Work → Type 0
-NoCaptures work = (side : Side) (reading : Reading) → reading_of side work ≡ Some reading → reading.is_capture ≡ false
-
-plainly : (reader : Reads) (reading : Reading) (dump : List ℕ) → reading.is_capture ≡ false → reader.old.left ≡ Some dump → Plain (dump_of reader reading) dump
-plainly reader reading dump no_capture has = record { no_capture = no_capture; has = has }
+    then_one (at_one _ sides.First (λ fault too same. inl (ap (λ (f : InputFault). run_faults.Input sides.First f) same)) (capture_one reading (wanted_of task) contents))
+    (λ read. always_one _ (capture_said task job.format read))
 
 -- what a job says of octets comes of them
-says_comes : (work : Work) (job : Job) (reader second : Reads) (contents other text : List ℕ) (outcome : Outcome) → NoCaptures work → reader.old.left ≡ Some contents
+says_comes : (work : Work) (job : Job) (reader second : Reads) (contents other text : List ℕ) (outcome : Outcome) → reader.old.left ≡ Some contents
     → second.old.left ≡ Some other → SaysBy work job reader second text outcome → Comes work job contents other (Ok (record { text = text; outcome = outcome }))
-says_comes (works.Dump source task) job reader second contents other text outcome none has other_has says =
-    let plain = plainly reader source.reading contents (none sides.First source.reading refl) has in
-    inl (says.table, table_comes (dump_of reader source.reading) contents says.table plain says.gave, says.holds)
-says_comes (works.Each source pairs) job reader second contents other text outcome none has other_has says =
-    let plain = plainly reader source.reading contents (none sides.First source.reading refl) has in
+says_comes (works.Dump source task) job reader second contents other text outcome has other_has says =
+    inl (says.table, table_comes (dump_of reader source.reading) contents has says.table says.gave, says.holds)
+says_comes (works.Each source pairs) job reader second contents other text outcome has other_has says =
     let are = asked_by (dump_of second source.reading) other says.asked other_has says.gave in
     let answers = says.answers in
-    inl (tt, (says.asked, are), inl (answers.table, table_comes (dump_of reader source.reading) contents answers.table plain answers.gave, (says.asked, are, answers.holds)))
-says_comes (works.Two first another view task) job reader second contents other text outcome none has other_has says =
-    let plain = plainly reader first.reading contents (none sides.First first.reading refl) has in
-    let other_plain = plainly second another.reading other (none sides.Other another.reading refl) other_has in inl (
-      says.table,
-      table_comes (dump_of reader first.reading) contents says.table plain says.gave,
-      inl (says.other_table, table_comes (dump_of second another.reading) other says.other_table other_plain says.other_gave, says.holds),
-    )
-says_comes (works.Capture reading file task) job reader second contents other text outcome none has other_has says = inl (capture_says task job.format reading reader contents text outcome has says)
+    inl (tt, (says.asked, are), inl (answers.table, table_comes (dump_of reader source.reading) contents has answers.table answers.gave, (says.asked, are, answers.holds)))
+says_comes (works.Two first another view task) job reader second contents other text outcome has other_has says = inl (
+  says.table,
+  table_comes (dump_of reader first.reading) contents has says.table says.gave,
+  inl (says.other_table, table_comes (dump_of second another.reading) other other_has says.other_table says.other_gave, says.holds),
+)
+says_comes (works.Capture reading file task) job reader second contents other text outcome has other_has says = inl (capture_says task job.format reading reader contents text outcome has says)
 
 -- and so do its faults
 at_first : (Cause : InputFault → Type 0) (Holds : RunFault → Type 0) (fault : RunFault)
@@ -132,50 +158,45 @@ at_first Cause Holds (run_faults.Input sides.Other fault) holds is cause = absur
 at_first Cause Holds (run_faults.Pairs fault) holds is cause = absurd cause
 at_first Cause Holds run_faults.Write holds is cause = absurd cause
 
-dump_at_first : (reader : Input) (dump : List ℕ) (fault : RunFault) → Plain reader dump → IsOfOctets fault
-    → OfFirst (InputCause reader (IsFaultOfGiven reader)) fault → At sides.First (DumpComes reader.reading dump) (Err fault)
-dump_at_first reader dump fault plain =
-    at_first _ (λ g. At sides.First (DumpComes reader.reading dump) (Err g)) fault (λ f is cause. (f, refl, dump_fault reader dump f plain is cause))
+dump_at_first : (reader : Input) (octets : List ℕ) (fault : RunFault) → reader.old.left ≡ Some octets → IsOfOctets fault
+    → OfFirst (InputCause reader (IsFaultOfGiven reader)) fault → At sides.First (DumpComes reader.reading octets) (Err fault)
+dump_at_first reader octets fault has =
+    at_first _ (λ g. At sides.First (DumpComes reader.reading octets) (Err g)) fault (λ f is cause. (f, refl, dump_fault reader octets has f is cause))
 
 both_fault : {A : Type 0} (Next : Routes → Routes → Result A RunFault → Type 0) (dump another : Input) (untouched : Type 0) (contents others : List ℕ) (fault : RunFault)
-    → Plain dump contents → Plain another others → IsOfOctets fault → InTurn dump another untouched fault
+    → dump.old.left ≡ Some contents → another.old.left ≡ Some others → IsOfOctets fault → InTurn dump another untouched fault
     → BothCome dump.reading another.reading contents others Next (Err fault)
-both_fault Next dump another untouched contents others (run_faults.Input sides.First fault) plain other_plain is cause =
-    inr (run_faults.Input sides.First fault, (fault, refl, dump_fault dump contents fault plain is cause.1), refl)
-both_fault Next dump another untouched contents others (run_faults.Input sides.Other fault) plain other_plain is (sound, cause) =
-    inl (sound.table, table_comes dump contents sound.table plain sound.gave, inr (run_faults.Input sides.Other fault, (fault, refl, dump_fault another others fault other_plain is cause), refl))
-both_fault Next dump another untouched contents others (run_faults.Pairs fault) plain other_plain is cause = absurd cause
-both_fault Next dump another untouched contents others run_faults.Write plain other_plain is cause = absurd cause
+both_fault Next dump another untouched contents others (run_faults.Input sides.First fault) has other_has is cause =
+    inr (run_faults.Input sides.First fault, (fault, refl, dump_fault dump contents has fault is cause.1), refl)
+both_fault Next dump another untouched contents others (run_faults.Input sides.Other fault) has other_has is (sound, cause) =
+    inl (sound.table, table_comes dump contents has sound.table sound.gave, inr (run_faults.Input sides.Other fault, (fault, refl, dump_fault another others other_has fault is cause), refl))
+both_fault Next dump another untouched contents others (run_faults.Pairs fault) has other_has is cause = absurd cause
+both_fault Next dump another untouched contents others run_faults.Write has other_has is cause = absurd cause
 
-cause_comes : (work : Work) (job : Job) (reader second : Reads) (untouched : Type 0) (contents other : List ℕ) (fault : RunFault) → NoCaptures work → reader.old.left ≡ Some contents
+cause_comes : (work : Work) (job : Job) (reader second : Reads) (untouched : Type 0) (contents other : List ℕ) (fault : RunFault) → reader.old.left ≡ Some contents
     → second.old.left ≡ Some other → IsOfOctets fault → CauseBy work reader second untouched fault → Comes work job contents other (Err fault)
-cause_comes (works.Dump source task) job reader second untouched contents other fault none has other_has is cause =
-    let plain = plainly reader source.reading contents (none sides.First source.reading refl) has in
+cause_comes (works.Dump source task) job reader second untouched contents other fault has other_has is cause =
     at_first _ (λ g. Comes (works.Dump source task) job contents other (Err g)) fault
-    (λ f is cause. elim (table_fault (TaskFindsTooMany task source.reading.limits) (dump_of reader source.reading) contents f plain is cause) [
+    (λ f is cause. elim (table_fault (dump_of reader source.reading) contents has (TaskFindsTooMany task source.reading.limits) f is cause) [
       | inl comes ↦ inr (run_faults.Input sides.First f, (f, refl, comes), refl)
       | inr (table, comes, same, many) ↦ inl (table, comes, (ap (λ (g : InputFault). run_faults.Input sides.First g) same, many))
     ]) is cause
-cause_comes (works.Each source pairs) job reader second untouched contents other fault none has other_has is (inl (refuses, unread)) =
+cause_comes (works.Each source pairs) job reader second untouched contents other fault has other_has is (inl (refuses, unread)) =
     inr (fault, pairs_fault (dump_of second source.reading) other fault other_has is refuses, refl)
-cause_comes (works.Each source pairs) job reader second untouched contents other fault none has other_has is (inr ((asked, gave), no_failure, cause)) =
-    let plain = plainly reader source.reading contents (none sides.First source.reading refl) has in
+cause_comes (works.Each source pairs) job reader second untouched contents other fault has other_has is (inr ((asked, gave), no_failure, cause)) =
     let are = asked_by (dump_of second source.reading) other asked other_has gave in
-    inl (tt, (asked, are), inr (fault, dump_at_first (dump_of reader source.reading) contents fault plain is cause, refl))
-cause_comes (works.Two first another view task) job reader second untouched contents other fault none has other_has is cause =
-    let plain = plainly reader first.reading contents (none sides.First first.reading refl) has in
-    let other_plain = plainly second another.reading other (none sides.Other another.reading refl) other_has in
-    elim cause [
-      | inl turn ↦ both_fault (ComparisonGives task job.format view (name_of first.file) (name_of another.file) first.reading another.reading) (dump_of reader first.reading)
-          (dump_of second another.reading) untouched contents other fault plain other_plain is turn
-      | inr (inl (memory, gave)) ↦ absurd (not_of_octets fault memory is)
-      | inr (inr (many, gave)) ↦ inl (
-        gave.table,
-        table_comes (dump_of reader first.reading) contents gave.table plain gave.gave,
-        inl (gave.other_table, table_comes (dump_of second another.reading) other gave.other_table other_plain gave.other_gave, (many, gave.holds)),
-      )
-    ]
-cause_comes (works.Capture reading file task) job reader second untouched contents other fault none has other_has is cause =
+    inl (tt, (asked, are), inr (fault, dump_at_first (dump_of reader source.reading) contents fault has is cause, refl))
+cause_comes (works.Two first another view task) job reader second untouched contents other fault has other_has is cause = elim cause [
+  | inl turn ↦ both_fault (ComparisonGives task job.format view (name_of first.file) (name_of another.file) first.reading another.reading) (dump_of reader first.reading)
+      (dump_of second another.reading) untouched contents other fault has other_has is turn
+  | inr (inl (memory, gave)) ↦ absurd (not_of_octets fault memory is)
+  | inr (inr (many, gave)) ↦ inl (
+    gave.table,
+    table_comes (dump_of reader first.reading) contents has gave.table gave.gave,
+    inl (gave.other_table, table_comes (dump_of second another.reading) other other_has gave.other_table gave.other_gave, (many, gave.holds)),
+  )
+]
+cause_comes (works.Capture reading file task) job reader second untouched contents other fault has other_has is cause =
     at_first _ (λ g. Comes (works.Capture reading file task) job contents other (Err g)) fault
     (λ f is cause. inr (run_faults.Input sides.First f, (f, refl, capture_cause task reading reader contents f has is cause), refl)) is cause
 
@@ -200,25 +221,24 @@ not_write fault is same = subst IsOfOctets same is
 fault_of_run : (job : Job) (octets other : List ℕ) (before after : List ℕ) (fault : RunFault) → RanOver job octets other before after (Err fault) → IsOfOctets fault
     → Comes job.work job octets other (Err fault)
 fault_of_run job octets other before after fault run is =
-    cause_comes job.work job run.reader run.second _ octets other fault run.no_capture run.has run.other_has is (not_at_write fault _ _ (not_write fault is) run.ran.ran.cause)
+    cause_comes job.work job run.reader run.second _ octets other fault run.has run.other_has is (not_at_write fault _ _ (not_write fault is) run.ran.ran.cause)
 
 -- what two runs say is the same
-module _ (job : Job) (octets other : List ℕ) (one one_other two two_other : Reads) (none : NoCaptures job.work) (has : one.old.left ≡ Some octets) (has_too : two.old.left ≡ Some octets)
+module _ (job : Job) (octets other : List ℕ) (one one_other two two_other : Reads) (has : one.old.left ≡ Some octets) (has_too : two.old.left ≡ Some octets)
     (other_has : one_other.old.left ≡ Some other) (other_has_too : two_other.old.left ≡ Some other) {text text_too : List ℕ} {outcome outcome_too : Outcome} where
   says_one : SaysBy job.work job one one_other text outcome → SaysBy job.work job two two_other text_too outcome_too → (text ≡ text_too) × (outcome ≡ outcome_too)
   says_one says again =
-      let came = comes_one job.work job octets other _ _ (says_comes job.work job one one_other octets other text outcome none has other_has says)
-      (says_comes job.work job two two_other octets other text_too outcome_too none has_too other_has_too again) in
       let left : Said = record { text = text; outcome = outcome } in
       let right : Said = record { text = text_too; outcome = outcome_too } in
-      let same : left ≡ right = cc in
+      let same : left ≡ right = comes_one job.work job octets other (Ok left) (Ok right) (says_comes job.work job one one_other octets other text outcome has other_has says)
+      (says_comes job.work job two two_other octets other text_too outcome_too has_too other_has_too again) in
       (ap (λ (s : Said). s.text) same, ap (λ (s : Said). s.outcome) same)
 
 pub outcome_is_one : OutcomeIsOne
 outcome_is_one job octets other before after before_too after_too outcome outcome_too one two =
     let (text, says, wrote) = one.ran.ran.wrote in
     let (text_too, says_too, wrote_too) = two.ran.ran.wrote in
-    let same = says_one job octets other one.reader one.second two.reader two.second one.no_capture one.has two.has one.other_has two.other_has says says_too in (
+    let same = says_one job octets other one.reader one.second two.reader two.second one.has two.has one.other_has two.other_has says says_too in (
       same.1,
       (
         text,
@@ -230,20 +250,20 @@ outcome_is_one job octets other before after before_too after_too outcome outcom
 pub outcome_or_fault : OutcomeOrFault
 outcome_or_fault job octets other before after before_too after_too outcome fault one two = λ is.
     let (text, says, wrote) = one.ran.ran.wrote in
-    let came = comes_one job.work job octets other _ _ (says_comes job.work job one.reader one.second octets other text outcome one.no_capture one.has one.other_has says)
-    (fault_of_run job octets other before_too after_too fault two is) in
-    absurd cc
+    let it : Said = record { text = text; outcome = outcome } in
+    comes_one job.work job octets other (Ok it) (Err fault) (says_comes job.work job one.reader one.second octets other text outcome one.has one.other_has says)
+    (fault_of_run job octets other before_too after_too fault two is)
 
 pub fault_is_one_too : FaultIsOne
 fault_is_one_too job octets other before after before_too after_too fault fault_too one two is is_too =
-    let came = comes_one job.work job octets other _ _ (fault_of_run job octets other before after fault one is) (fault_of_run job octets other before_too after_too fault_too two is_too) in
-    cc
+    comes_one job.work job octets other (Err fault) (Err fault_too) (fault_of_run job octets other before after fault one is)
+    (fault_of_run job octets other before_too after_too fault_too two is_too)
 
 pub written_is_prefix : WrittenIsPrefix
 written_is_prefix job octets other before after before_too after_too outcome one two =
     let (left, answer, says, (n, took)) = one.ran.ran.prefix in
     let (text, says_too, wrote) = two.ran.ran.wrote in
-    let same = says_one job octets other one.reader one.second two.reader two.second one.no_capture one.has two.has one.other_has two.other_has says says_too in
+    let same = says_one job octets other one.reader one.second two.reader two.second one.has two.has one.other_has two.other_has says says_too in
     let part = appended _ _ before after (take n left) one.took one.takes took in
     (text, n, appended _ _ before_too after_too text two.took two.takes wrote, part ∙ ap (λ (t : List ℕ). before ++ take n t) same.0)
 
@@ -256,15 +276,15 @@ nothing_written job octets other before after fault one not_write =
 -- ---- a dump's fault is that of all octets
 
 -- the fault that comes of a dump is its own
-own_fault : (reading : Reading) (dump : List ℕ) (fault : Fault) → DumpComes reading dump (Err (input_faults.Dump fault))
-    → DumpFault reading.limits reading.mode reading.sender dump fault
-own_fault reading dump fault (inl (table, is, (strict, never))) = absurd never
-own_fault reading dump fault (inr (of_input, (own, same, has), ends)) = let faults : own ≡ fault = cc in rw faults at has
+own_fault : (reading : Reading) (octets : List ℕ) (fault : Fault) → DumpComes reading octets (Err (input_faults.Dump fault)) → IsFaultOfOctets reading.is_capture reading octets fault
+own_fault reading octets fault (inl (source, is, (strict, never))) = absurd never
+own_fault reading octets fault (inr (of_input, comes, ends)) =
+    let same : of_input ≡ input_faults.Dump fault = cc in subst (λ (f : InputFault). SourceComes reading.is_capture reading octets (Err f)) same comes
 
 -- of the dump on the side that it is told of
 own_at : {A : Type 0} (at side : Side) (reading : Reading) (dump : List ℕ) (fault : Fault) (of_run : RunFault) → At at (DumpComes reading dump) (Err of_run)
     → (let ended : Result A RunFault = Err (run_faults.Input side (input_faults.Dump fault)) in ended) ≡ Err of_run
-    → (side ≡ at) × DumpFault reading.limits reading.mode reading.sender dump fault
+    → (side ≡ at) × IsFaultOfOctets reading.is_capture reading dump fault
 own_at at side reading dump fault of_run (of_input, is, comes) ends =
     let sides : side ≡ at = cc in
     let faults : of_input ≡ input_faults.Dump fault = cc in
@@ -274,10 +294,10 @@ own_at at side reading dump fault of_run (of_input, is, comes) ends =
 pub record HasDumpFault (work : Work) (side : Side) (octets : List ℕ) (fault : Fault) : Type 0 where
   pub reading : Reading
   pub is_read : reading_of side work ≡ Some reading
-  pub has : DumpFault reading.limits reading.mode reading.sender octets fault
+  pub has : IsFaultOfOctets reading.is_capture reading octets fault
 
 on_side : (at side : Side) (work : Work) (reading : Reading) (octets other : List ℕ) (fault : Fault) → reading_of at work ≡ Some reading
-    → (side ≡ at) × DumpFault reading.limits reading.mode reading.sender (octets_at at octets other) fault → HasDumpFault work side (octets_at side octets other) fault
+    → (side ≡ at) × IsFaultOfOctets reading.is_capture reading (octets_at at octets other) fault → HasDumpFault work side (octets_at side octets other) fault
 on_side at side work reading octets other fault is_read (same, has) = rw same (record { reading = reading; is_read = is_read; has = has })
 
 dump_fault_of : (work : Work) (job : Job) (side : Side) (octets other : List ℕ) (fault : Fault) → fault ≢ faults.TooManyPairs

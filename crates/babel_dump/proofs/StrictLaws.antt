@@ -11,7 +11,7 @@ use Rattle.babel_dump.specs.declared.ignored.IgnoredTlv.{IgnoredTlv}
 use Rattle.babel_dump.specs.declared.input_fault.InputFault.{InputFault}
 use Rattle.babel_dump.specs.declared.input_fault.InputFault.TheVariants as input_faults
 use Rattle.babel_dump.specs.declared.left_out.LeftOutDatagram.{LeftOutDatagram}
-use Rattle.babel_dump.proofs.IgnoredLaws.{none_is_first}
+use Rattle.babel_dump.proofs.FirstIgnored.{none_is_first}
 
 abbrev fault_of : (ignores_4 : Bool) → Option IgnoredTlv → Option LeftOutDatagram → ℕ → Option InputFault
 fault_of ignores_4 (Some tlv) left_out updates = Some (input_faults.Ignored tlv ignores_4)

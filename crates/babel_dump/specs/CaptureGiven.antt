@@ -78,12 +78,13 @@ Took {S} has old new made =
     (first : S) (before : List Made) → has first old before → has first new (before ++ made)
 
 -- the octets begin with blocks of a capture, of whose packets this is made
-pub record BeginsWith (reader : CaptureInput) (given : List ℕ) (made : List Made) : Type 0 where
+pub record BeginsWith (reading : CaptureReading) (wanted : Wanted) (octets : List ℕ)
+    (made : List Made) : Type 0 where
   pub blocks : List BlockAt
   pub rest : List ℕ
-  pub whole : given ≡ octets_of blocks ++ rest
-  pub are_blocks : AreBlocks (start (extent_of reader.reading)) 0 blocks
-  pub are_made : AreMade reader.wanted (sightings_of blocks) made
+  pub whole : octets ≡ octets_of blocks ++ rest
+  pub are_blocks : AreBlocks (start (extent_of reading)) 0 blocks
+  pub are_made : AreMade wanted (sightings_of blocks) made
 
 -- the packets of blocks with which the octets begin that the reader gave
 pub record TookSome {S : Type 0} (has : S → S → List Made → Type 0) (old new : S)
@@ -91,7 +92,7 @@ pub record TookSome {S : Type 0} (has : S → S → List Made → Type 0) (old n
   pub given : List ℕ
   pub gave : Gave reader.old reader.new given
   pub made : List Made
-  pub begins : BeginsWith reader given made
+  pub begins : BeginsWith reader.reading reader.wanted given made
   pub took : Took has old new made
 
 -- the reader gave such a capture, of which no wanted datagram was left out if it is read strictly

@@ -20,16 +20,21 @@ use Rattle.babel_dump.specs.declared.interfaces.Interfaces.{Interfaces}
 use Rattle.babel_dump.specs.declared.outcome.Outcome.{Outcome}
 use Rattle.babel_dump.specs.declared.outcome.Reports.TheVariants as reports
 
--- Each fault of reading a capture has its cause: a failed read of its reader, or what its reader
--- gave. Out of memory has none that a contract can see.
-abbrev pub CaptureCause : CaptureInput → (Interfaces → Type 0) → InputFault → Type 0
-CaptureCause reader Several input_faults.Read = reader.old.failures < reader.new.failures
-CaptureCause reader Several (input_faults.Capture fault) =
+-- why a capture was not read to its end: a read of its reader failed, or it has a fault. Out of
+-- memory has no cause that a contract can see.
+abbrev pub FeedCause : CaptureInput → InputFault → Type 0
+FeedCause reader input_faults.Read = reader.old.failures < reader.new.failures
+FeedCause reader (input_faults.Capture fault) =
     fault ≢ capture_faults.Memory → IsFaultOfCapture reader fault
+FeedCause reader fault = ⊥
+
+-- each fault of reading a capture has its cause: it was not read to its end, or what its reader
+-- gave is refused
+abbrev pub CaptureCause : CaptureInput → (Interfaces → Type 0) → InputFault → Type 0
 CaptureCause reader Several (input_faults.LeftOut datagram) = GaveLeftOut reader datagram
 CaptureCause reader Several (input_faults.SeveralInterfaces interfaces) = Several interfaces
 CaptureCause reader Several (input_faults.Dump fault) = fault ≡ faults.Memory
-CaptureCause reader Several fault = ⊥
+CaptureCause reader Several fault = FeedCause reader fault
 
 -- several places are no fault
 abbrev pub IsNoFault : Interfaces → Type 0

@@ -174,16 +174,20 @@ pub record IsFaultOfStream (reader : Input) (fault : Fault) : Type 0 where
   pub whole : IsOfWhole fault → GaveAll reader given
   pub not_pairs : fault ≢ faults.TooManyPairs
 
--- The fault is that of packets of the sender, end to end, which are those of the blocks of a capture
--- with which the octets begin that the reader gave.
+-- the fault is that of packets of the sender, end to end, which are those of the blocks of a
+-- capture with which the octets begin
+pub record IsFaultInCapture (reading : Reading) (octets : List ℕ) (fault : Fault) : Type 0 where
+  pub made : List Made
+  pub begins : BeginsWith (capture_reading_of reading) (wanted_by reading) octets made
+  pub refused : DumpFault reading.limits reading.mode reading.sender
+      (dump_heard (packets_made made)) fault
+  pub not_whole : ¬ IsOfWhole fault
+
+-- it is that of the octets that the reader gave
 pub record IsFaultOfCaptured (reader : Input) (fault : Fault) : Type 0 where
   pub given : List ℕ
   pub gave : Gave reader.old reader.new given
-  pub made : List Made
-  pub begins : BeginsWith (capture_with reader) given made
-  pub refused : DumpFault reader.reading.limits reader.reading.mode reader.reading.sender
-      (dump_heard (packets_made made)) fault
-  pub not_whole : ¬ IsOfWhole fault
+  pub is_fault : IsFaultInCapture reader.reading given fault
 
 abbrev pub IsFaultOfInput : (is_capture : Bool) → Input → Fault → Type 0
 IsFaultOfInput false = IsFaultOfStream

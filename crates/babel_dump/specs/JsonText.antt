@@ -7,16 +7,16 @@ use Rattle.std.specs.Option.{option_map}
 use Rattle.std.specs.Fmt.{decimal}
 use Rattle.hex.specs.Hex.{encode_lower}
 use Rattle.babel_prefix.specs.Address.{Address}
-use Rattle.babel_tlv.specs.declared.reason.Reason.{Reason}
 use Rattle.babel_tlv.specs.declared.held.Held.{Held}
 use Rattle.babel_tlv.specs.declared.held.Held.TheVariants as helds
 use Rattle.babel_tlv.specs.declared.view.View.{View}
 use Rattle.babel_tlv.specs.Route.{RouteKey, Announcement}
 use Rattle.babel_tlv.specs.Views.{keeps_all}
-use Rattle.babel_table.specs.Counts.{Counts, all_reasons, reason_place, count_at}
+use Rattle.babel_table.specs.Counts.{Counts, all_reasons}
 use Rattle.babel_canon.specs.declared.verdict.Verdict.{Verdict}
 use Rattle.babel_canon.specs.declared.verdict.Verdict.TheVariants as verdicts
 use Rattle.babel_canon.specs.declared.every_difference.Difference.{Difference}
+use Rattle.babel_dump.specs.Ignored.{ignored_for}
 use Rattle.babel_dump.specs.RunText.{newline, reason_name}
 use Rattle.babel_dump.specs.Spelling.{address_text, prefix_text}
 use Rattle.babel_dump.specs.declared.spelling.Spelling.{Spelling}
@@ -76,17 +76,21 @@ counted_object name counted =
     ++ codes ",\"first\":"
     ++ decimal counted.1 ++ codes "}"
 
--- the object of a reason to ignore TLVs, with the offset of the first
-abbrev pub ignored_object : Reason → ℕ × ℕ → List ℕ
-ignored_object reason = counted_object (reason_name reason)
+-- an object for each of these reasons for which something is counted
+abbrev pub counted_objects :
+    {R : Type 0} → (name : R → List ℕ) → (R → Option (ℕ × ℕ)) → List R → List (List ℕ)
+counted_objects name counted reasons =
+    filter_map (λ reason. option_map (counted_object (name reason)) (counted reason)) reasons
 
--- `"tlvs":N,"ignored":[..]`, with an object for each reason that occurred, and commas between
+-- with a comma between each two
+abbrev pub comma_separated : List (List ℕ) → List ℕ
+comma_separated values = join_by (λ value. value) (codes ",") values
+
+-- `"tlvs":N,"ignored":[..]`, with an object for each reason that occurred
 abbrev pub report_members : Counts → List ℕ
 report_members counts =
     codes "\"tlvs\":" ++ decimal counts.tlvs ++ codes ",\"ignored\":["
-    ++ join_by (λ value. value) (codes ",")
-    (filter_map (λ reason. option_map (ignored_object reason)
-    (count_at counts.ignored (reason_place reason))) all_reasons)
+    ++ comma_separated (counted_objects reason_name (ignored_for counts) all_reasons)
     ++ codes "]"
 
 -- `{"tlvs":N,"ignored":[..]}`

@@ -1,17 +1,14 @@
 -- The objects of notes, which come after all others of the output as JSON (RFC 8259), with the
 -- members in the order that is shown here. These are this project's own.
 use Rattle.std.specs.Prelude.{ℕ, List, [], ◌++◌, codes}
-use Rattle.std.specs.List.{filter_map, join_by}
-use Rattle.std.specs.Option.{option_map}
 use Rattle.std.specs.Fmt.{decimal}
 use Rattle.babel_prefix.specs.Address.{Address}
 use Rattle.babel_capture.specs.declared.tallies.Origin.{Origin}
-use Rattle.babel_capture.specs.Counts.{count_at as left_out_at, reason_place as left_out_place}
 use Rattle.babel_table.specs.Counts.{Counts}
 use Rattle.babel_dump.specs.CaptureText.{name_json}
 use Rattle.babel_dump.specs.EventText.{place_json}
-use Rattle.babel_dump.specs.JsonText.{counted_object, quoted, report_members}
-use Rattle.babel_dump.specs.LeftOut.{left_out_name, told_reasons}
+use Rattle.babel_dump.specs.JsonText.{comma_separated, counted_objects, quoted, report_members}
+use Rattle.babel_dump.specs.LeftOut.{left_out_for, left_out_name, told_reasons}
 use Rattle.babel_dump.specs.RunText.{newline}
 use Rattle.babel_dump.specs.Spelling.{address_text}
 use Rattle.babel_dump.specs.declared.left_out.LeftOutNote.{LeftOutNote}
@@ -45,14 +42,13 @@ number_member name number = codes ",\"" ++ name ++ codes "\":" ++ decimal number
 abbrev pub ignored_members : Counts → List ℕ
 ignored_members counts = codes "," ++ report_members counts
 
--- `,"reasons":[..]`, with an object for each reason that is told and occurred, and commas between:
--- the first is the number of a packet
+-- `,"reasons":[..]`, with an object for each reason that is told and occurred: the first is the
+-- number of a packet
 abbrev pub left_out_members : LeftOutNote → List ℕ
 left_out_members note =
     codes ",\"reasons\":["
-    ++ join_by (λ value. value) (codes ",")
-    (filter_map (λ reason. option_map (counted_object (left_out_name reason))
-    (left_out_at note.report.left_out (left_out_place reason))) (told_reasons note.are_apart))
+    ++ comma_separated
+    (counted_objects left_out_name (left_out_for note.report) (told_reasons note.are_apart))
     ++ codes "]"
 
 -- `,"source":"ADDRESS"`

@@ -54,6 +54,6 @@ no_updates counts = if counts.updates == 0 then Some notes.NoUpdates else None
 -- of the dump of a sender: what was ignored, if anything; how many rows of its table were not
 -- announced again in time; that it has no Update
 abbrev pub about_sender : Option IgnoredNote → DumpCounts → ℕ → List (Option Note)
-about_sender ignored counts passed =
-    option_map notes.Ignored ignored ∷ above passed 0 (notes.Expired passed)
+about_sender ignored counts expired_rows =
+    option_map notes.Ignored ignored ∷ above expired_rows 0 (notes.Expired expired_rows)
     ∷ no_updates counts ∷ []

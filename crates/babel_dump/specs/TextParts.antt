@@ -1,22 +1,18 @@
 -- Parts of texts that functions inside make: this project's own.
 use Rattle.std.specs.Prelude.{ℕ, Bool, not, ◌==◌, List, [], ◌∷◌, ◌++◌, codes}
-use Rattle.std.specs.List.{filter, filter_map, flat_map, join_by}
-use Rattle.std.specs.Option.{option_map}
+use Rattle.std.specs.List.{filter, flat_map}
 use Rattle.hex.specs.Hex.{encode_lower}
 use Rattle.babel_prefix.specs.Address.{Address}
-use Rattle.babel_capture.specs.Counts.{Counts as CaptureCounts}
-use Rattle.babel_capture.specs.Counts.{count_at as left_out_at, reason_place as left_out_place}
-use Rattle.babel_capture.specs.declared.reason.Reason.{Reason as LeftOutReason}
 use Rattle.babel_capture.specs.declared.tallies.Origin.{Origin}
 use Rattle.babel_capture.specs.declared.tallies.Tally.{Tally}
 use Rattle.babel_tlv.specs.declared.reason.Reason.{Reason}
-use Rattle.babel_table.specs.Counts.{Counts, reason_place, count_at}
+use Rattle.babel_table.specs.Counts.{Counts}
 use Rattle.babel_table.specs.Rows.{Routes}
 use Rattle.babel_dump.specs.CaptureText.{sender_end, sender_end_json, sender_front}
 use Rattle.babel_dump.specs.CaptureText.{sender_front_json}
+use Rattle.babel_dump.specs.Ignored.{ignored_for}
 use Rattle.babel_dump.specs.InFormat.{in_format}
-use Rattle.babel_dump.specs.JsonText.{counted_object, ignored_object, same_json}
-use Rattle.babel_dump.specs.LeftOut.{left_out_name}
+use Rattle.babel_dump.specs.JsonText.{same_json}
 use Rattle.babel_dump.specs.RunText.{answer_in, ignored_line, lookup_status}
 use Rattle.babel_dump.specs.RunText.{newline, same_text}
 use Rattle.babel_dump.specs.declared.format.Format.{Format}
@@ -37,26 +33,7 @@ lacks_route table dst src = lookup_status (answer_in table dst src) == 1
 -- a line for each of these reasons that occurred
 abbrev pub ignored_lines : Counts → List Reason → List ℕ
 ignored_lines counts reasons =
-    flat_map (λ reason. ignored_line reason (count_at counts.ignored (reason_place reason))) reasons
-
--- an object for each of these reasons that occurred
-abbrev pub ignored_objects : Counts → List Reason → List (List ℕ)
-ignored_objects counts reasons =
-    filter_map
-    (λ reason. option_map (ignored_object reason) (count_at counts.ignored (reason_place reason)))
-    reasons
-
--- an object for each of these reasons for which a datagram was left out
-abbrev pub left_out_objects : CaptureCounts → List LeftOutReason → List (List ℕ)
-left_out_objects counts reasons =
-    filter_map
-    (λ reason. option_map (counted_object (left_out_name reason))
-    (left_out_at counts.left_out (left_out_place reason)))
-    reasons
-
--- with a comma between each two
-abbrev pub comma_separated : List (List ℕ) → List ℕ
-comma_separated values = join_by (λ value. value) (codes ",") values
+    flat_map (λ reason. ignored_line reason (ignored_for counts reason)) reasons
 
 -- those that are not 0
 abbrev pub nonzero : List ℕ → List ℕ

@@ -1,8 +1,10 @@
 //! What an input is, by its first octets.
-ghost use Rattle.std.specs.Prelude.{◌≡◌, ◌≤◌, IfOk, length, take, true};
+ghost use Rattle.std.specs.Prelude.{◌≡◌, ◌⊎◌, ◌≤◌, IfOk, false, length, take, true};
 ghost use Rattle.std.specs.Io.{ReadsAtMost};
 ghost use Rattle.std.specs.Io.Chain.{chain_second};
-ghost use Rattle.std.specs.Io.KnownBytes.{Consumes, Keeps, ReadConsumes, prepend_known};
+ghost use Rattle.std.specs.Io.KnownBytes.{Consumes, IsAtEnd, Keeps, ReadConsumes};
+ghost use Rattle.std.specs.Io.KnownBytes.{prepend_known};
+ghost use Rattle.babel_dump.specs.Begun.{BeginsSo, begins_capture, begins_dump, begins_with};
 ghost use Rattle.babel_dump.specs.Device.{HasRoomToCount};
 
 use crate::byte_in::{ByteIn, FromReader};
@@ -79,6 +81,7 @@ impl<R: Read> Begun<R> {
     /// Looks at the first octets; at fewer where it ends or a read fails before.
     pub fn new(reader: R) -> Begun<R>
         ensures kept { Keeps (R.remaining reader) (⟦<Whole<R> as Read>⟧.remaining result.stream) }
+        ensures begins { BeginsSo (R.remaining reader) result.begins }
         ensures failed { result.begins ≡ Begins.Failed
             → (chain_second result.stream).has_failed ≡ true }
     {
@@ -127,6 +130,8 @@ impl<R: Read> Begun<R> {
 fn read_first<R: Read>(reader: &mut R, first: &mut [u8]) -> (usize, bool)
     ensures fits { result.0 ≤ length first.new }
     ensures same { length first.new ≡ length first.old }
+    ensures enough { result.1 ≡ false
+        → (result.0 ≡ length first.new) ⊎ IsAtEnd (R.remaining reader.new) }
     ensures read { Consumes (R.remaining reader.old) (R.remaining reader.new)
         (take result.0 first.new) }
 {
@@ -144,7 +149,7 @@ fn read_first<R: Read>(reader: &mut R, first: &mut [u8]) -> (usize, bool)
 /// What these octets are, which are the first of a stream, or as many as there were before a read
 /// failed.
 fn told_by(octets: &[u8], has_failed: bool) -> Begins
-    ensures { result ≡ Begins.Failed → has_failed ≡ true }
+    ensures { result ≡ begins_with octets.now has_failed }
 {
     if has_failed && octets.len() < MAGIC {
         Begins::Failed
@@ -158,14 +163,18 @@ fn told_by(octets: &[u8], has_failed: bool) -> Begins
 }
 
 /// Whether these begin with the first octets of a capture.
-pub(crate) fn begins_capture(octets: &[u8]) -> bool {
+pub(crate) fn begins_capture(octets: &[u8]) -> bool
+    ensures { result ≡ begins_capture octets.now }
+{
     CAPTURES
         .iter()
         .any(|magic| octets.starts_with(magic.as_slice()))
 }
 
 /// Whether these begin with the first octets of a dump, or are fewer.
-pub(crate) fn begins_dump(octets: &[u8]) -> bool {
+pub(crate) fn begins_dump(octets: &[u8]) -> bool
+    ensures { result ≡ begins_dump octets.now }
+{
     octets.starts_with(&DUMP) || DUMP.starts_with(octets)
 }
 

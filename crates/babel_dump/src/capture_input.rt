@@ -3,7 +3,7 @@ ghost use Rattle.std.specs.Prelude.{◌≡◌, ℕ, [], None, Some, IfOk, IfErr,
 ghost use Rattle.babel_capture.specs.Capture.{HasRead};
 ghost use Rattle.babel_dump.specs.CaptureGiven.{GaveRead, IsAccepted, IsFedWhole, TookSome};
 ghost use Rattle.babel_dump.specs.CaptureGiven.{capture_from, extent_of};
-ghost use Rattle.babel_dump.specs.CaptureRun.{CaptureCause, IsNoFault};
+ghost use Rattle.babel_dump.specs.CaptureRun.{CaptureCause, FeedCause, IsNoFault};
 ghost use Rattle.babel_dump.specs.Device.{HasRoomToCount};
 ghost use Rattle.babel_dump.specs.LeftOut.{LeavesNoneOut, first_left_out};
 ghost use Rattle.babel_dump.specs.Parts.{Gathered};
@@ -117,7 +117,7 @@ pub(crate) fn feed_all<R: ByteIn, S: Sink>(
     ensures sound { OnOk result (capture.new.fault ≡ None) }
     ensures gathered { let wanted = capture.old.progress.gathering.wanted in let input =
         capture_from (R.state reader.old) (R.state reader.new) reading.now wanted in
-        Gathered (capture_calls input) (CaptureCause input IsNoFault)
+        Gathered (capture_calls input) (FeedCause input)
         (λ _. IsFedWhole S.has sink.old sink.new capture.new input) result }
     // Also where there is a fault the sink took the packets before it.
     ensures took { let wanted = capture.old.progress.gathering.wanted in TookSome S.has sink.old

@@ -11,5 +11,5 @@ pub struct CaptureNotes {
     pub are_apart: bool,
     /// How many rows of the dump's table were not announced again in time, if none was left out
     /// for that.
-    pub passed: usize,
+    pub expired_rows: usize,
 }

@@ -91,7 +91,7 @@ fn end_of(alloc: Global, reading: &Reading, capture: &Capture) -> Result<Capture
             report,
             cut,
             are_apart: false,
-            passed: 0,
+            expired_rows: 0,
         });
     }
     refuse_left_out(reading.strict, &report)?;
@@ -131,7 +131,7 @@ fn fed_by(reading: &Reading, feeder: Feeder, moment: Option<u128>, notes: Captur
     let expired = what_expired(reading.expiry, moment);
     let mut notes = notes;
     if let (None, Some(moment)) = (expired, moment) {
-        notes.passed = feeder.count_passed(moment);
+        notes.expired_rows = feeder.count_expired(moment);
     }
     Fed {
         feeder,

@@ -1,5 +1,6 @@
 //! What came of what was asked for, and what is said of that.
-ghost use Rattle.std.specs.Prelude.{◌≡◌};
+ghost use Rattle.std.specs.Prelude.{◌≡◌, IfOk};
+ghost use Rattle.babel_capture.specs.Gathering.{name_of};
 ghost use Rattle.babel_dump.specs.Trouble.{done_status, read_status};
 
 use crate::absence::Absence;
@@ -59,7 +60,7 @@ pub struct ToldSender {
 pub struct DumpRead {
     pub report: Report,
     /// How many rows of its table were not announced again in time, if none was left out for that.
-    pub passed: usize,
+    pub expired_rows: usize,
 }
 
 impl ToldSender {
@@ -69,7 +70,12 @@ impl ToldSender {
         gathered: &Gathered,
         origin: &Origin,
         read: Result<DumpRead, InputFault>,
-    ) -> Result<ToldSender, AllocError> {
+    ) -> Result<ToldSender, AllocError>
+        ensures origin { IfOk result (λ told. told.origin ≡ origin.now) }
+        ensures name { IfOk result
+            (λ told. told.name.items ≡ name_of gathered.now origin.now.place.interface) }
+        ensures read { IfOk result (λ told. told.read ≡ read) }
+    {
         let mut name = Vec::new(alloc);
         name.extend_from_slice(gathered.name(origin.place.interface))?;
         let origin = *origin;
@@ -90,7 +96,9 @@ impl ToldSender {
 impl Done {
     /// Nothing yet. The room for notes is taken before a run, so that memory cannot run out after
     /// its output.
-    pub fn new(alloc: Global) -> Result<Done, AllocError> {
+    pub fn new(alloc: Global) -> Result<Done, AllocError>
+        ensures { IfOk result (λ done. done.status ≡ 0) }
+    {
         Ok(Done {
             status: 0,
             absence: None,
@@ -102,7 +110,9 @@ impl Done {
     }
 
     /// What came of a job.
-    pub fn of_job(mut self, job: &Job, ran: &Ran) -> Result<Done, AllocError> {
+    pub fn of_job(mut self, job: &Job, ran: &Ran) -> Result<Done, AllocError>
+        ensures { IfOk result (λ done. done.status ≡ ran.now.outcome.status) }
+    {
         let outcome = &ran.outcome;
         self.status = outcome.status;
         if outcome.status != 0 {
@@ -118,7 +128,9 @@ impl Done {
     }
 
     /// What came of `events`.
-    pub fn of_events(mut self, events: &Events, answer: EventsOutcome) -> Result<Done, AllocError> {
+    pub fn of_events(mut self, events: &Events, answer: EventsOutcome) -> Result<Done, AllocError>
+        ensures { IfOk result (λ done. done.status ≡ answer.outcome.status) }
+    {
         self.status = answer.outcome.status;
         if answer.outcome.status != 0 {
             self.absence = Some(Absence::at(None));
@@ -131,7 +143,10 @@ impl Done {
                     name,
                     report,
                 } = heard;
-                let read = Ok(DumpRead { report, passed: 0 });
+                let read = Ok(DumpRead {
+                    report,
+                    expired_rows: 0,
+                });
                 self.senders.push(ToldSender { origin, name, read })?;
             }
         }
@@ -144,7 +159,10 @@ impl Done {
         keys: &SenderKeys,
         read: &CaptureRead,
         senders: Vec<ToldSender>,
-    ) -> Result<Done, Trouble> {
+    ) -> Result<Done, Trouble>
+        ensures status { IfOk result (λ done. done.status ≡ self.status) }
+        ensures senders { IfOk result (λ done. done.senders ≡ senders) }
+    {
         if senders.is_empty() {
             let absence = Absence::at(keys.place);
             return Err(Trouble::from(InputFault::NoPackets(absence)));
@@ -153,7 +171,7 @@ impl Done {
             report: read.gathered.report(),
             cut: read.cut,
             are_apart: true,
-            passed: 0,
+            expired_rows: 0,
         };
         let interval = keys.interval(&read.gathered);
         self.notes.add_capture(Side::First, capture, interval)?;

@@ -60,10 +60,10 @@ pub(crate) enum Hint {
     #[error("hint: tcpdump -s 0 keeps packets whole")]
     Snapped,
     /// A datagram came in fragments.
-    #[error("hint: fragments are not put together, so the dump would lack what they have")]
+    #[error("hint: fragments are not put together, so their routes would be missing")]
     Fragment,
     /// A datagram is longer than its frame.
-    #[error("hint: the frame has less than the datagram says; take the capture as it was \
+    #[error("hint: the datagram is longer than the captured frame; take the capture as it was \
              recorded, since --accept-cut does not help")]
     DatagramCutShort,
     /// A capture is of a version that is not read.

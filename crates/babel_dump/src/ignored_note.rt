@@ -1,4 +1,5 @@
-use crate::reason_text::{Counted, REASONS};
+use crate::by_reason::{count_for, write_counted};
+use crate::reason_text::REASONS;
 use babel_table::Report;
 use std::fmt;
 
@@ -12,12 +13,7 @@ pub struct IgnoredNote {
 impl IgnoredNote {
     /// The note about a dump with this report; `None` if no TLV was ignored.
     pub fn of(report: Report) -> Option<IgnoredNote> {
-        let mut ignored: u64 = 0;
-        for reason in &REASONS {
-            if let Some((count, _first)) = report.ignored(*reason) {
-                ignored = ignored.saturating_add(count);
-            }
-        }
+        let ignored = count_for(&report, &REASONS);
         if ignored == 0 {
             None
         } else {
@@ -29,13 +25,6 @@ impl IgnoredNote {
 impl fmt::Display for IgnoredNote {
     fn fmt<W: fmt::Write>(&self, f: &mut fmt::Formatter<W>) -> fmt::Result {
         write!(f, "{} of {} TLVs ignored", self.ignored, self.report.tlvs())?;
-        let mut mark = ": ";
-        for reason in &REASONS {
-            if let Some((count, first)) = self.report.ignored(*reason) {
-                write!(f, "{mark}{}", Counted(*reason, count, first))?;
-                mark = ", ";
-            }
-        }
-        Ok(())
+        write_counted(f, &self.report, &REASONS)
     }
 }

@@ -270,6 +270,7 @@ impl Job {
     /// failed, which the run then tells.
     pub fn begin(&mut self, first: Begins, other: Begins, seed: u128) -> Result<(), &'static str>
         ensures ok { OnOk result (self.new.work ≡ begun_work first other seed self.old.work) }
+        ensures same { (self.new.format ≡ self.old.format) × (self.new.quiet ≡ self.old.quiet) }
         ensures none { OnOk result (misplaced_by first other self.old.work ≡ None) }
         ensures err { IfErr result
             (λ option. misplaced_by first other self.old.work ≡ Some option.now) }

@@ -27,16 +27,16 @@ pub struct MadeKey {
     /// How many rows that table has.
     pub rows: usize,
     /// How many of them were not announced again in time, if none was left out for that.
-    pub passed: usize,
+    pub expired_rows: usize,
 }
 
 impl MadeKey {
     /// The same of a table of which so many rows were not announced again in time.
-    pub(crate) fn with_passed(self, passed: usize) -> MadeKey
-        ensures { result ≡ record self { passed = passed } }
+    pub(crate) fn with_expired_rows(self, expired_rows: usize) -> MadeKey
+        ensures { result ≡ record self { expired_rows = expired_rows } }
     {
         let mut key = self;
-        key.passed = passed;
+        key.expired_rows = expired_rows;
         key
     }
 }
@@ -81,6 +81,6 @@ pub(crate) fn make_key(
         line,
         report,
         rows,
-        passed: 0,
+        expired_rows: 0,
     })
 }

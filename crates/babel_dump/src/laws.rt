@@ -6,31 +6,31 @@ ghost use Rattle.babel_dump.specs.OneOutcome.{FaultIsOfAll, FaultIsOne, NamedIsN
 ghost use Rattle.babel_dump.specs.OneOutcome.{NothingWritten, OutcomeIsOne, OutcomeOrFault};
 ghost use Rattle.babel_dump.specs.OneOutcome.{WrittenIsPrefix};
 
-/// What the run of a job that reads no dump of a capture answers over devices that say their octets,
-/// failed calls and running out of memory aside, is settled by the octets of its readers: one outcome
-/// and one text, or one fault. This does not speak of the faults of captures.
+/// What the run of a job answers over devices that say their octets, failed calls and running out of
+/// memory aside, is settled by the octets of its readers: one outcome and one text, or one fault.
+/// Only of a capture in which the sender of a dump is not at one place may one run answer the dump's
+/// fault, and another that a datagram was left out. This does not speak of the faults of captures.
 pub fn outcome_is_one()
     ensures outcome { OutcomeIsOne }
     ensures outcome_or_fault { OutcomeOrFault }
     ensures fault { FaultIsOne }
 {}
 
-/// Where a job reads no dump of a capture, the fault of a dump is that of all octets that its reader
-/// had.
+/// The fault of a dump is that of all octets that its reader had; of a dump in a capture it is that
+/// of packets of the blocks with which these begin.
 pub fn fault_is_of_all()
     ensures { FaultIsOfAll }
 {}
 
-/// Where a job reads no dump of a capture, a run whose write failed leaves the first octets of the
-/// text that it was to write, and a run with any other fault nothing.
+/// A run whose write failed leaves the first octets of the text that it was to write, and a run with
+/// any other fault nothing.
 pub fn written_is_prefix()
     ensures prefix { WrittenIsPrefix }
     ensures nothing { NothingWritten }
 {}
 
-/// What a run of `extract` wrote, as it is, no job that reads no dump of a capture refuses as
-/// truncated, or for a wrong magic or version: not as its first dump, and not as the other of a
-/// comparison.
+/// What a run of `extract` wrote, as it is, no job refuses as truncated, or for a wrong magic or
+/// version: not as its first dump, and not as the other of a comparison.
 pub fn extracted_is_framed()
     ensures { ExtractedIsFramed }
 {}
@@ -48,7 +48,7 @@ pub fn ignored_is_first()
     ensures rise { OffsetsOfDumpsRise }
 {}
 
-/// A report of a capture says that no datagram was left out only where none was; and the one for
+/// A report of a capture says that no datagram was left out exactly where none was; and the one for
 /// which strict reading refuses a capture is the first of its packets that was left out.
 pub fn left_out_is_first()
     ensures none { NoneIsLeftOut }

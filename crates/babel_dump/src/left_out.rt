@@ -1,10 +1,10 @@
 //! Datagrams of a capture that were left out.
 ghost use Rattle.std.specs.Prelude.{◌≡◌, ◌≤◌, IfSome, length};
 ghost use Rattle.std.specs.Option.{IfNone};
-ghost use Rattle.babel_dump.specs.LeftOut.{LeavesNoneOut, first_among, first_counted};
-ghost use Rattle.babel_dump.specs.LeftOut.{first_left_out, first_whole_left_out, left_out_name};
-ghost use Rattle.babel_dump.specs.LeftOut.{sooner, told_reasons};
+ghost use Rattle.babel_dump.specs.LeftOut.{LeavesNoneOut, first_among, first_left_out};
+ghost use Rattle.babel_dump.specs.LeftOut.{first_whole_left_out, told_reasons};
 
+use crate::by_reason::{CountedReason, count_for, first_of, write_counted};
 use babel_capture::{Reason, Report};
 use std::fmt;
 
@@ -23,7 +23,7 @@ impl fmt::Display for LeftOutDatagram {
             f,
             "datagram left out at packet {}: {}",
             self.packet,
-            name(self.reason)
+            self.reason.name()
         )
     }
 }
@@ -41,12 +41,7 @@ impl LeftOutNote {
     /// The note about a capture with this report; `None` if no wanted datagram was left out. Those
     /// that lack something may be told apart, with their senders.
     pub(crate) fn of(report: Report, are_apart: bool) -> Option<LeftOutNote> {
-        let mut left_out: u64 = 0;
-        for reason in told_reasons(are_apart) {
-            if let Some((count, _first)) = report.left_out(*reason) {
-                left_out = left_out.saturating_add(count);
-            }
-        }
+        let left_out = count_for(&report, told_reasons(are_apart));
         if left_out == 0 {
             None
         } else {
@@ -67,14 +62,7 @@ impl fmt::Display for LeftOutNote {
             "datagrams"
         };
         write!(f, "{} {datagrams} left out", self.left_out)?;
-        let mut mark = ": ";
-        for reason in told_reasons(self.are_apart) {
-            if let Some((count, first)) = self.report.left_out(*reason) {
-                write!(f, "{mark}{} {count} first {first}", name(*reason))?;
-                mark = ", ";
-            }
-        }
-        Ok(())
+        write_counted(f, &self.report, told_reasons(self.are_apart))
     }
 }
 
@@ -87,7 +75,7 @@ pub(crate) fn told_reasons(are_apart: bool) -> &'static [Reason]
 }
 
 /// The first datagram of a capture that was left out, by the number of its packet.
-#[tactic(auto, using(crate::proofs::LeftOutLaws::leaves_none))]
+#[tactic(auto, using(crate::proofs::FirstLeftOut::leaves_none))]
 pub(crate) fn first_left_out(report: &Report) -> Option<LeftOutDatagram>
     ensures first { result ≡ first_left_out report.now }
     ensures none { IfNone result (LeavesNoneOut report.now) }
@@ -106,33 +94,8 @@ pub(crate) fn first_whole_left_out(report: &Report) -> Option<LeftOutDatagram>
 fn first_among(report: &Report, reasons: &[Reason]) -> Option<LeftOutDatagram>
     ensures { result ≡ first_among report.now reasons.now }
 {
-    let (reason, rest) = reasons.split_first()?;
-    let first = first_counted(*reason, report.left_out(*reason));
-    sooner(first, first_among(report, rest))
-}
-
-/// The first datagram that was left out for a reason.
-fn first_counted(reason: Reason, counted: Option<(u64, u64)>) -> Option<LeftOutDatagram>
-    ensures { result ≡ first_counted reason counted }
-{
-    match counted {
-        Some((_count, packet)) => Some(LeftOutDatagram { packet, reason }),
-        None => None,
-    }
-}
-
-/// The one in the earlier packet, if there are two.
-fn sooner(
-    datagram: Option<LeftOutDatagram>,
-    other: Option<LeftOutDatagram>,
-) -> Option<LeftOutDatagram>
-    ensures { result ≡ sooner datagram other }
-{
-    match (datagram, other) {
-        (Some(datagram), Some(other)) if other.packet < datagram.packet => Some(other),
-        (Some(datagram), _) => Some(datagram),
-        (None, other) => other,
-    }
+    let (packet, reason) = first_of(report, reasons)?;
+    Some(LeftOutDatagram { packet, reason })
 }
 
 /// The reasons, in their order.
@@ -156,19 +119,29 @@ const WHOLE_REASONS: [Reason; 5] = [
     Reason::NotLinkLocal,
 ];
 
-/// The name of a reason.
-pub(crate) fn name(reason: Reason) -> &'static str
-    ensures text { result.now ≡ left_out_name reason }
-    ensures short { length result.now ≤ 18 }
-{
-    match reason {
-        Reason::Truncated => "truncated",
-        Reason::BadMagic => "bad-magic",
-        Reason::BadVersion => "bad-version",
-        Reason::Fragment => "fragment",
-        Reason::Snapped => "snapped",
-        Reason::CutShort => "cut-short",
-        Reason::OtherPort => "other-port",
-        Reason::NotLinkLocal => "not-link-local",
+impl CountedReason for Reason {
+    type Report = Report;
+
+    ghost use Rattle.babel_dump.specs.LeftOut.{left_out_for, left_out_name};
+
+    ghost counted = { left_out_for };
+
+    ghost name_of = { left_out_name };
+
+    fn counted(self, report: &Report) -> Option<(u64, u64)> {
+        report.left_out(self)
+    }
+
+    fn name(self) -> &'static str {
+        match self {
+            Reason::Truncated => "truncated",
+            Reason::BadMagic => "bad-magic",
+            Reason::BadVersion => "bad-version",
+            Reason::Fragment => "fragment",
+            Reason::Snapped => "snapped",
+            Reason::CutShort => "cut-short",
+            Reason::OtherPort => "other-port",
+            Reason::NotLinkLocal => "not-link-local",
+        }
     }
 }

@@ -56,14 +56,7 @@ impl fmt::Display for Note {
                 f,
                 "{sections} sections; the interfaces of each are others: mergecap makes them one"
             ),
-            Note::Trailers(1) => f.write_str(
-                "1 packet has octets after its body; authentication (RFC 8967) is not checked",
-            ),
-            Note::Trailers(packets) => write!(
-                f,
-                "{packets} packets have octets after their bodies; authentication (RFC 8967) is \
-                 not checked"
-            ),
+            Note::Trailers(packets) => write_trailers(f, *packets),
             Note::CaptureCut(at) => write!(f, "capture cut short at {at}, and read up to there"),
             Note::TooShort(1) => f.write_str("1 frame too short to tell"),
             Note::TooShort(frames) => write!(f, "{frames} frames too short to tell"),
@@ -74,27 +67,9 @@ impl fmt::Display for Note {
                 Hundredths(*span),
                 Hundredths(u64::from(*interval))
             ),
-            Note::Expired(1) => f.write_str(
-                "1 route was not announced again within 3.5 times its Interval; --expiry 3.5 \
-                 leaves it out",
-            ),
-            Note::Expired(routes) => write!(
-                f,
-                "{routes} routes were not announced again within 3.5 times their Interval; \
-                 --expiry 3.5 leaves them out"
-            ),
+            Note::Expired(routes) => write_expired(f, *routes),
             Note::NoUpdates => f.write_str("no Updates"),
-            Note::RoutesDiffer(routes) => {
-                let differ = if *routes == 1 {
-                    "route differs"
-                } else {
-                    "routes differ"
-                };
-                write!(
-                    f,
-                    "the same answers, but {routes} {differ}; compare --routes shows it"
-                )
-            }
+            Note::RoutesDiffer(routes) => write_routes_differ(f, *routes),
             Note::Source(Spelling::Long, source) => write_source(f, source),
             Note::Source(Spelling::Short, source) => write_source(f, &Short(*source)),
         }
@@ -115,6 +90,47 @@ impl fmt::Display for Hundredths {
             _ => write!(f, "{seconds}.{tenths}{hundredths}"),
         }
     }
+}
+
+/// Writes how many packets have octets after their bodies.
+fn write_trailers<W: fmt::Write>(f: &mut fmt::Formatter<W>, packets: u64) -> fmt::Result {
+    if packets == 1 {
+        return f.write_str(
+            "1 packet has octets after its body; authentication (RFC 8967) is not checked",
+        );
+    }
+    write!(
+        f,
+        "{packets} packets have octets after their bodies; authentication (RFC 8967) is not checked"
+    )
+}
+
+/// Writes how many routes were not announced again in time.
+fn write_expired<W: fmt::Write>(f: &mut fmt::Formatter<W>, routes: u64) -> fmt::Result {
+    if routes == 1 {
+        return f.write_str(
+            "1 route was not announced again within 3.5 times its Interval; --expiry 3.5 leaves it \
+             out",
+        );
+    }
+    write!(
+        f,
+        "{routes} routes were not announced again within 3.5 times their Interval; --expiry 3.5 \
+         leaves them out"
+    )
+}
+
+/// Writes how many routes differ of two dumps that answer the same.
+fn write_routes_differ<W: fmt::Write>(f: &mut fmt::Formatter<W>, routes: u64) -> fmt::Result {
+    let differ = if routes == 1 {
+        "route differs"
+    } else {
+        "routes differ"
+    };
+    write!(
+        f,
+        "the same answers, but {routes} {differ}; compare --routes shows it"
+    )
 }
 
 /// Writes which source an answer is for.

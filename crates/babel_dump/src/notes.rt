@@ -114,7 +114,7 @@ impl Notes {
             report,
             cut,
             are_apart: false,
-            passed: 0,
+            expired_rows: 0,
         };
         match answer.named_report(events) {
             Some(heard) => self.add_dump(Side::First, heard, Some(capture)),
@@ -125,10 +125,13 @@ impl Notes {
     /// What there is to know of the dump of a sender in a capture, in place of what was.
     pub(crate) fn gather_sender(&mut self, read: DumpRead) -> Result<(), AllocError>
         ensures { OnOk result ((ignored : Option IgnoredNote) × (self.new.list.items
-            ≡ flat_map (told sides.First) (about_sender ignored read.report read.passed))) }
+            ≡ flat_map (told sides.First) (about_sender ignored read.report read.expired_rows))) }
     {
         self.list.clear();
-        self.add_all(Side::First, &about_sender(read.report, read.passed as u64))
+        self.add_all(
+            Side::First,
+            &about_sender(read.report, read.expired_rows as u64),
+        )
     }
 
     /// Adds a note, if there is one.
@@ -172,9 +175,9 @@ impl Notes {
         capture: Option<CaptureNotes>,
     ) -> Result<(), AllocError> {
         if let Some(capture) = capture {
-            let (passed, interval) = (capture.passed, capture.report.interval());
+            let (expired_rows, interval) = (capture.expired_rows, capture.report.interval());
             self.add_capture(side, capture, interval)?;
-            self.add(side, expired(passed as u64))?;
+            self.add(side, expired(expired_rows as u64))?;
         }
         self.add(side, no_updates(report))
     }
@@ -189,7 +192,7 @@ impl Notes {
             report,
             cut,
             are_apart: false,
-            passed: 0,
+            expired_rows: 0,
         };
         self.add_capture(Side::First, capture, report.interval())
     }
@@ -277,17 +280,17 @@ fn source_note(spelling: Spelling, source: Option<Addr>) -> Option<Note> {
 
 /// What was ignored of the dump of a sender in a capture, how many rows of its table were not
 /// announced again in time, and that it has no Update, as far as there is each.
-fn about_sender(report: Report, passed: u64) -> [Option<Note>; 3]
-    ensures { (ignored : Option IgnoredNote) × (result ≡ about_sender ignored report passed) }
+fn about_sender(report: Report, expired_rows: u64) -> [Option<Note>; 3]
+    ensures { (ignored : Option IgnoredNote) × (result ≡ about_sender ignored report expired_rows) }
 {
-    [ignored(report), expired(passed), no_updates(report)]
+    [ignored(report), expired(expired_rows), no_updates(report)]
 }
 
 /// How many rows were not announced again in time, if any.
-fn expired(passed: u64) -> Option<Note>
-    ensures { result ≡ above passed 0 (notes.Expired passed) }
+fn expired(rows: u64) -> Option<Note>
+    ensures { result ≡ above rows 0 (notes.Expired rows) }
 {
-    above(passed, 0, Note::Expired(passed))
+    above(rows, 0, Note::Expired(rows))
 }
 
 /// That a dump has no Update, if it has none.

@@ -148,8 +148,8 @@ const IGNORE: OptionRow = OptionRow {
 const MAX_ROUTES: OptionRow = OptionRow {
     id: "max-routes",
     takes: Takes::Number("ROUTES", 1, MOST_ROUTES),
-    help: "How many routes, and how many canonical pairs or differences, there may be [default: \
-           262144]",
+    help: "How many routes, and how many canonical pairs or differences, there may be, at most \
+           51746593 [default: 262144]",
     commands: &OF_DUMPS,
     ..FLAG
 };
@@ -228,7 +228,7 @@ const SRC: OptionRow = OptionRow {
 const WITHIN: OptionRow = OptionRow {
     id: "within",
     takes: Takes::Word("PREFIX"),
-    help: "Only what has PREFIX or a longer prefix in it as its destination",
+    help: "Only destinations that are PREFIX or inside it",
     commands: &FILTERED,
     ..FLAG
 };
@@ -260,7 +260,7 @@ pub(crate) static SENT: &[OptionRow] = &[
         ..FROM
     },
     OptionRow {
-        help: "The source address of the packets; if omitted, what each sender announces is told",
+        help: "The source address of the packets; if omitted, each sender is reported",
         commands: &["events"],
         ..FROM
     },
@@ -279,7 +279,7 @@ pub(crate) static SENT: &[OptionRow] = &[
     },
     OptionRow {
         help: "The place in the capture: the interface, with its link and VLANs, as senders lists \
-               it; if omitted, what is announced at each place is told by itself",
+               it; if omitted, each place is reported separately",
         commands: &["events"],
         ..INTERFACE
     },
@@ -301,8 +301,8 @@ pub(crate) static READ: &[OptionRow] = &[
     UNTIL,
     EXPIRY,
     OptionRow {
-        help: "Tell as well when a route was not announced again within FACTOR times its Interval; \
-               3.5 in RFC 8966, appendix B, and BIRD, 6 in babeld 1.12",
+        help: "Also report routes that expire, not announced again within FACTOR times their \
+               Interval; 3.5 in RFC 8966, appendix B, and BIRD, 6 in babeld 1.12",
         commands: &["events"],
         ..EXPIRY
     },
@@ -318,7 +318,7 @@ pub(crate) static READ: &[OptionRow] = &[
         ..IGNORE
     },
     OptionRow {
-        help: "Tell when the answer for this destination changes, and not what routes do",
+        help: "Report changes of the answer for this destination, instead of route changes",
         commands: &["events"],
         needs: Some("src"),
         ..TO
@@ -396,12 +396,12 @@ pub(crate) static KEPT: &[OptionRow] = &[
     WITHIN,
     OptionRow {
         id: "match",
-        help: "Only what has a destination that contains PREFIX, which may be an address",
+        help: "Only destinations that contain PREFIX, which may be an address",
         ..WITHIN
     },
     OptionRow {
         id: "source",
-        help: "Only what has exactly PREFIX as its source",
+        help: "Only sources that are exactly PREFIX",
         ..WITHIN
     },
     OptionRow {
@@ -452,7 +452,7 @@ pub(crate) static PRINTED: &[OptionRow] = &[
     OptionRow {
         id: "color",
         takes: Takes::OneOf("WHEN", &["auto", "always", "never"]),
-        help: "When routes are in colour; auto is on a terminal alone [default: never]",
+        help: "When to colour routes; auto: only on a terminal [default: never]",
         commands: &["diff"],
         ..FLAG
     },

@@ -55,9 +55,9 @@ impl PacketFeeder {
     }
 
     /// How many rows were not announced again in time by this moment, if none is left out for that.
-    pub(crate) fn count_passed(&self, expired: Option<Expired>, moment: Option<u128>) -> usize {
+    pub(crate) fn count_expired(&self, expired: Option<Expired>, moment: Option<u128>) -> usize {
         match (expired, moment) {
-            (None, Some(moment)) => self.feeder.count_passed(moment),
+            (None, Some(moment)) => self.feeder.count_expired(moment),
             _ => 0,
         }
     }

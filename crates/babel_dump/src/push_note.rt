@@ -1,21 +1,20 @@
 //! Notes as JSON (RFC 8259), appended to a buffer that has room for them.
-ghost use Rattle.std.specs.Prelude.{◌≡◌, ◌+◌, ◌≤◌, ◌++◌, ◌*◌, length};
+ghost use Rattle.std.specs.Prelude.{◌≡◌, ◌+◌, ◌≤◌, ◌++◌, length};
 ghost use Rattle.babel_dump.specs.NoteJson.{ignored_members, left_out_members, note_json};
 ghost use Rattle.babel_dump.specs.NoteJson.{note_front, note_members, note_name, note_rest};
 ghost use Rattle.babel_dump.specs.NoteJson.{number_member, side_member};
 ghost use Rattle.babel_dump.specs.NoteJson.{source_member};
 ghost use Rattle.babel_dump.specs.Slices.{HasRoom, TookRoom};
-ghost use Rattle.babel_dump.specs.TextParts.{comma_separated, left_out_objects};
 
-use crate::left_out::{LeftOutNote, name as left_out_name, told_reasons};
+use crate::left_out::{LeftOutNote, told_reasons};
 use crate::note::{Note, SideNote};
 use crate::push::{push_decimal, push_octet, push_text};
 use crate::push_addr::push_addr;
 use crate::push_json::push_place_json;
-use crate::push_report::{push_counted_object, push_report_members};
+use crate::push_report::{push_counted_json, push_report_members};
 use crate::run_fault::Side;
 use crate::spelling::Spelling;
-use babel_capture::{Origin, Reason, Report as CaptureReport};
+use babel_capture::Origin;
 use babel_prefix::Addr;
 use babel_table::Report;
 
@@ -135,26 +134,8 @@ fn push_left_out(buffer: &mut Vec<u8>, note: &LeftOutNote)
     ensures room { TookRoom buffer.old buffer.new 1500 }
 {
     push_text(buffer, r#","reasons":["#);
-    push_left_out_json(buffer, &note.report, told_reasons(note.are_apart));
+    push_counted_json(buffer, &note.report, told_reasons(note.are_apart));
     push_text(buffer, "]");
-}
-
-/// Appends an object for each of these reasons for which a datagram was left out, with a comma
-/// between each two.
-fn push_left_out_json(buffer: &mut Vec<u8>, report: &CaptureReport, reasons: &[Reason])
-    requires { HasRoom buffer.old (90 * length reasons.now) }
-    ensures text { buffer.new.items
-        ≡ buffer.old.items ++ comma_separated (left_out_objects report.now reasons.now) }
-    ensures room { TookRoom buffer.old buffer.new (90 * length reasons.now) }
-{
-    let mut comma = "";
-    for reason in reasons {
-        if let Some((count, first)) = report.left_out(*reason) {
-            push_text(buffer, comma);
-            push_counted_object(buffer, left_out_name(*reason), count, first);
-            comma = ",";
-        }
-    }
 }
 
 /// Appends the source that an answer is for: a member of an object.

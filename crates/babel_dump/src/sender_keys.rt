@@ -6,15 +6,13 @@ ghost use Rattle.babel_dump.specs.Device.{HasRoomToCount};
 ghost use Rattle.babel_dump.specs.Fed.{AreWhole};
 ghost use Rattle.babel_dump.specs.Packets.{packets_made};
 ghost use Rattle.babel_dump.specs.Parts.{Gathered};
-ghost use Rattle.babel_dump.specs.Run.{capture_calls, output};
+ghost use Rattle.babel_dump.specs.Run.{capture_calls};
 ghost use Rattle.babel_dump.specs.SenderKeys.{GaveSenders, IsFedOwn, IsSenderKey, NoSenderKey};
 ghost use Rattle.babel_dump.specs.SenderKeys.{SendersCause, capture_read_by, each_from};
 ghost use Rattle.babel_dump.specs.SenderKeys.{first_missed, is_asked, own_packets, read_by};
 ghost use Rattle.babel_dump.specs.SenderKeys.{sender_name};
-ghost use Rattle.babel_dump.specs.Slices.{WroteText};
 
 use crate::byte_in::ByteIn;
-use crate::byte_out::ByteOut;
 use crate::capture_input::{CaptureRead, read_capture};
 use crate::capture_reading::CaptureReading;
 use crate::diff::{ROOM, push_place};
@@ -27,10 +25,8 @@ use crate::left_out::first_whole_left_out;
 use crate::push::push_octet;
 use crate::push_addr::push_addr;
 use crate::reading::{Reading, capture_limit};
-use crate::run_fault::RunFault;
 use crate::sender_tables::{SenderTable, SenderTables};
 use crate::spelling::Spelling;
-use crate::write::write_text;
 use babel_capture::{Gathered as GatheredPackets, Origin, Place, Wanted, Window};
 use babel_table::Limits;
 use babel_tlv::{Mode, View};
@@ -178,13 +174,13 @@ impl SenderKeys {
             return Err(InputFault::LeftOut(datagram));
         }
         let expired = what_expired(self.expiry, moment);
-        let passed = packets.count_passed(expired, moment);
+        let expired_rows = packets.count_expired(expired, moment);
         let table = packets.finish(expired)?;
         refuse_unread(self.strict, None, table.report())?;
         let reading = Reading::of(self.limits, self.mode, origin.sender);
         let name = sender_name(alloc, self.file.name(), origin)?;
         let key = make_key(alloc, reading, self.form, self.view, &name, table)?;
-        Ok(key.with_passed(passed))
+        Ok(key.with_expired_rows(expired_rows))
     }
 
     /// How many rows tables have in all, where some have so many, and one more so many; `None` if
@@ -200,16 +196,6 @@ impl SenderKeys {
         }
         Some(before + rows as u32)
     }
-}
-
-/// Writes the lines of keys, and flushes.
-pub fn write_keys<W: ByteOut>(writer: &mut W, lines: &[u8]) -> Result<(), RunFault>
-    requires few_failures { (W.state writer.old).failures < 2 ^ 64 - 1 }
-    requires few_flushes { (W.state writer.old).flushes < 2 ^ 64 - 1 }
-    ensures { WroteText (output (W.state writer.old) (W.state writer.new)) lines.now result }
-{
-    write_text(writer, lines)?;
-    Ok(())
 }
 
 /// `FILE ADDRESS interface N`: what names the dump of a sender at its place.

@@ -1,6 +1,7 @@
 //! Why nothing came of what was asked for, and what is said of that.
 ghost use Rattle.std.specs.Prelude.{◌≡◌, None};
 ghost use Rattle.std.specs.Option.{option_copied};
+ghost use Rattle.babel_dump.specs.AskedRun.{misplaced_told};
 ghost use Rattle.babel_dump.specs.Trouble.{refused_status, trouble_status, unwritten_status};
 
 use crate::asked::Asked;
@@ -46,6 +47,11 @@ pub enum Trouble {
 }
 
 impl From<AllocError> for Trouble {
+    ghost use Rattle.std.specs.Prelude.{◌≡◌, None};
+    ghost use Rattle.babel_dump.specs.AskedRun.{misplaced_told};
+
+    ghost from_gives = { λ _ trouble. misplaced_told trouble ≡ None };
+
     fn from(error: AllocError) -> Trouble {
         Trouble::Fault(RunFault::from(error))
     }
@@ -85,7 +91,8 @@ impl From<Unheard> for Trouble {
 impl Trouble {
     /// That of a job whose input on this side has a fault.
     pub fn of_job(job: &Job, side: Side, fault: InputFault) -> Trouble
-        ensures { trouble_status None result ≡ refused_status fault }
+        ensures status { trouble_status None result ≡ refused_status fault }
+        ensures placed { misplaced_told result ≡ None }
     {
         Trouble::of_input(side, fault, job.moment_options(side))
     }
@@ -93,7 +100,8 @@ impl Trouble {
     /// That of a fault of the input on this side, which these options have read from a moment and
     /// up to one.
     fn of_input(side: Side, fault: InputFault, options: (&'static str, &'static str)) -> Trouble
-        ensures { trouble_status None result ≡ refused_status fault }
+        ensures status { trouble_status None result ≡ refused_status fault }
+        ensures placed { misplaced_told result ≡ None }
     {
         if fault.is_empty_window() {
             let (since, until) = options;

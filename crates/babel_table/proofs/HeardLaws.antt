@@ -19,7 +19,7 @@ use Rattle.std.specs.Prelude.{IfOk}
 use Rattle.babel_tlv.specs.declared.mode.Mode.{Mode}
 use Rattle.babel_table.specs.Bounds.{Bounds}
 use Rattle.babel_table.specs.Feeding.{HasHeard, HasRead, Progress}
-use Rattle.babel_table.specs.Moments.{AreHeard, Heard, Told, When, dump_of, octets_heard, told_at, told_from, told_in, told_of}
+use Rattle.babel_table.specs.Moments.{AreHeard, Heard, Told, Stamp, dump_of, octets_heard, told_at, told_from, told_in, told_of}
 use Rattle.babel_table.specs.Words.{HearsPackets, TimedRows, after_all, after_event, after_told, told_then}
 use Rattle.babel_table.proofs.DumpLaws.{placed-append}
 use Rattle.babel_table.proofs.PacketLaws.{length-framed, placed-push}
@@ -56,7 +56,7 @@ module _ (mode : Mode) (factor : ℕ) where
   -- ---- the TLVs of a packet, one by one
 
   -- what a TLV tells leaves the words that what it says leaves: nothing is told by one that is ignored
-  told-said : (when : When) (context : Context) (tlv : TlvAt) (event : Event) (words : TimedRows) → Ok event ≡ said context tlv
+  told-said : (when : Stamp) (context : Context) (tlv : TlvAt) (event : Event) (words : TimedRows) → Ok event ≡ said context tlv
       → after_event mode factor when event words ≡ after_event mode factor when (tells context tlv) words
   told-said when context tlv event words is = by (refuses context.via_v6 tlv) (ignored_for context tlv) refl is
     where

@@ -1,8 +1,8 @@
 -- What is held at a moment, by the last that was said of a key.
 use Rattle.std.proofs.Common.{◌≡◌, ℕ, ◌+◌, ◌*◌, ◌<◌, ◌≤◌, ◌⊎◌, inl, inr, Bool, true, false, cond, List, [], ◌∷◌, ◌++◌, Option, Some, None, refl, sym, ap, subst, ◌∙◌, arith}
-use Rattle.std.specs.Prelude.{◌↔◌, not, ◌&&◌, nat_lt, nat_le, is_none}
+use Rattle.std.specs.Prelude.{◌↔◌, not, nat_lt, nat_le, is_none}
 use Rattle.std.specs.List.{AllByRecursion, Contains, filter}
-use Rattle.std.specs.Option.{option_and_then, option_map}
+use Rattle.std.specs.Option.{option_and_then, option_map, option_map_or}
 use Rattle.std.proofs.lemmas.Bool.Decides.{nat_tests}
 use Rattle.babel_tlv.specs.declared.event.Event.{Event}
 use Rattle.babel_tlv.specs.declared.event.Event.TheVariants as events
@@ -12,8 +12,8 @@ use Rattle.babel_tlv.specs.declared.mode.Mode.{Mode}
 use Rattle.babel_tlv.specs.declared.mode.Mode.TheVariants as modes
 use Rattle.babel_tlv.specs.Route.{RouteKey, Announcement}
 use Rattle.babel_table.specs.Holds.{Names, retracted, same_key}
-use Rattle.babel_table.specs.LastTold.{AllStay, AreHoldRows, HasPassed, IsGone, IsLast, Lasts, SpeaksOf, Stays, retracts_all}
-use Rattle.babel_table.specs.Moments.{AreRowsAt, HoldsAt, Told, When, Word, has_passed, last_word, left_at, times, word, word_after}
+use Rattle.babel_table.specs.LastTold.{AllStay, AreHoldRows, HasExpired, IsGone, IsLast, Lasts, SpeaksOf, Stays, retracts_all}
+use Rattle.babel_table.specs.Moments.{AreRowsAt, HoldsAt, Told, Stamp, Word, has_expired, last_word, left_at, times, word, word_after}
 use Rattle.babel_table.proofs.HoldsLaws.{same-is, same-of, same_key-is}
 use Rattle.babel_table.proofs.MomentLaws.{words_from}
 
@@ -86,7 +86,7 @@ module _ (mode : Mode) (factor : ℕ) (key : RouteKey) where
   abbrev leads : Option Word → List Told → Option Word
   leads old told = words_from mode factor key old told
 
-  next-silent : (old : Option Word) (when : When) (event : Event) → ¬ SpeaksOf key event → word_after mode factor key when event old ≡ old
+  next-silent : (old : Option Word) (when : Stamp) (event : Event) → ¬ SpeaksOf key event → word_after mode factor key when event old ≡ old
   next-silent old when (events.Announce other ann) silent = cond_false (same_key other key) (Some (word when (helds.Route ann))) old (λ e. silent (key-is other key e))
   next-silent old when (events.Retract other) silent = cond_false (same_key other key) (option_map (word when) (retracted mode)) old (λ e. silent (key-is other key e))
   next-silent old when events.RetractAll silent = absurd (silent tt)
@@ -108,10 +108,10 @@ module _ (mode : Mode) (factor : ℕ) (key : RouteKey) where
   leads-spoken : (told : List Told) (one : Told) (last : IsLast (SpeaksOf key) told one) → leads None told ≡ next (leads None last.before) one
   leads-spoken told one last = leads-last (SpeaksOf key) told one last ∙ silent-stands (next (leads None last.before) one) last.after last.none
 
--- ---- what has passed
+-- ---- what has expired
 
-passed-is : (factor moment : ℕ) (when : When) → has_passed factor moment when ≡ true → HasPassed factor moment when
-passed-is factor moment when = by (nat_lt 0 when.interval) refl (nat_le (when.time + factor * when.interval) moment) refl
+expired-is : (factor moment : ℕ) (when : Stamp) → has_expired factor moment when ≡ true → HasExpired factor moment when
+expired-is factor moment when = by (nat_lt 0 when.interval) refl
   where
     lt-true : (a b : ℕ) → nat_lt a b ≡ true → a < b
     lt-true a b e = grind (arith, nat_tests)
@@ -119,14 +119,12 @@ passed-is factor moment when = by (nat_lt 0 when.interval) refl (nat_le (when.ti
     le-true : (a b : ℕ) → nat_le a b ≡ true → a ≤ b
     le-true a b e = grind (arith, nat_tests)
 
-    by : (a : Bool) → nat_lt 0 when.interval ≡ a → (b : Bool) → nat_le (when.time + factor * when.interval) moment ≡ b → a && b ≡ true → HasPassed factor moment when
-    by true e true f is = (lt-true 0 when.interval e, le-true (when.time + factor * when.interval) moment f)
-    by true e false f is = absurd cc
-    by false e true f is = absurd cc
-    by false e false f is = absurd cc
+    by : (a : Bool) → nat_lt 0 when.interval ≡ a → option_map_or (λ end. nat_le end moment) (cond a (Some (when.time + factor * when.interval)) None) false ≡ true → HasExpired factor moment when
+    by true e is = (lt-true 0 when.interval e, le-true (when.time + factor * when.interval) moment is)
+    by false e is = absurd cc
 
-is-passed : (factor moment : ℕ) (when : When) → HasPassed factor moment when → has_passed factor moment when ≡ true
-is-passed factor moment when passed = rw (lt-of 0 when.interval passed.0) (le-of (when.time + factor * when.interval) moment passed.1)
+is-expired : (factor moment : ℕ) (when : Stamp) → HasExpired factor moment when → has_expired factor moment when ≡ true
+is-expired factor moment when expired = rw (lt-of 0 when.interval expired.0) (le-of (when.time + factor * when.interval) moment expired.1)
   where
     lt-of : (a b : ℕ) → a < b → nat_lt a b ≡ true
     lt-of a b lt = grind (arith, nat_tests)
@@ -134,37 +132,37 @@ is-passed factor moment when passed = rw (lt-of 0 when.interval passed.0) (le-of
     le-of : (a b : ℕ) → a ≤ b → nat_le a b ≡ true
     le-of a b le = grind (arith, nat_tests)
 
-not-passed : (factor moment : ℕ) (when : When) → has_passed factor moment when ≡ false → ¬ HasPassed factor moment when
-not-passed factor moment when e passed = let is = is-passed factor moment when passed in cc
+not-expired : (factor moment : ℕ) (when : Stamp) → has_expired factor moment when ≡ false → ¬ HasExpired factor moment when
+not-expired factor moment when e expired = let is = is-expired factor moment when expired in cc
 
-passed-not : (factor moment : ℕ) (when : When) → ¬ HasPassed factor moment when → has_passed factor moment when ≡ false
-passed-not factor moment when lasts = by (has_passed factor moment when) refl
+expired-not : (factor moment : ℕ) (when : Stamp) → ¬ HasExpired factor moment when → has_expired factor moment when ≡ false
+expired-not factor moment when lasts = by (has_expired factor moment when) refl
   where
-    by : (b : Bool) → has_passed factor moment when ≡ b → b ≡ false
-    by true e = absurd (lasts (passed-is factor moment when e))
+    by : (b : Bool) → has_expired factor moment when ≡ b → b ≡ false
+    by true e = absurd (lasts (expired-is factor moment when e))
     by false e = refl
 
 -- ---- what is left
 
--- what is left of what was said, where it has passed and is gone or not
+-- what is left of what was said, where it has expired and is gone or not
 abbrev left : Bool → Bool → Held → Option Held
-left passed gone held = cond (not passed) (Some held) (cond (not gone) (Some helds.Unreachable) None)
+left expired gone held = cond (not expired) (Some held) (cond (not gone) (Some helds.Unreachable) None)
 
 module _ (mode : Mode) (factor moment : ℕ) where
-  left-route : (when : When) (ann other : Announcement) → left_at mode factor moment (word when (helds.Route other)) ≡ Some (helds.Route ann)
-      → (other ≡ ann) × ¬ HasPassed factor moment when
-  left-route when ann other = by (has_passed factor moment when) refl (has_passed (times mode (helds.Route other) * factor) moment when)
+  left-route : (when : Stamp) (ann other : Announcement) → left_at mode factor moment (word when (helds.Route other)) ≡ Some (helds.Route ann)
+      → (other ≡ ann) × ¬ HasExpired factor moment when
+  left-route when ann other = by (has_expired factor moment when) refl (has_expired (times mode (helds.Route other) * factor) moment when)
     where
-      by : (passed : Bool) → has_passed factor moment when ≡ passed → (gone : Bool) → left passed gone (helds.Route other) ≡ Some (helds.Route ann)
-          → (other ≡ ann) × ¬ HasPassed factor moment when
-      by false e gone is = (cc, not-passed factor moment when e)
+      by : (expired : Bool) → has_expired factor moment when ≡ expired → (gone : Bool) → left expired gone (helds.Route other) ≡ Some (helds.Route ann)
+          → (other ≡ ann) × ¬ HasExpired factor moment when
+      by false e gone is = (cc, not-expired factor moment when e)
       by true e true is = absurd cc
       by true e false is = absurd cc
 
-  left-retracted : (when : When) (ann : Announcement) → ¬ (left_at mode factor moment (word when helds.Unreachable) ≡ Some (helds.Route ann))
-  left-retracted when ann = by (has_passed factor moment when) (has_passed (times mode helds.Unreachable * factor) moment when)
+  left-retracted : (when : Stamp) (ann : Announcement) → ¬ (left_at mode factor moment (word when helds.Unreachable) ≡ Some (helds.Route ann))
+  left-retracted when ann = by (has_expired factor moment when) (has_expired (times mode helds.Unreachable * factor) moment when)
     where
-      by : (passed gone : Bool) → ¬ (left passed gone helds.Unreachable ≡ Some (helds.Route ann))
+      by : (expired gone : Bool) → ¬ (left expired gone helds.Unreachable ≡ Some (helds.Route ann))
       by false gone is = cc
       by true true is = cc
       by true false is = cc
@@ -175,7 +173,7 @@ module _ (mode : Mode) (factor moment : ℕ) where
     abbrev now : Option Word → Option Held
     now old = option_and_then (left_at mode factor moment) old
 
-    retracted-no_route : (when : When) (ann : Announcement) (b : Bool) → ¬ (now (cond b None (option_map (word when) (retracted mode))) ≡ Some (helds.Route ann))
+    retracted-no_route : (when : Stamp) (ann : Announcement) (b : Bool) → ¬ (now (cond b None (option_map (word when) (retracted mode))) ≡ Some (helds.Route ann))
     retracted-no_route when ann b = by mode refl b
       where
         by : (m : Mode) → mode ≡ m → (b : Bool) → ¬ (now (cond b None (option_map (word when) (retracted m))) ≡ Some (helds.Route ann))
@@ -183,7 +181,7 @@ module _ (mode : Mode) (factor moment : ℕ) where
         by modes.Plain e false is = cc
         by modes.Hold e false is = left-retracted when ann is
 
-    route-spoken : (ann : Announcement) (when : When) (event : Event) (last : IsLast (SpeaksOf key) told (record { when = when; event = event }))
+    route-spoken : (ann : Announcement) (when : Stamp) (event : Event) (last : IsLast (SpeaksOf key) told (record { when = when; event = event }))
         → now (word_after mode factor key when event (leads mode factor key None last.before)) ≡ Some (helds.Route ann) → Lasts factor moment told key ann
     route-spoken ann when (events.Announce other route) last is =
         let named : other ≡ key = last.is in
@@ -211,7 +209,7 @@ module _ (mode : Mode) (factor moment : ℕ) where
     lasts-held ann lasts =
         let one : Told = record { when = lasts.when; event = events.Announce key ann } in
         let here : next mode factor key (leads mode factor key None lasts.last.before) one ≡ Some (word lasts.when (helds.Route ann)) = rw (key-of key key refl) refl in
-        let stays = passed-not factor moment lasts.when lasts.lasts in
+        let stays = expired-not factor moment lasts.when lasts.lasts in
         ap now (leads-spoken mode factor key told one lasts.last ∙ here) ∙ rw stays refl
 
     pub route-lasts : (ann : Announcement) → HoldsAt mode factor moment told key (helds.Route ann) ↔ Lasts factor moment told key ann
@@ -220,8 +218,8 @@ module _ (mode : Mode) (factor moment : ℕ) where
 -- ---- mode Plain
 
 module _ (factor moment : ℕ) (told : List Told) (key : RouteKey) where
-  no-route : (when : When) (route : Announcement) → ¬ (left_at modes.Plain factor moment (word when (helds.Route route)) ≡ Some helds.Unreachable)
-  no-route when route is = by (has_passed factor moment when) (rw (once factor) at is)
+  no-route : (when : Stamp) (route : Announcement) → ¬ (left_at modes.Plain factor moment (word when (helds.Route route)) ≡ Some helds.Unreachable)
+  no-route when route is = by (has_expired factor moment when) (rw (once factor) at is)
     where
       once : (n : ℕ) → 1 * n ≡ n
       once n = omega arith
@@ -230,7 +228,7 @@ module _ (factor moment : ℕ) (told : List Told) (key : RouteKey) where
       by true is = cc
       by false is = cc
 
-  spoken-routes : (old : Option Word) (when : When) (event : Event) → SpeaksOf key event
+  spoken-routes : (old : Option Word) (when : Stamp) (event : Event) → SpeaksOf key event
       → ¬ (option_and_then (left_at modes.Plain factor moment) (word_after modes.Plain factor key when event old) ≡ Some helds.Unreachable)
   spoken-routes old when (events.Announce other route) speaks is = no-route when route (rw (key-of other key speaks) at is)
   spoken-routes old when (events.Retract other) speaks is = absurd (let none = rw (key-of other key speaks) at is in cc)
@@ -270,37 +268,37 @@ abbrev Fate : Type 0 → Option Held → Type 0
 Fate Stay now = (Stay × ((held : Held) × (now ≡ Some held))) ⊎ (¬ Stay × (now ≡ None))
 
 module _ (factor : ℕ) where
-  word-fate : (moment : ℕ) (when : When) (held : Held) (long : ℕ) → times modes.Hold held * factor ≡ long → (HasPassed long moment when → HasPassed factor moment when)
-      → Fate (¬ HasPassed long moment when) (left_at modes.Hold factor moment (word when held))
-  word-fate moment when held long e once = by (has_passed long moment when) refl
+  word-fate : (moment : ℕ) (when : Stamp) (held : Held) (long : ℕ) → times modes.Hold held * factor ≡ long → (HasExpired long moment when → HasExpired factor moment when)
+      → Fate (¬ HasExpired long moment when) (left_at modes.Hold factor moment (word when held))
+  word-fate moment when held long e once = by (has_expired long moment when) refl
     where
       some : (b : Bool) → (now : Held) × (left b false held ≡ Some now)
       some true = (helds.Unreachable, refl)
       some false = (held, refl)
 
-      by : (b : Bool) → has_passed long moment when ≡ b → Fate (¬ HasPassed long moment when) (left_at modes.Hold factor moment (word when held))
-      by false is = inl (not-passed long moment when is, rw (e, is) (some (has_passed factor moment when)))
+      by : (b : Bool) → has_expired long moment when ≡ b → Fate (¬ HasExpired long moment when) (left_at modes.Hold factor moment (word when held))
+      by false is = inl (not-expired long moment when is, rw (e, is) (some (has_expired factor moment when)))
       by true is =
-          let passed = passed-is long moment when is in
-          let first : has_passed factor moment when ≡ true = is-passed factor moment when (once passed) in
-          inr (λ stays. stays passed, rw (e, is, first) refl)
+          let expired = expired-is long moment when is in
+          let first : has_expired factor moment when ≡ true = is-expired factor moment when (once expired) in
+          inr (λ stays. stays expired, rw (e, is, first) refl)
 
-  event-fate : (moment : ℕ) (when : When) (event : Event) → Fate (¬ IsGone factor moment when event) (left_at modes.Hold factor moment (word when (held_of event)))
+  event-fate : (moment : ℕ) (when : Stamp) (event : Event) → Fate (¬ IsGone factor moment when event) (left_at modes.Hold factor moment (word when (held_of event)))
   event-fate moment when (events.Announce key ann) = word-fate moment when (helds.Route ann) (2 * factor) refl (λ twice. (twice.0, let e = twice.1 in omega arith))
-  event-fate moment when event = word-fate moment when helds.Unreachable factor (omega arith) (λ passed. passed)
+  event-fate moment when event = word-fate moment when helds.Unreachable factor (omega arith) (λ expired. expired)
 
   module _ (key : RouteKey) where
     abbrev words : Option Word → List Told → Option Word
     words old told = leads modes.Hold factor key old told
 
-    named-next : (old : Option Word) (when : When) (event : Event) → Names key event → word_after modes.Hold factor key when event old ≡ Some (word when (held_of event))
+    named-next : (old : Option Word) (when : Stamp) (event : Event) → Names key event → word_after modes.Hold factor key when event old ≡ Some (word when (held_of event))
     named-next old when (events.Announce other ann) names = rw (key-of other key names) refl
     named-next old when (events.Retract other) names = rw (key-of other key names) refl
     named-next old when events.RetractAll names = absurd names
     named-next old when events.Nothing names = absurd names
     named-next old when (events.Ignored reason) names = absurd names
 
-    unnamed-next : (when : When) (event : Event) → ¬ Names key event → word_after modes.Hold factor key when event None ≡ None
+    unnamed-next : (when : Stamp) (event : Event) → ¬ Names key event → word_after modes.Hold factor key when event None ≡ None
     unnamed-next when events.RetractAll unnamed = refl
     unnamed-next when event unnamed = next-silent modes.Hold factor key None when event unnamed
 
@@ -316,7 +314,7 @@ module _ (factor : ℕ) where
       abbrev FateFrom : Told → List Told → Type 0
       FateFrom one later = Fate (AllStay factor moment one (filter (λ one. retracts_all one.event) later)) (left_now (words (Some (said_by one)) later))
 
-      fate-next : (one : Told) (when : When) (event : Event) (later : List Told) → AllByRecursion (λ one. ¬ Names key one.event) later → ¬ Names key event
+      fate-next : (one : Told) (when : Stamp) (event : Event) (later : List Told) → AllByRecursion (λ one. ¬ Names key one.event) later → ¬ Names key event
           → ((first : Told) → FateFrom first later) → FateFrom one (record { when = when; event = event } ∷ later)
       fate-next one when events.RetractAll later none unnamed from = by (event-fate when.time one.when one.event)
         where

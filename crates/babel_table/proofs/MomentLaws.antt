@@ -18,7 +18,7 @@ use Rattle.babel_tlv.specs.declared.mode.Mode.TheVariants as modes
 use Rattle.babel_tlv.specs.Route.{RouteKey}
 use Rattle.babel_tlv.specs.Keys.{key_cmp}
 use Rattle.babel_tlv.proofs.OrderLaws.{key_total}
-use Rattle.babel_table.specs.Moments.{AreRowsAt, Told, When, Word, last_word, left_at, word, word_after}
+use Rattle.babel_table.specs.Moments.{AreRowsAt, Told, Stamp, Word, last_word, left_at, word, word_after}
 use Rattle.babel_table.specs.Rows.{IsRising}
 use Rattle.babel_table.specs.Words.{TimedRows, after_all, after_event, after_told, rows_at, wiped}
 use Rattle.babel_table.proofs.Entries.{lookup-remove, sorted-remove}
@@ -30,7 +30,7 @@ use Rattle.babel_table.proofs.ReplacedLaws.{lookup-replaced, rising-replaced}
 abbrev word_at : TimedRows → RouteKey → Option Word
 word_at words key = lookup (is_at (key_cmp key)) words
 
-rising-event : (mode : Mode) (factor : ℕ) (when : When) (event : Event) (words : TimedRows) → IsRising words → IsRising (after_event mode factor when event words)
+rising-event : (mode : Mode) (factor : ℕ) (when : Stamp) (event : Event) (words : TimedRows) → IsRising words → IsRising (after_event mode factor when event words)
 unfolding IsStrictlySortedBy
 rising-event mode factor when (events.Announce key ann) words rising = sorted-insert key_total key (word when (helds.Route ann)) words rising
 rising-event modes.Plain factor when (events.Retract key) words rising = sorted-remove key_total (is_at (key_cmp key)) words rising
@@ -44,7 +44,7 @@ pub none_either : (b : Bool) (old : Option Word) → old ≡ cond b old old
 none_either true old = refl
 none_either false old = refl
 
-wiped-is : (factor : ℕ) (when : When) (old : Option Word) → option_and_then (wiped factor when) old
+wiped-is : (factor : ℕ) (when : Stamp) (old : Option Word) → option_and_then (wiped factor when) old
     ≡ cond (is_none (option_and_then (left_at modes.Hold factor when.time) old)) None (Some (word when helds.Unreachable))
 wiped-is factor when None = refl
 wiped-is factor when (Some said) = by (left_at modes.Hold factor when.time said)
@@ -53,7 +53,7 @@ wiped-is factor when (Some said) = by (left_at modes.Hold factor when.time said)
     by None = refl
     by (Some held) = refl
 
-at-event : (mode : Mode) (factor : ℕ) (key : RouteKey) (when : When) (event : Event) (words : TimedRows) → IsRising words
+at-event : (mode : Mode) (factor : ℕ) (key : RouteKey) (when : Stamp) (event : Event) (words : TimedRows) → IsRising words
     → word_at (after_event mode factor when event words) key ≡ word_after mode factor key when event (word_at words key)
 at-event mode factor key when (events.Announce other ann) words rising =
     lookup-insert key_total key other (word when (helds.Route ann)) words

@@ -12,11 +12,11 @@ use Rattle.babel_tlv.specs.declared.mode.Mode.TheVariants as modes
 use Rattle.babel_tlv.specs.Route.{RouteKey}
 use Rattle.babel_tlv.specs.Keys.{key_cmp}
 use Rattle.babel_tlv.specs.Pairs.{IsPair}
-use Rattle.babel_table.specs.Live.{AreFirsts, AreKept, Asked, IsInTime, IsKept, Kept, current, kept, kept_at, lasting, left_of, live_rows, passes, word_found}
+use Rattle.babel_table.specs.Live.{AreFirsts, AreKept, Asked, IsInTime, IsKept, Kept, current, kept, kept_at, lasting, left_of, live_rows, is_expired, word_found}
 use Rattle.babel_table.specs.Live.{word_kept, word_of, words_of}
-use Rattle.babel_table.specs.Moments.{When, Word, has_passed, left_at, times, word}
+use Rattle.babel_table.specs.Moments.{Stamp, Word, has_expired, left_at, times, word}
 use Rattle.babel_table.specs.Rows.{IsRising}
-use Rattle.babel_table.specs.Words.{IsMark, TimedRows, Timing, Wiping, first_after, is_route, lasting_words, replaced, rows_at, when_at, with_value}
+use Rattle.babel_table.specs.Words.{IsMark, TimedRows, Timing, Wiping, first_after, is_route, lasting_words, replaced, rows_at, stamp_at, with_value}
 use Rattle.babel_table.proofs.ReplacedLaws.{all-replaced, replaced-insert, replaced-map, replaced-replaced, replaced-same}
 use Rattle.babel_table.proofs.WipeLaws.{le-of}
 
@@ -25,11 +25,11 @@ use Rattle.babel_table.proofs.WipeLaws.{le-of}
 abbrev found_in : Wiping → ℕ → Word → ℕ → Option Word
 found_in wiping factor said mark =
     cond (nat_lt mark wiping.gone) None (option_map (λ (held : Held). word wiping.last helds.Unreachable)
-    (option_and_then (λ (first : When). left_at modes.Hold factor first.time said) (first_after mark wiping.firsts)))
+    (option_and_then (λ (first : Stamp). left_at modes.Hold factor first.time said) (first_after mark wiping.firsts)))
 
 word-same : (old new : Timing) (wipes last mark : ℕ) (said : Kept) → old.runs ≡ true → IsMark old new last mark → said.mark ≤ last → word_of new wipes said ≡ word_of old wipes said
 word-same old new wipes last mark said runs is here =
-    let same : word_kept new said ≡ word_kept old said = ap (λ (w : When). word w said.held) (is.others said.mark here) in
+    let same : word_kept new said ≡ word_kept old said = ap (λ (w : Stamp). word w said.held) (is.others said.mark here) in
     let found : word_found new said ≡ word_found old said =
     ap (λ (w : Wiping). found_in w new.factor (word_kept new said) said.mark) (is.wiping runs)
     ∙ ap (λ (f : ℕ). found_in old.wiping f (word_kept new said) said.mark) is.factor
@@ -46,7 +46,7 @@ pub words-put : {T E : Type 0} (r : Result T E) (old new : Timing) (wipes last m
     → OnOk r (words_of new wipes after ≡ insert_entry key_cmp (words_of old wipes es) k (word old.when h))
 words-put (Ok x) old new wipes last mark es after k h is stands rising are ok runs =
     let now : word_of new wipes (kept h mark) ≡ Some (word old.when h) =
-    ap (λ (b : Bool). cond b (word_found new (kept h mark)) (Some (word_kept new (kept h mark)))) (le-of mark wipes stands) ∙ ap (λ (w : When). Some (word w h)) (is.now runs) in
+    ap (λ (b : Bool). cond b (word_found new (kept h mark)) (Some (word_kept new (kept h mark)))) (le-of mark wipes stands) ∙ ap (λ (w : Stamp). Some (word w h)) (is.now runs) in
     ap (words_of new wipes) ok ∙ replaced-insert (word_of new wipes) es k (kept h mark) (word old.when h) now rising
     ∙ ap (λ (t : TimedRows). insert_entry key_cmp t k (word old.when h)) (words-still old new wipes last mark es runs is are)
 words-put (Err e) old new wipes last mark es after k h is stands rising are ok runs = tt
@@ -71,14 +71,14 @@ marked-firsts old new wipes last mark runs is time near = record {
   });
 }
   where
-    more : (firsts : List (ℕ × When)) → AllByRecursion (λ first. (first.0 < wipes) × (first.0 ≤ last)) firsts → AllByRecursion (λ first. (first.0 < wipes) × (first.0 ≤ mark)) firsts
+    more : (firsts : List (ℕ × Stamp)) → AllByRecursion (λ first. (first.0 < wipes) × (first.0 ≤ last)) firsts → AllByRecursion (λ first. (first.0 < wipes) × (first.0 ≤ mark)) firsts
     more [] all = tt
     more (first ∷ firsts) all = ((all.0.0, omega (arith, all.0.1, is.past)), more firsts all.1)
 
 -- ---- what is left
 
-unreachable-left : (mode : Mode) (factor moment : ℕ) (when : When) (held : Held) → left_at mode factor moment (word when helds.Unreachable) ≡ Some held → held ≡ helds.Unreachable
-unreachable-left mode factor moment when held = by (has_passed factor moment when) (has_passed (times mode helds.Unreachable * factor) moment when)
+unreachable-left : (mode : Mode) (factor moment : ℕ) (when : Stamp) (held : Held) → left_at mode factor moment (word when helds.Unreachable) ≡ Some held → held ≡ helds.Unreachable
+unreachable-left mode factor moment when held = by (has_expired factor moment when) (has_expired (times mode helds.Unreachable * factor) moment when)
   where
     by : (a b : Bool) → cond (not a) (Some helds.Unreachable) (cond (not b) (Some helds.Unreachable) None) ≡ Some held → held ≡ helds.Unreachable
     by false b is = cc
@@ -86,7 +86,7 @@ unreachable-left mode factor moment when held = by (has_passed factor moment whe
     by true true is = absurd cc
 
 left-held : (mode : Mode) (factor moment : ℕ) (said : Word) (held : Held) → left_at mode factor moment said ≡ Some held → (held ≡ said.held) ⊎ (held ≡ helds.Unreachable)
-left-held mode factor moment said held = by (has_passed factor moment said.when) (has_passed (times mode said.held * factor) moment said.when)
+left-held mode factor moment said held = by (has_expired factor moment said.when) (has_expired (times mode said.held * factor) moment said.when)
   where
     by : (a b : Bool) → cond (not a) (Some said.held) (cond (not b) (Some helds.Unreachable) None) ≡ Some held → (held ≡ said.held) ⊎ (held ≡ helds.Unreachable)
     by false b is = inl (let same : held ≡ said.held = cc in same)
@@ -111,7 +111,7 @@ module _ (asked : Asked) where
 
       by : (b : Bool) → nat_lt said.mark asked.wipes ≡ b → option_and_then (λ now. Some (current asked.wipes now)) (kept_at asked said) ≡ left_of asked said
       by true is = each true is (left_of asked said)
-          (λ held gives yes. stale (option_and_then (λ (first : When). left_at modes.Hold asked.timing.factor first.time
+          (λ held gives yes. stale (option_and_then (λ (first : Stamp). left_at modes.Hold asked.timing.factor first.time
           (word_kept asked.timing said)) (first_after said.mark asked.timing.wiping.firsts))
           (nat_lt said.mark asked.timing.wiping.gone) held
           (ap (λ (b : Bool). option_and_then (left_at asked.mode asked.timing.factor asked.time) (cond b (word_found asked.timing said) (Some (word_kept asked.timing said)))) (sym is) ∙ gives))
@@ -120,7 +120,7 @@ module _ (asked : Asked) where
   -- what is left fits its key
   left-is : (said : Kept) (held : Held) → left_of asked said ≡ Some held → (held ≡ said.held) ⊎ (held ≡ helds.Unreachable)
   left-is said held = by (nat_lt said.mark asked.wipes) (nat_lt said.mark asked.timing.wiping.gone)
-      (option_and_then (λ (first : When). left_at modes.Hold asked.timing.factor first.time (word_kept asked.timing said)) (first_after said.mark asked.timing.wiping.firsts))
+      (option_and_then (λ (first : Stamp). left_at modes.Hold asked.timing.factor first.time (word_kept asked.timing said)) (first_after said.mark asked.timing.wiping.firsts))
     where
       by : (stale gone : Bool) (o : Option Held) → option_and_then (left_at asked.mode asked.timing.factor asked.time)
           (cond stale (cond gone None (option_map (λ (h : Held). word asked.timing.wiping.last helds.Unreachable) o)) (Some (word_kept asked.timing said))) ≡ Some held
@@ -155,7 +155,7 @@ module _ (asked : Asked) where
       ∙ replaced-same {P = IsKept last} (λ said. option_and_then (λ now. Some (current asked.wipes now)) (kept_at asked said)) (left_of asked) (λ row fits. left-kept row.1) es are
       ∙ sym (replaced-replaced (word_of asked.timing asked.wipes) (left_at asked.mode asked.timing.factor asked.time) es)
 
-  -- ---- how many have passed
+  -- ---- how many have expired
 
   quiet : (b : Bool) → b && false ≡ false
   quiet true = refl
@@ -165,15 +165,15 @@ module _ (asked : Asked) where
   words es = words_of asked.timing asked.wipes es
 
   abbrev has : Kept → Bool
-  has said = has_passed asked.timing.factor asked.time (when_at asked.timing.stamps said.mark)
+  has said = has_expired asked.timing.factor asked.time (stamp_at asked.timing.stamps said.mark)
 
   abbrev found : Kept → Option Held
-  found said = option_and_then (λ (first : When). left_at modes.Hold asked.timing.factor first.time (word_kept asked.timing said)) (first_after said.mark asked.timing.wiping.firsts)
+  found said = option_and_then (λ (first : Stamp). left_at modes.Hold asked.timing.factor first.time (word_kept asked.timing said)) (first_after said.mark asked.timing.wiping.firsts)
 
   abbrev old_word : Option Held → Option Word
   old_word o = option_map (λ (held : Held). word asked.timing.wiping.last helds.Unreachable) o
 
-  -- so many pass, where the first row passes or not, and this is its word
+  -- so many expire, where the first row does or not, and this is its word
   abbrev Adds : RouteKey × Kept → List (RouteKey × Kept) → Bool → Option Word → Type 0
   Adds e es p o = length (cond (not p) (e ∷ lasting asked es) (lasting asked es)) + length (with_value e.0 o (words es))
       ≡ suc (length es) + length (lasting_words asked.timing.factor asked.time (with_value e.0 o (words es)))
@@ -191,23 +191,23 @@ module _ (asked : Asked) where
   adds-stale e es again false None = omega (arith, again)
   adds-stale e es again false (Some held) = omega (arith, again)
 
-  adds : (e : RouteKey × Kept) (es : List (RouteKey × Kept)) → AddUp es → (b : Bool) → nat_lt e.1.mark asked.wipes ≡ b → Adds e es (passes asked e.1) (word_of asked.timing asked.wipes e.1)
+  adds : (e : RouteKey × Kept) (es : List (RouteKey × Kept)) → AddUp es → (b : Bool) → nat_lt e.1.mark asked.wipes ≡ b → Adds e es (is_expired asked e.1) (word_of asked.timing asked.wipes e.1)
   adds e es again true is =
-      let none : passes asked e.1 ≡ false = ap (λ (b : Bool). is_route e.1.held && (not b && has e.1)) is ∙ quiet (is_route e.1.held) in
+      let none : is_expired asked e.1 ≡ false = ap (λ (b : Bool). is_route e.1.held && (not b && has e.1)) is ∙ quiet (is_route e.1.held) in
       let word_is : word_of asked.timing asked.wipes e.1 ≡ cond (nat_lt e.1.mark asked.timing.wiping.gone) None (old_word (found e.1)) =
       ap (λ (b : Bool). cond b (word_found asked.timing e.1) (Some (word_kept asked.timing e.1))) is in
       subst (λ (p : Bool). Adds e es p (word_of asked.timing asked.wipes e.1)) (sym none)
       (subst (Adds e es false) (sym word_is) (adds-stale e es again (nat_lt e.1.mark asked.timing.wiping.gone) (found e.1)))
   adds e es again false is =
-      let same : passes asked e.1 ≡ is_route e.1.held && has e.1 = ap (λ (b : Bool). is_route e.1.held && (not b && has e.1)) is in
+      let same : is_expired asked e.1 ≡ is_route e.1.held && has e.1 = ap (λ (b : Bool). is_route e.1.held && (not b && has e.1)) is in
       let word_is : word_of asked.timing asked.wipes e.1 ≡ Some (word_kept asked.timing e.1) =
       ap (λ (b : Bool). cond b (word_found asked.timing e.1) (Some (word_kept asked.timing e.1))) is in
       subst (λ (p : Bool). Adds e es p (word_of asked.timing asked.wipes e.1)) (sym same)
       (subst (Adds e es (is_route e.1.held && has e.1)) (sym word_is) (adds-kept e es again (is_route e.1.held && has e.1)))
 
-  pub passed-words : (es : List (RouteKey × Kept)) → AddUp es
-  passed-words [] = refl
-  passed-words (e ∷ es) = adds e es (passed-words es) (nat_lt e.1.mark asked.wipes) refl
+  pub expired-words : (es : List (RouteKey × Kept)) → AddUp es
+  expired-words [] = refl
+  expired-words (e ∷ es) = adds e es (expired-words es) (nat_lt e.1.mark asked.wipes) refl
 
 pub on_ok : {T E : Type 0} (r : Result T E) (P : Type 0) → P → OnOk r P
 on_ok (Ok x) P p = p

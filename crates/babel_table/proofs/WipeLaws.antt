@@ -9,7 +9,7 @@ use Rattle.babel_tlv.specs.declared.held.Held.TheVariants as helds
 use Rattle.babel_tlv.specs.declared.mode.Mode.TheVariants as modes
 use Rattle.babel_tlv.specs.Route.{RouteKey}
 use Rattle.babel_table.specs.Live.{AreFirsts, AreKept, IsKept, Kept, word_found, word_kept, word_of, words_of}
-use Rattle.babel_table.specs.Moments.{When, Word, has_passed, left_at, times, word}
+use Rattle.babel_table.specs.Moments.{Stamp, Word, has_expired, left_at, times, word}
 use Rattle.babel_table.specs.Words.{Timing, Wiping, first_after, is_route, replaced, wiped, wiped_at}
 use Rattle.babel_table.proofs.ReplacedLaws.{replaced-replaced, replaced-same}
 
@@ -27,7 +27,7 @@ le-is a b e = grind (arith, nat_tests)
 
 -- ---- the first one after a mark
 
-first_after-push : (mark last : ℕ) (when : When) (firsts : List (ℕ × When)) → first_after mark (firsts ++ (last, when) ∷ [])
+first_after-push : (mark last : ℕ) (when : Stamp) (firsts : List (ℕ × Stamp)) → first_after mark (firsts ++ (last, when) ∷ [])
     ≡ option_or (first_after mark firsts) (cond (nat_lt last mark) None (Some when))
 first_after-push mark last when [] = refl
 first_after-push mark last when (first ∷ later) = by (first_after-push mark last when later) (nat_lt first.0 mark)
@@ -37,22 +37,22 @@ first_after-push mark last when (first ∷ later) = by (first_after-push mark la
     by again true = again
     by again false = refl
 
-none-past : (mark wipes last : ℕ) (firsts : List (ℕ × When)) → wipes ≤ mark → AllByRecursion (λ first. (first.0 < wipes) × (first.0 ≤ last)) firsts → first_after mark firsts ≡ None
+none-past : (mark wipes last : ℕ) (firsts : List (ℕ × Stamp)) → wipes ≤ mark → AllByRecursion (λ first. (first.0 < wipes) × (first.0 ≤ last)) firsts → first_after mark firsts ≡ None
 none-past mark wipes last [] past all = refl
 none-past mark wipes last (first ∷ later) past all =
     let below : first.0 < mark = omega (arith, all.0.0, past) in
     rw (lt-of first.0 mark below) (none-past mark wipes last later past all.1)
 
-pub past-last : (wipes last : ℕ) (firsts : List (ℕ × When)) → AllByRecursion (λ first. (first.0 < wipes) × (first.0 ≤ last)) firsts → AllByRecursion (λ first. first.0 ≤ last) firsts
+pub past-last : (wipes last : ℕ) (firsts : List (ℕ × Stamp)) → AllByRecursion (λ first. (first.0 < wipes) × (first.0 ≤ last)) firsts → AllByRecursion (λ first. first.0 ≤ last) firsts
 past-last wipes last [] all = tt
 past-last wipes last (first ∷ firsts) all = (all.0.1, past-last wipes last firsts all.1)
 
 -- ---- what is unreachable
 
-unreachable-left : (factor time : ℕ) (when : When) → left_at modes.Hold factor time (word when helds.Unreachable) ≡ cond (has_passed factor time when) None (Some helds.Unreachable)
+unreachable-left : (factor time : ℕ) (when : Stamp) → left_at modes.Hold factor time (word when helds.Unreachable) ≡ cond (has_expired factor time when) None (Some helds.Unreachable)
 unreachable-left factor time when =
     let one : 1 * factor ≡ factor = omega arith in
-    ap (λ (k : ℕ). cond (not (has_passed factor time when)) (Some helds.Unreachable) (cond (not (has_passed k time when)) (Some helds.Unreachable) None)) one ∙ by (has_passed factor time when)
+    ap (λ (k : ℕ). cond (not (has_expired factor time when)) (Some helds.Unreachable) (cond (not (has_expired k time when)) (Some helds.Unreachable) None)) one ∙ by (has_expired factor time when)
   where
     by : (b : Bool) → cond (not b) (Some helds.Unreachable) (cond (not b) (Some helds.Unreachable) None) ≡ cond b None (Some helds.Unreachable)
     by true = refl
@@ -89,22 +89,22 @@ module _ (timing : Timing) (wipes last : ℕ) (are : AreFirsts timing.wiping wip
   fresh-first mark stands here false =
       let none = none-past mark wipes last timing.wiping.firsts stands are.past in
       rw (is_due mark stands here) (first_after-push mark last timing.when timing.wiping.firsts
-      ∙ ap (λ (o : Option When). option_or o (cond (nat_lt last mark) None (Some timing.when))) none
+      ∙ ap (λ (o : Option Stamp). option_or o (cond (nat_lt last mark) None (Some timing.when))) none
       ∙ ap (λ (b : Bool). cond b None (Some timing.when)) (le-of last mark here))
 
   -- what is stale was found first when it was, if what was left then is not gone
-  stale-first : (mark : ℕ) (first : When) → first_after mark timing.wiping.firsts ≡ Some first → first_after mark (wiping_if false).firsts ≡ Some first
+  stale-first : (mark : ℕ) (first : Stamp) → first_after mark timing.wiping.firsts ≡ Some first → first_after mark (wiping_if false).firsts ≡ Some first
   stale-first mark first is = by timing.wiping.due
     where
       by : (due : Bool) → first_after mark (cond due (timing.wiping.firsts ++ (last, timing.when) ∷ []) timing.wiping.firsts) ≡ Some first
-      by true = first_after-push mark last timing.when timing.wiping.firsts ∙ ap (λ (o : Option When). option_or o (cond (nat_lt last mark) None (Some timing.when))) is
+      by true = first_after-push mark last timing.when timing.wiping.firsts ∙ ap (λ (o : Option Stamp). option_or o (cond (nat_lt last mark) None (Some timing.when))) is
       by false = is
 
   abbrev later : Bool → Timing
   later gone = record timing { wiping = wiping_if gone }
 
   abbrev is_gone : Bool
-  is_gone = has_passed timing.factor timing.when.time timing.wiping.last
+  is_gone = has_expired timing.factor timing.when.time timing.wiping.last
 
   abbrev found_now : Word → Option Word
   found_now said = wiped timing.factor timing.when said
@@ -123,14 +123,14 @@ module _ (timing : Timing) (wipes last : ℕ) (are : AreFirsts timing.wiping wip
   fresh-word : (said : Kept) → wipes ≤ said.mark → said.mark ≤ last → (gone : Bool) → word_found (later gone) said ≡ found_now (word_kept timing said)
   fresh-word said stands here gone = rw (fresh-gone said.mark stands gone, fresh-first said.mark stands here gone) refl
 
-  abbrev left_then : Kept → When → Option Held
+  abbrev left_then : Kept → Stamp → Option Held
   left_then said first = left_at modes.Hold timing.factor first.time (word_kept timing said)
 
   -- a word that is stale
   stale-word : (said : Kept) → said.mark < wipes → (gone : Bool) → is_gone ≡ gone → word_found (later gone) said ≡ option_and_then found_now (word_found timing said)
   stale-word said stale true is =
       rw (lt-of said.mark wipes stale) (sym (nothing (nat_lt said.mark timing.wiping.gone)
-      (option_and_then (λ (first : When). left_at modes.Hold timing.factor first.time (word_kept timing said)) (first_after said.mark timing.wiping.firsts))))
+      (option_and_then (λ (first : Stamp). left_at modes.Hold timing.factor first.time (word_kept timing said)) (first_after said.mark timing.wiping.firsts))))
     where
       nothing : (b : Bool) (o : Option Held) → option_and_then found_now (cond b None (option_map (λ (held : Held). word timing.wiping.last helds.Unreachable) o)) ≡ None
       nothing true o = refl
@@ -143,7 +143,7 @@ module _ (timing : Timing) (wipes last : ℕ) (are : AreFirsts timing.wiping wip
       each None = refl
       each (Some held) = sym (still false is)
 
-      by : (b : Bool) → nat_lt said.mark timing.wiping.gone ≡ b → (o : Option When) → first_after said.mark timing.wiping.firsts ≡ o
+      by : (b : Bool) → nat_lt said.mark timing.wiping.gone ≡ b → (o : Option Stamp) → first_after said.mark timing.wiping.firsts ≡ o
           → word_found (later false) said ≡ option_and_then found_now (word_found timing said)
       by true gone o first = rw gone refl
       by false here (Some when) first = rw (here, first, stale-first said.mark when first) (each (left_then said when))
@@ -185,7 +185,7 @@ module _ (timing : Timing) (wipes last : ℕ) (are : AreFirsts timing.wiping wip
           below true = near
           below false = omega (arith, are.below, near)
 
-          some : (o : Option When) (when : When) → o ≡ Some when → is_some o ≡ true
+          some : (o : Option Stamp) (when : Stamp) → o ≡ Some when → is_some o ≡ true
           some o when is = ap is_some is
 
           known : (gone : Bool) (mark : ℕ) → (wiping_if gone).gone ≤ mark → mark < last + 1 → (b : Bool) → nat_lt mark wipes ≡ b → is_some (first_after mark (wiping_if gone).firsts) ≡ true
@@ -193,19 +193,19 @@ module _ (timing : Timing) (wipes last : ℕ) (are : AreFirsts timing.wiping wip
           known true mark from to true is = absurd (omega (arith, from, lt-is mark wipes is))
           known false mark from to true is = by_first (first_after mark timing.wiping.firsts) refl
             where
-              by_first : (o : Option When) → first_after mark timing.wiping.firsts ≡ o → is_some (first_after mark (wiping_if false).firsts) ≡ true
+              by_first : (o : Option Stamp) → first_after mark timing.wiping.firsts ≡ o → is_some (first_after mark (wiping_if false).firsts) ≡ true
               by_first (Some when) first = some _ when (stale-first mark when first)
               by_first None first =
                   let yes : is_some (first_after mark timing.wiping.firsts) ≡ true = are.known mark from (lt-is mark wipes is) in
                   let no : is_some (first_after mark timing.wiping.firsts) ≡ false = ap is_some first in
                   absurd cc
 
-          one_past : (firsts : List (ℕ × When)) → AllByRecursion (λ first. (first.0 < wipes) × (first.0 ≤ last)) firsts
+          one_past : (firsts : List (ℕ × Stamp)) → AllByRecursion (λ first. (first.0 < wipes) × (first.0 ≤ last)) firsts
               → AllByRecursion (λ first. (first.0 < last + 1) × (first.0 ≤ last)) firsts
           one_past [] all = tt
           one_past (first ∷ firsts) all = ((omega (arith, all.0.1), all.0.1), one_past firsts all.1)
 
-          pushed : (firsts : List (ℕ × When)) → AllByRecursion (λ first. (first.0 < last + 1) × (first.0 ≤ last)) firsts
+          pushed : (firsts : List (ℕ × Stamp)) → AllByRecursion (λ first. (first.0 < last + 1) × (first.0 ≤ last)) firsts
               → AllByRecursion (λ first. (first.0 < last + 1) × (first.0 ≤ last)) (firsts ++ (last, timing.when) ∷ [])
           pushed [] all = ((omega arith, omega arith), tt)
           pushed (first ∷ firsts) all = (all.0, pushed firsts all.1)

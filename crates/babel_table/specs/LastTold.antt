@@ -10,7 +10,7 @@ use Rattle.babel_tlv.specs.declared.held.Held.TheVariants as helds
 use Rattle.babel_tlv.specs.declared.mode.Mode.TheVariants as modes
 use Rattle.babel_tlv.specs.Route.{RouteKey, Announcement}
 use Rattle.babel_table.specs.Holds.{Names}
-use Rattle.babel_table.specs.Moments.{AreRowsAt, HoldsAt, Told, When}
+use Rattle.babel_table.specs.Moments.{AreRowsAt, HoldsAt, Told, Stamp}
 
 -- the event announces or retracts the key, or retracts all
 abbrev pub SpeaksOf : RouteKey → Event → Type 0
@@ -25,18 +25,17 @@ pub record IsLast (Is : Event → Type 0) (told : List Told) (word : Told) : Typ
   pub is : Is word.event
   pub none : AllByRecursion (λ later. ¬ Is later.event) after
 
--- at the moment so many times the Interval have passed
-abbrev pub HasPassed : ℕ → ℕ → When → Type 0
-HasPassed factor moment when =
+-- this has expired at the moment: so many times the Interval have passed
+abbrev pub HasExpired : ℕ → ℕ → Stamp → Type 0
+HasExpired factor moment when =
     (0 < when.interval) × (when.time + factor * when.interval ≤ moment)
 
--- the last that was told of the key announces this, at a time from which so many times its Interval
--- have not passed
+-- the last that was told of the key announces this, and has not expired
 pub record Lasts (factor moment : ℕ) (told : List Told) (key : RouteKey)
     (ann : Announcement) : Type 0 where
-  pub when : When
+  pub when : Stamp
   pub last : IsLast (SpeaksOf key) told (record { when = when; event = events.Announce key ann })
-  pub lasts : ¬ HasPassed factor moment when
+  pub lasts : ¬ HasExpired factor moment when
 
 -- in mode Plain a route is held at the moment where it lasts, and nothing else is
 abbrev pub PlainIsLast : Type 0
@@ -47,11 +46,11 @@ PlainIsLast = (factor moment : ℕ) (told : List Told) (key : RouteKey)
 
 -- ---- mode Hold
 
--- RFC 8966, 3.5.3: a route that has passed is unreachable, and gone after as long again; what was
--- retracted is gone once it has passed
-abbrev pub IsGone : ℕ → ℕ → When → Event → Type 0
-IsGone factor moment when (events.Announce key ann) = HasPassed (2 * factor) moment when
-IsGone factor moment when event = HasPassed factor moment when
+-- RFC 8966, 3.5.3: a route that has expired is unreachable, and gone after as long again; what was
+-- retracted is gone once it has expired
+abbrev pub IsGone : ℕ → ℕ → Stamp → Event → Type 0
+IsGone factor moment when (events.Announce key ann) = HasExpired (2 * factor) moment when
+IsGone factor moment when event = HasExpired factor moment when
 
 -- this is not gone when the next of these comes, nor any of them when the one after it comes, nor
 -- the last at the moment

@@ -1,9 +1,9 @@
 -- What was said when, and what is held at a moment: RFC 8966, 3.5.4, 4.6.9 and appendix B. A time
 -- is in nanoseconds since the start of 1970. Who uses no times needs none of this page.
-use Rattle.std.specs.Prelude.{◌≡◌, ℕ, ◌+◌, ◌*◌, Bool, not, ◌&&◌, nat_lt, nat_le, if◌then◌else◌}
+use Rattle.std.specs.Prelude.{◌≡◌, ℕ, ◌+◌, ◌*◌, Bool, false, not, nat_lt, nat_le, if◌then◌else◌}
 use Rattle.std.specs.Prelude.{List, [], ◌∷◌, map, slice_index, fold, Option, Some, None, is_none}
 use Rattle.std.specs.List.{Contains, flat_map}
-use Rattle.std.specs.Option.{option_and_then, option_map}
+use Rattle.std.specs.Option.{option_and_then, option_map, option_map_or}
 use Rattle.babel_prefix.specs.Address.{Address}
 use Rattle.babel_tlv.specs.declared.event.Event.{Event}
 use Rattle.babel_tlv.specs.declared.event.Event.TheVariants as events
@@ -28,13 +28,13 @@ abbrev pub update_interval : List ℕ → ℕ
 update_interval body = slice_index body 4 * 256 + slice_index body 5
 
 -- when something was said, and the Interval that was said with it
-pub record When : Type 0 where
+pub record Stamp : Type 0 where
   pub time : ℕ
   pub interval : ℕ
 
 -- what a TLV told, and when
 pub record Told : Type 0 where
-  pub when : When
+  pub when : Stamp
   pub event : Event
 
 -- what a TLV that came at this time tells in its context
@@ -65,23 +65,28 @@ told_of start all = flat_map (λ heard. told_in start heard.time heard.packets) 
 
 -- ---- what is held at a moment
 
--- RFC 8966, appendix B: whether at the moment so many times the Interval have passed. The factor is
--- in ten-millionths and an Interval in hundredths of a second, so their product is in nanoseconds.
--- An Interval of 0, which 4.6.9 forbids, does not pass (this project's own).
-abbrev pub has_passed : ℕ → ℕ → When → Bool
-has_passed factor moment when =
-    nat_lt 0 when.interval && nat_le (when.time + factor * when.interval) moment
+-- RFC 8966, appendix B: when what was said then ends, so many times its Interval later. The factor
+-- is in ten-millionths and an Interval in hundredths of a second, so their product is in
+-- nanoseconds. With an Interval of 0, which 4.6.9 forbids, it does not end (this project's own).
+abbrev pub end_after : ℕ → Stamp → Option ℕ
+end_after factor when =
+    if nat_lt 0 when.interval then Some (when.time + factor * when.interval) else None
+
+-- whether it has expired at the moment
+abbrev pub has_expired : ℕ → ℕ → Stamp → Bool
+has_expired factor moment when =
+    option_map_or (λ end. nat_le end moment) (end_after factor when) false
 
 -- what was said of a key, a route or that it is unreachable, and when
 pub record Word : Type 0 where
   pub held : Held
-  pub when : When
+  pub when : Stamp
 
-abbrev pub word : When → Held → Word
+abbrev pub word : Stamp → Held → Word
 word when held = record { held = held; when = when }
 
 -- after how many times that long nothing is left of a word. RFC 8966, 3.5.3: a route that has
--- passed is unreachable, and gone after as long again; in mode Plain it is gone at once
+-- expired is unreachable, and gone after as long again; in mode Plain it is gone at once
 abbrev pub times : Mode → Held → ℕ
 times modes.Hold (helds.Route ann) = 2
 times mode held = 1
@@ -89,13 +94,13 @@ times mode held = 1
 -- what is left of a word at the moment
 abbrev pub left_at : Mode → ℕ → ℕ → Word → Option Held
 left_at mode factor moment said =
-    if not (has_passed factor moment said.when) then Some said.held
-    else if not (has_passed (times mode said.held * factor) moment said.when)
+    if not (has_expired factor moment said.when) then Some said.held
+    else if not (has_expired (times mode said.held * factor) moment said.when)
     then Some helds.Unreachable else None
 
 -- RFC 8966, 4.6.9: the word on a key after an event, if this was the word before it. A wildcard
 -- retraction is of what is not gone when it comes; what is gone it does not bring back
-abbrev pub word_after : Mode → ℕ → RouteKey → When → Event → Option Word → Option Word
+abbrev pub word_after : Mode → ℕ → RouteKey → Stamp → Event → Option Word → Option Word
 word_after mode factor key when (events.Announce other ann) old =
     if same_key other key then Some (word when (helds.Route ann)) else old
 word_after mode factor key when (events.Retract other) old =

@@ -17,7 +17,7 @@ use Rattle.babel_tlv.specs.declared.start.Start.{Start}
 use Rattle.babel_tlv.specs.Framing.{TlvAt, ArePackets, packet_octets}
 use Rattle.babel_tlv.specs.Route.{RouteKey}
 use Rattle.babel_tlv.specs.Keys.{key_cmp}
-use Rattle.babel_table.specs.Moments.{AreRowsAt, Told, When, Word, has_passed, left_at, told_in}
+use Rattle.babel_table.specs.Moments.{AreRowsAt, Told, Stamp, Word, has_expired, left_at, told_in}
 use Rattle.babel_table.specs.Moments.{update_interval, word}
 
 -- ---- stamps
@@ -26,42 +26,42 @@ use Rattle.babel_table.specs.Moments.{update_interval, word}
 -- word before it; whether a word came since the last one; what words with marks below `gone` left
 -- is gone; and the last one
 pub record Wiping : Type 0 where
-  pub firsts : List (ℕ × When)
+  pub firsts : List (ℕ × Stamp)
   pub due : Bool
   pub gone : ℕ
-  pub last : When
+  pub last : Stamp
 
 -- whether times are kept, how long words last, when the next one comes, the stamps so far, and the
 -- retractions of all
 pub record Timing : Type 0 where
   pub runs : Bool
   pub factor : ℕ
-  pub when : When
-  pub stamps : List When
+  pub when : Stamp
+  pub stamps : List Stamp
   pub wiping : Wiping
 
-abbrev pub no_when : When
-no_when = record { time = 0; interval = 0 }
+abbrev pub no_stamp : Stamp
+no_stamp = record { time = 0; interval = 0 }
 
 abbrev pub no_wiping : Wiping
-no_wiping = record { firsts = []; due = false; gone = 1; last = no_when }
+no_wiping = record { firsts = []; due = false; gone = 1; last = no_stamp }
 
 -- the first retraction of all after a mark
-abbrev pub first_after : ℕ → List (ℕ × When) → Option When
+abbrev pub first_after : ℕ → List (ℕ × Stamp) → Option Stamp
 first_after mark [] = None
 first_after mark (first ∷ later) =
     if nat_lt first.0 mark then first_after mark later else Some first.1
 
 -- that, if what it left is still there at the moment
-abbrev pub found_at : Wiping → ℕ → ℕ → ℕ → Option When
+abbrev pub found_at : Wiping → ℕ → ℕ → ℕ → Option Stamp
 found_at wiping factor moment mark =
-    if nat_lt mark wiping.gone || has_passed factor moment wiping.last then None
+    if nat_lt mark wiping.gone || has_expired factor moment wiping.last then None
     else first_after mark wiping.firsts
 
 -- the stamp of a mark
-abbrev pub when_at : List When → ℕ → When
-when_at stamps zero = no_when
-when_at stamps (suc place) = slice_index_or stamps place no_when
+abbrev pub stamp_at : List Stamp → ℕ → Stamp
+stamp_at stamps zero = no_stamp
+stamp_at stamps (suc place) = slice_index_or stamps place no_stamp
 
 -- this is the mark of a word that comes now, where that before it is the last
 pub record IsMark (old new : Timing) (last mark : ℕ) : Type 0 where
@@ -73,24 +73,24 @@ pub record IsMark (old new : Timing) (last mark : ℕ) : Type 0 where
   pub near : mark ≤ last + 1
   pub fresh : old.runs ≡ true → old.wiping.due ≡ false → mark ≡ last + 1
   pub counted : old.runs ≡ true → mark ≡ length new.stamps
-  pub now : old.runs ≡ true → when_at new.stamps mark ≡ old.when
-  pub others : (other : ℕ) → other ≤ last → when_at new.stamps other ≡ when_at old.stamps other
+  pub now : old.runs ≡ true → stamp_at new.stamps mark ≡ old.when
+  pub others : (other : ℕ) → other ≤ last → stamp_at new.stamps other ≡ stamp_at old.stamps other
 
 -- where what the last one left is gone when another one comes, so is all that was said before it:
 -- what has a mark below the last wipe
 abbrev pub unless_gone : ℕ → ℕ → ℕ → Wiping → Wiping
 unless_gone factor wipes time old =
-    if has_passed factor time old.last then record old { firsts = []; gone = wipes } else old
+    if has_expired factor time old.last then record old { firsts = []; gone = wipes } else old
 
 -- the first one after words with marks up to this, if a word came since the last one
-abbrev pub with_first : ℕ → When → Wiping → Wiping
+abbrev pub with_first : ℕ → Stamp → Wiping → Wiping
 with_first mark when old = record old {
   firsts = if old.due then old.firsts ++ (mark, when) ∷ [] else old.firsts;
   due = false;
 }
 
 -- one more, where words have marks up to the last
-abbrev pub wiped_at : ℕ → ℕ → ℕ → When → Wiping → Wiping
+abbrev pub wiped_at : ℕ → ℕ → ℕ → Stamp → Wiping → Wiping
 wiped_at factor wipes last when old =
     record (with_first last when (unless_gone factor wipes when.time old)) { last = when }
 
@@ -110,12 +110,12 @@ replaced f [] = []
 replaced f (row ∷ rows) = with_value row.0 (f row.1) (replaced f rows)
 
 -- in mode Hold, the word after a retraction of all: none where the one before it is gone by then
-abbrev pub wiped : ℕ → When → Word → Option Word
+abbrev pub wiped : ℕ → Stamp → Word → Option Word
 wiped factor when said =
     option_map (λ held. word when helds.Unreachable) (left_at modes.Hold factor when.time said)
 
 -- the words after what was told
-abbrev pub after_event : Mode → ℕ → When → Event → TimedRows → TimedRows
+abbrev pub after_event : Mode → ℕ → Stamp → Event → TimedRows → TimedRows
 after_event mode factor when (events.Announce key ann) words =
     insert_entry key_cmp words key (word when (helds.Route ann))
 after_event modes.Plain factor when (events.Retract key) words =
@@ -157,10 +157,10 @@ abbrev pub is_route : Held → Bool
 is_route (helds.Route ann) = true
 is_route helds.Unreachable = false
 
--- the words but those of routes that have passed
+-- the words but those of routes that have expired
 abbrev pub lasting_words : ℕ → ℕ → TimedRows → TimedRows
 lasting_words factor moment words =
-    filter (λ row. not (is_route row.1.held && has_passed factor moment row.1.when)) words
+    filter (λ row. not (is_route row.1.held && has_expired factor moment row.1.when)) words
 
 -- the rows at a moment
 abbrev pub rows_at : Mode → ℕ → ℕ → TimedRows → List (RouteKey × Held)

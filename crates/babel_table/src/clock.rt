@@ -3,8 +3,9 @@ ghost use Rattle.std.specs.Prelude.{◌≡◌, ◌<◌, ◌+◌, ◌^◌, true, 
 ghost use Rattle.std.specs.Prelude.{◌≤◌, ◌*◌, if◌then◌else◌};
 ghost use Rattle.std.specs.List.{AllByRecursion};
 ghost use Rattle.std.specs.Option.{option_map};
-ghost use Rattle.babel_table.specs.Moments.{has_passed, update_interval};
-ghost use Rattle.babel_table.specs.Words.{IsMark, found_at, no_when, no_wiping, when_at, wiped_at};
+ghost use Rattle.babel_table.specs.Moments.{has_expired, update_interval};
+ghost use Rattle.babel_table.specs.Words.{IsMark, found_at, no_stamp, no_wiping, stamp_at};
+ghost use Rattle.babel_table.specs.Words.{wiped_at};
 
 use crate::stamp::Stamp;
 use crate::wipes::Wipes;
@@ -29,7 +30,7 @@ pub struct Clock {
 
 impl Model for Clock {
     ghost use Rattle.std.specs.Prelude.{◌≡◌, ◌<◌, ◌^◌, true, length};
-    ghost use Rattle.babel_table.specs.Words.{Timing, when_at};
+    ghost use Rattle.babel_table.specs.Words.{Timing, stamp_at};
 
     ghost Value = { Timing };
 
@@ -42,7 +43,7 @@ impl Model for Clock {
     } };
 
     ghost invariant = { λ c. (c.time < 2 ^ 96) × (c.is_stamped ≡ true
-        → (c.wipes.due ≡ true) × (when_at c.stamps.items (length c.stamps.items)
+        → (c.wipes.due ≡ true) × (stamp_at c.stamps.items (length c.stamps.items)
         ≡ record { time = c.time; interval = c.interval })) };
 }
 
@@ -53,7 +54,7 @@ impl Clock {
         ensures { result ≡ record {
           runs = is_running;
           factor = factor;
-          when = no_when;
+          when = no_stamp;
           stamps = [];
           wiping = no_wiping;
         } }
@@ -133,10 +134,10 @@ impl Clock {
         }
     }
 
-    /// Whether for a word with this mark what it lasts has passed at the moment, or twice as long.
-    pub fn has_passed(&self, mark: u64, is_twice: bool, moment: u128) -> bool
-        ensures { result ≡ has_passed (if is_twice then 2 * self.now.factor else self.now.factor)
-            moment (when_at self.now.stamps mark) }
+    /// Whether a word with this mark has expired at the moment, or would after twice as long.
+    pub fn has_expired(&self, mark: u64, is_twice: bool, moment: u128) -> bool
+        ensures { result ≡ has_expired (if is_twice then 2 * self.now.factor else self.now.factor)
+            moment (stamp_at self.now.stamps mark) }
     {
         if mark == 0 {
             return false;
@@ -144,7 +145,7 @@ impl Clock {
         let once = u128::from(self.factor);
         let factor = if is_twice { 2 * once } else { once };
         match self.stamps.get(mark as usize - 1) {
-            Some(stamp) => stamp.has_passed(factor, moment),
+            Some(stamp) => stamp.has_expired(factor, moment),
             None => false,
         }
     }

@@ -9,7 +9,7 @@ ghost use Rattle.std.specs.Map.{keys_of, lookup, remove_entry};
 ghost use Rattle.babel_tlv.specs.Keys.{key_cmp};
 ghost use Rattle.babel_table.specs.BestMatch.{IsBestMatch};
 ghost use Rattle.babel_table.specs.Compact.{CanKeep, address_in};
-ghost use Rattle.babel_table.specs.Live.{kept, kept_at, lasting, left_of, live_rows, passes};
+ghost use Rattle.babel_table.specs.Live.{kept, kept_at, lasting, left_of, live_rows, is_expired};
 ghost use Rattle.babel_table.specs.Live.{what_is_left};
 ghost use Rattle.babel_table.specs.Lookup.{IsBetter};
 ghost use Rattle.babel_table.specs.Rows.{IsRising};
@@ -228,12 +228,12 @@ impl<W: Word, H: Hop> FamilyRows<W, H> {
         self.count = 0;
     }
 
-    /// For how many keys there is a route that has passed at the moment.
-    pub fn count_passed(&self, moment: &Moment<'_>) -> usize
+    /// For how many keys there is a route that has expired at the moment.
+    pub fn count_expired(&self, moment: &Moment<'_>) -> usize
         ensures count { result + length (lasting moment.now self.now) ≡ length self.now }
         ensures small { result < 2 ^ 63 }
     {
-        count_passed(&self.rows, moment)
+        count_expired(&self.rows, moment)
     }
 
     /// Keeps what is left at the moment.
@@ -295,13 +295,13 @@ fn best_standing<W: Word, H: Hop>(
     }
 }
 
-/// In how many rows a route was said that has passed at the moment.
-fn count_passed<W: Word, H: Hop>(rows: &[WordRow<W, H>], moment: &Moment<'_>) -> usize
-    ensures { result ≡ said_count (passes moment.now) rows.now }
+/// In how many rows a route was said that has expired at the moment.
+fn count_expired<W: Word, H: Hop>(rows: &[WordRow<W, H>], moment: &Moment<'_>) -> usize
+    ensures { result ≡ said_count (is_expired moment.now) rows.now }
 {
     let mut count = 0;
     for row in rows {
-        count += usize::from(has_passed(&row.1, moment));
+        count += usize::from(has_expired(&row.1, moment));
     }
     count
 }
@@ -357,12 +357,12 @@ fn retract<H: Hop>(said: &mut Option<Stored<H>>)
     }
 }
 
-/// Whether a route was said, and has passed at the moment.
-fn has_passed<H: Hop>(said: &Option<Stored<H>>, moment: &Moment<'_>) -> bool
-    ensures { result ≡ is_said (passes moment.now) said.now }
+/// Whether a route was said, and has expired at the moment.
+fn has_expired<H: Hop>(said: &Option<Stored<H>>, moment: &Moment<'_>) -> bool
+    ensures { result ≡ is_said (is_expired moment.now) said.now }
 {
     match said {
-        Some(stored) => stored.has_passed(moment),
+        Some(stored) => stored.has_expired(moment),
         None => false,
     }
 }

@@ -106,11 +106,11 @@ impl KeptRows {
         self.v6.clear();
     }
 
-    /// For how many keys there is a route that has passed at the moment.
-    pub fn count_passed(&self, moment: &Moment<'_>) -> usize
+    /// For how many keys there is a route that has expired at the moment.
+    pub fn count_expired(&self, moment: &Moment<'_>) -> usize
         ensures { result + length (lasting moment.now self.now) ≡ length self.now }
     {
-        self.v4.count_passed(moment) + self.v6.count_passed(moment)
+        self.v4.count_expired(moment) + self.v6.count_expired(moment)
     }
 
     /// Keeps what is left at the moment.

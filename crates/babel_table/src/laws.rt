@@ -43,12 +43,12 @@ pub fn words_are_held()
     ensures { WordsAreHeld }
 {}
 
-/// In mode Plain a route is held at a moment where it was announced last and has not passed.
+/// In mode Plain a route is held at a moment where it was announced last and has not expired.
 pub fn plain_is_last()
     ensures { PlainIsLast }
 {}
 
-/// In mode Hold a route is held at a moment where it was announced last and has not passed, and a
+/// In mode Hold a route is held at a moment where it was announced last and has not expired, and a
 /// key is gone where something that was said of it was gone when the next came, or at the moment.
 pub fn hold_is_last()
     ensures { HoldIsLast }

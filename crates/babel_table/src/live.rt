@@ -14,7 +14,7 @@ ghost use Rattle.babel_table.specs.Rows.{entries_of};
 ghost use Rattle.babel_table.specs.TableRows.{AreRows};
 ghost use Rattle.babel_table.specs.Feeding.{Follows, IsRefused};
 ghost use Rattle.babel_table.specs.Moments.{update_interval, word};
-ghost use Rattle.babel_table.specs.Words.{after_event, lasting_words, no_when, replaced, rows_at};
+ghost use Rattle.babel_table.specs.Words.{after_event, lasting_words, no_stamp, replaced, rows_at};
 ghost use Rattle.babel_table.specs.Words.{wiped};
 
 use crate::clock::Clock;
@@ -72,7 +72,7 @@ impl LiveRows {
           rows = [];
           runs = false;
           factor = 0;
-          when = no_when;
+          when = no_stamp;
           words = [];
         } }
     {
@@ -96,7 +96,7 @@ impl LiveRows {
           rows = [];
           runs = true;
           factor = factor;
-          when = no_when;
+          when = no_stamp;
           words = [];
         } }
     {
@@ -197,13 +197,13 @@ impl LiveRows {
         let _ = &self.mode;
     }
 
-    /// How many routes have passed at the moment.
-    pub fn count_passed(&self, time: u128) -> usize
+    /// How many routes have expired at the moment.
+    pub fn count_expired(&self, time: u128) -> usize
         ensures { result + length (lasting_words self.now.factor time self.now.words)
             ≡ length self.now.words }
     {
         let moment = Moment::new(&self.clock, self.mode, self.wipes, time);
-        self.kept.count_passed(&moment)
+        self.kept.count_expired(&moment)
     }
 
     /// Holds what is left at the moment.

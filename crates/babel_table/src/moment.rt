@@ -4,8 +4,8 @@ ghost use Rattle.babel_tlv.specs.declared.held.Held.{Held};
 ghost use Rattle.babel_tlv.specs.declared.held.Held.TheVariants as helds;
 ghost use Rattle.babel_table.specs.Live.{is_standing, kept, left_of, word_kept};
 ghost use Rattle.babel_table.specs.Live.{what_is_left};
-ghost use Rattle.babel_table.specs.Moments.{has_passed, left_at, times};
-ghost use Rattle.babel_table.specs.Words.{is_route, when_at};
+ghost use Rattle.babel_table.specs.Moments.{has_expired, left_at, times};
+ghost use Rattle.babel_table.specs.Words.{is_route, stamp_at};
 
 use crate::clock::Clock;
 use babel_tlv::Mode;
@@ -41,7 +41,7 @@ impl Left {
 pub struct Moment<'a> {
     /// The stamps by which words are marked.
     clock: &'a Clock,
-    /// What is left of a route that has passed.
+    /// What is left of a route that has expired.
     mode: Mode,
     /// Words with marks below this were said before all was retracted.
     wipes: u64,
@@ -80,13 +80,13 @@ impl<'a> Moment<'a> {
         }
     }
 
-    /// Whether a word with this mark is not stale, and has passed.
-    pub fn has_passed(&self, mark: u64) -> bool
+    /// Whether a word with this mark is not stale, and has expired.
+    pub fn has_expired(&self, mark: u64) -> bool
         ensures { result ≡ is_standing self.now mark
-            && has_passed self.now.timing.factor self.now.time
-            (when_at self.now.timing.stamps mark) }
+            && has_expired self.now.timing.factor self.now.time
+            (stamp_at self.now.timing.stamps mark) }
     {
-        mark >= self.wipes && self.clock.has_passed(mark, false, self.time)
+        mark >= self.wipes && self.clock.has_expired(mark, false, self.time)
     }
 
     /// What is left of a word with this mark, which announces a route or not.
@@ -119,11 +119,11 @@ impl<'a> Moment<'a> {
             ≡ left_at mode self.now.timing.factor time
             (word_kept self.now.timing (kept held mark)) }
     {
-        if !self.clock.has_passed(mark, false, time) {
+        if !self.clock.has_expired(mark, false, time) {
             Left::All
         } else if self
             .clock
-            .has_passed(mark, lasts_twice(mode, announces), time)
+            .has_expired(mark, lasts_twice(mode, announces), time)
         {
             Left::Nothing
         } else {

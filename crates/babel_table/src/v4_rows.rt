@@ -140,15 +140,15 @@ impl V4Rows {
         self.narrow.clear();
     }
 
-    /// For how many keys there is a route that has passed at the moment.
-    pub fn count_passed(&self, moment: &Moment<'_>) -> usize
+    /// For how many keys there is a route that has expired at the moment.
+    pub fn count_expired(&self, moment: &Moment<'_>) -> usize
         ensures count { result + length (lasting moment.now self.now) ≡ length self.now }
         ensures small { result < 2 ^ 63 }
     {
         if self.is_wide {
-            self.wide.count_passed(moment)
+            self.wide.count_expired(moment)
         } else {
-            self.narrow.count_passed(moment)
+            self.narrow.count_expired(moment)
         }
     }
 

@@ -3,7 +3,7 @@ ghost use Rattle.std.specs.Prelude.{nat_lt};
 ghost use Rattle.std.specs.List.{AllByRecursion};
 ghost use Rattle.std.specs.List.Sorted.{IsNonDecreasingBy, IsPartitionPoint};
 ghost use Rattle.std.specs.Option.{option_map};
-ghost use Rattle.babel_table.specs.Moments.{When};
+ghost use Rattle.babel_table.specs.Moments.{Stamp as Said};
 ghost use Rattle.babel_table.specs.Words.{first_after, found_at, no_wiping, unless_gone, wiped_at};
 ghost use Rattle.babel_table.specs.Words.{with_first};
 
@@ -35,7 +35,7 @@ impl Model for Wipes {
     ghost use Rattle.std.specs.Prelude.{◌≡◌, ◌<◌, ℕ, true, vec_len};
     ghost use Rattle.std.specs.List.Sorted.{IsNonDecreasingBy};
     ghost use Rattle.std.specs.Vec.{vec_capacity};
-    ghost use Rattle.babel_table.specs.Moments.{When};
+    ghost use Rattle.babel_table.specs.Moments.{Stamp as Said};
     ghost use Rattle.babel_table.specs.Words.{Wiping};
 
     ghost Value = { Wiping };
@@ -48,7 +48,7 @@ impl Model for Wipes {
     } };
 
     ghost invariant = { λ w. (w.is_due ≡ true → vec_len w.firsts < vec_capacity w.firsts)
-        × IsNonDecreasingBy (λ (first : ℕ × When). first.0) w.firsts.items };
+        × IsNonDecreasingBy (λ (first : ℕ × Said). first.0) w.firsts.items };
 }
 
 impl Wipes {
@@ -94,7 +94,7 @@ impl Wipes {
     fn drop_gone(&mut self, factor: u64, wipes: u64, time: u128)
         ensures { self.new ≡ unless_gone factor wipes time self.old }
     {
-        if self.last.has_passed(u128::from(factor), time) {
+        if self.last.has_expired(u128::from(factor), time) {
             self.firsts.clear();
             self.gone = wipes;
         }
@@ -120,7 +120,7 @@ impl Wipes {
     pub fn found(&self, mark: u64, factor: u64, moment: u128) -> Option<u128>
         ensures { result ≡ option_map (λ when. when.time) (found_at self.now factor moment mark) }
     {
-        if mark < self.gone || self.last.has_passed(u128::from(factor), moment) {
+        if mark < self.gone || self.last.has_expired(u128::from(factor), moment) {
             return None;
         }
         first_after(&self.firsts, mark)
@@ -129,7 +129,7 @@ impl Wipes {
 
 /// When the first one came after a word with this mark.
 fn first_after(firsts: &[Wipe], mark: u64) -> Option<u128>
-    requires { IsNonDecreasingBy (λ (first : ℕ × When). first.0) firsts.now }
+    requires { IsNonDecreasingBy (λ (first : ℕ × Said). first.0) firsts.now }
     ensures { result ≡ option_map (λ when. when.time) (first_after mark firsts.now) }
 {
     match firsts.get(place_after(firsts, mark)) {
@@ -140,7 +140,7 @@ fn first_after(firsts: &[Wipe], mark: u64) -> Option<u128>
 
 /// How many of these, in order, came after words with marks below this alone.
 fn place_after(firsts: &[Wipe], mark: u64) -> usize
-    requires { IsNonDecreasingBy (λ (first : ℕ × When). first.0) firsts.now }
+    requires { IsNonDecreasingBy (λ (first : ℕ × Said). first.0) firsts.now }
     ensures { IsPartitionPoint (λ first. nat_lt first.0 mark ≡ true)
         (λ first. nat_lt first.0 mark ≡ false) firsts.now result }
 {

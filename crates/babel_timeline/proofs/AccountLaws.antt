@@ -20,34 +20,34 @@ use Rattle.babel_tlv.specs.declared.held.Held.TheVariants as helds
 use Rattle.babel_tlv.specs.declared.mode.Mode.TheVariants as modes
 use Rattle.babel_tlv.specs.Route.{Announcement}
 use Rattle.babel_tlv.specs.Keys.{key_cmp}
-use Rattle.babel_table.specs.Moments.{Told, When, Word, last_word, left_at, word}
+use Rattle.babel_table.specs.Moments.{Told, Stamp, Word, last_word, left_at, word}
 use Rattle.babel_table.proofs.Entries.{sorted-remove}
 use Rattle.babel_timeline.specs.declared.change.Change.{Change}
 use Rattle.babel_timeline.specs.declared.change.ChangeKind.TheVariants as kinds
 use Rattle.babel_timeline.specs.declared.row.Row.{Row}
 use Rattle.babel_timeline.specs.declared.subject.Subject.{Subject}
-use Rattle.babel_timeline.specs.Accounts.{EachTurns, HasEnded, IsLeaving, IsLeft, Said, Turns, said, said_by, word_on}
+use Rattle.babel_timeline.specs.Accounts.{EachTurns, HasExpired, IsLeaving, IsLeft, Said, Turns, said, said_by, word_on}
 use Rattle.babel_timeline.specs.Changes.{TellsAnnouncement, change, held_after, told_by}
 use Rattle.babel_timeline.specs.Laws as laws
 use Rattle.babel_timeline.specs.Rows.{AllLast, Ends, Rows, end_of, row_at, subject_cmp, subject_of}
 use Rattle.babel_timeline.proofs.KeptLaws.{below_is, not_before}
-use Rattle.babel_timeline.proofs.WordLaws.{all_more, last_any, lasts_by, left_plain, next, none_left, passed_by, sender_or, sender_same, snoc_split, word_more, words_become}
+use Rattle.babel_timeline.proofs.WordLaws.{all_more, last_any, lasts_by, left_plain, next, none_left, expired_by, sender_or, sender_same, snoc_split, word_more, words_become}
 use Rattle.babel_timeline.proofs.Subjects.{Becomes, becomes_cases, becomes_inserted, becomes_removed, same_of, subject_total}
 
 -- ---- when something ends
 
-end_is : (factor : ℕ) (when : When) (positive : Bool) → nat_lt 0 when.interval ≡ positive → (time : ℕ) → cond positive (Some (when.time + factor * when.interval)) None ≡ Some time
+end_is : (factor : ℕ) (when : Stamp) (positive : Bool) → nat_lt 0 when.interval ≡ positive → (time : ℕ) → cond positive (Some (when.time + factor * when.interval)) None ≡ Some time
     → (0 < when.interval) × (when.time + factor * when.interval ≡ time)
 end_is factor when true e time is = (below_is 0 when.interval e, (let same : when.time + factor * when.interval ≡ time = cc in same))
 end_is factor when false e time is = absurd cc
 
 -- it ends no earlier than it was said
-end_later : (factor : Option ℕ) (when : When) (time : ℕ) → end_of factor when ≡ Some time → when.time ≤ time
+end_later : (factor : Option ℕ) (when : Stamp) (time : ℕ) → end_of factor when ≡ Some time → when.time ≤ time
 end_later None when time is = absurd cc
 end_later (Some factor) when time is = let both = end_is factor when (nat_lt 0 when.interval) refl time is in omega (arith, both.1)
 
-ended_later : (factor : Option ℕ) (moment later : ℕ) (when : When) → moment ≤ later → HasEnded factor moment when → HasEnded factor later when
-ended_later factor moment later when le ended = record { time = ended.time; end = ended.end; passed = omega (arith, ended.passed) }
+expired_later : (factor : Option ℕ) (moment later : ℕ) (when : Stamp) → moment ≤ later → HasExpired factor moment when → HasExpired factor later when
+expired_later factor moment later when le ended = record { time = ended.time; end = ended.end; past = omega (arith, ended.past) }
 
 -- ---- rows
 
@@ -70,7 +70,7 @@ module _ (factor : Option ℕ) where
 
   pub left_later : (moment later : ℕ) (row : Option Row) (said : Option Word) → moment ≤ later → IsLeft factor moment row said → IsLeft factor later row said
   left_later moment later None None le left = left
-  left_later moment later None (Some said) le left = ended_later factor moment later said.when le left
+  left_later moment later None (Some said) le left = expired_later factor moment later said.when le left
   left_later moment later (Some row) None le left = left
   left_later moment later (Some row) (Some said) le left = left
 
@@ -84,7 +84,7 @@ module _ (factor : Option ℕ) where
   left_ended moment time None row said is end left = absurd cc
   left_ended moment time (Some held) row said is end left =
       let same : held ≡ row = cc in
-      let ended : HasEnded factor time held.when = record { time = time; end = ap (λ (r : Row). end_of factor r.when) same ∙ end; passed = omega arith } in
+      let ended : HasExpired factor time held.when = record { time = time; end = ap (λ (r : Row). end_of factor r.when) same ∙ end; past = omega arith } in
       subst (λ (w : Option Word). IsLeft factor time None w) left ended
 
 -- what is left is held
@@ -99,7 +99,7 @@ left_held : (factor moment later : ℕ) (row : Option Row) (said : Option Word) 
 left_held factor moment later None None le left lasts = refl
 left_held factor moment later None (Some said) le left lasts =
     left_plain factor later said
-    ∙ ap (λ (b : Bool). cond b None (Some said.held)) (passed_by factor later said.when left.time left.end (omega (arith, left.passed, le)))
+    ∙ ap (λ (b : Bool). cond b None (Some said.held)) (expired_by factor later said.when left.time left.end (omega (arith, left.past, le)))
 left_held factor moment later (Some row) said le left lasts =
     ap (option_and_then (left_at modes.Plain factor later)) (sym left)
     ∙ left_plain factor later (word row.when (helds.Route row.ann))

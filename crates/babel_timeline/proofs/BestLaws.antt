@@ -29,7 +29,7 @@ use Rattle.babel_tlv.specs.Route.{Announcement, RouteKey}
 use Rattle.babel_tlv.specs.Views.{seen_announcement}
 use Rattle.babel_table.specs.BestMatch.{ContainsBoth, IsBestAmong}
 use Rattle.babel_table.specs.Holds.{same_key}
-use Rattle.babel_table.specs.Moments.{Told, When, Word, last_word, left_at, word, word_after}
+use Rattle.babel_table.specs.Moments.{Told, Stamp, Word, last_word, left_at, word, word_after}
 use Rattle.babel_table.proofs.EntryLaws.{key_of}
 use Rattle.babel_table.proofs.HoldsLaws.{same_key-decides}
 use Rattle.babel_table.proofs.MomentLaws.{words_from}
@@ -138,7 +138,7 @@ module _ {S : Type 0} (cmp : S → S → Ordering) where
 
 module _ (Is : RouteKey → Type 0) (key : RouteKey) where
   -- there is no word on a key but where it was announced
-  next_is : (when : When) (event : Event) (old : Option Word) → AnnouncesFor Is event → (IsSome old → Is key) → IsSome (next key when event old) → Is key
+  next_is : (when : Stamp) (event : Event) (old : Option Word) → AnnouncesFor Is event → (IsSome old → Is key) → IsSome (next key when event old) → Is key
   next_is when (events.Announce other ann) old here was = by (same_key other key) refl
     where
       by : (same : Bool) → same_key other key ≡ same → IsSome (cond same (Some (word when (helds.Route ann))) old) → Is key
@@ -205,7 +205,7 @@ module _ (pair : Address × Address) (view : View) where
   -- ---- the word on a key that counts is the one on it among all
 
   module _ (key : RouteKey) (is : counts (Some pair) key ≡ true) (mode : Mode) (factor : ℕ) where
-    same_next : (when : When) (event : Event) (old : Option Word)
+    same_next : (when : Stamp) (event : Event) (old : Option Word)
         → word_after mode factor key when (seen_event None view event) old ≡ word_after mode factor key when (seen_event (Some pair) view event) old
     same_next when (events.Announce other ann) old = by (counts (Some pair) other) refl
       where

@@ -21,7 +21,7 @@ use Rattle.babel_tlv.specs.Route.{Announcement, RouteKey}
 use Rattle.babel_tlv.specs.Says as says
 use Rattle.babel_tlv.specs.Views.{seen_announcement}
 use Rattle.babel_tlv.proofs.TellsLaws.{ignored_tells_nothing}
-use Rattle.babel_table.specs.Moments.{When, Word, told_at, told_from, word_after}
+use Rattle.babel_table.specs.Moments.{Stamp, Word, told_at, told_from, word_after}
 use Rattle.babel_timeline.specs.declared.change.Change.{Change}
 use Rattle.babel_timeline.specs.declared.change.ChangeKind.TheVariants as kinds
 use Rattle.babel_timeline.specs.declared.row.Row.{Row}
@@ -39,7 +39,7 @@ use Rattle.babel_timeline.proofs.TellingLaws.{changes_then, ends_tell, others_in
 use Rattle.babel_timeline.proofs.WordLaws.{word_more}
 
 -- of a sender, of whom all is retracted, some rows went so far
-pub record LeavesTo {S : Type 0} (cmp : S → S → Ordering) (factor : Option ℕ) (asked : AskedFor) (sender : S) (when : When) (rows now : Rows S) (old new : List (Telling S)) : Type 0 where
+pub record LeavesTo {S : Type 0} (cmp : S → S → Ordering) (factor : Option ℕ) (asked : AskedFor) (sender : S) (when : Stamp) (rows now : Rows S) (old new : List (Telling S)) : Type 0 where
   pub changes : List (Change S)
   pub account : (all : List (Said S)) (moment : ℕ) (before : List (Change S)) → moment ≤ when.time → IsAccount cmp factor None all moment before rows
       → IsAccount cmp factor (Some sender) (all ++ said sender when events.RetractAll ∷ []) when.time (before ++ changes) now
@@ -54,7 +54,7 @@ pub record TlvsTo {S : Type 0} (cmp : S → S → Ordering) (factor : Option ℕ
   pub leads : (after : Rows S) (new : List (Telling S)) → Tells cmp factor asked (said_of asked view sender (told_from time context tlvs)) time now after so_far new
       → Tells cmp factor asked (said_of asked view sender (told_from time (first_context start) all)) time rows after old new
 
-abbrev pub at_time : ℕ → ℕ → When
+abbrev pub at_time : ℕ → ℕ → Stamp
 at_time time interval = record { time = time; interval = interval }
 
 pub on_ok_then : {T E : Type 0} {P Q : Type 0} (r : Result T E) → OnOk r P → (P → Q) → OnOk r Q
@@ -88,7 +88,7 @@ module _ {S : Type 0} (cmp : S → S → Ordering) (total : IsTotalOrder cmp) (e
       (subst (λ (r : Rows S). Takes cmp factor asked subject.sender (said subject.sender row.when (events.Announce subject.key seen) ∷ []) row.when.time rows r old new) (sym inserted)
       (announced_takes rows subject (record { ann = seen; when = row.when }) told old new last tells is))
 
-  pub retracted_takes : (rows after : Rows S) (subject : Subject S) (when : When) (time : ℕ) (told : Option (Change S)) (old new : List (Telling S)) → AllLast cmp factor when.time rows → time ≡ when.time
+  pub retracted_takes : (rows after : Rows S) (subject : Subject S) (when : Stamp) (time : ℕ) (told : Option (Change S)) (old new : List (Telling S)) → AllLast cmp factor when.time rows → time ≡ when.time
       → after ≡ without cmp subject rows → told ≡ option_map (λ (row : Row). change time subject kinds.Retracted) (row_at cmp rows subject) → new ≡ old ++ changes_told asked (option_to_list told)
       → Takes cmp factor asked subject.sender (said subject.sender when (events.Retract subject.key) ∷ []) when.time rows after old new
   retracted_takes rows after subject when time told old new last timely gone tells is =
@@ -101,7 +101,7 @@ module _ {S : Type 0} (cmp : S → S → Ordering) (total : IsTotalOrder cmp) (e
       })
 
   -- what speaks of no key
-  pub silent_takes : (rows : Rows S) (sender : S) (when : When) (event : Event) (old : List (Telling S)) → AllLast cmp factor when.time rows
+  pub silent_takes : (rows : Rows S) (sender : S) (when : Stamp) (event : Event) (old : List (Telling S)) → AllLast cmp factor when.time rows
       → ((key : RouteKey) (word : Option Word) → word_after modes.Plain 0 key when event word ≡ word) → Takes cmp factor asked sender (said sender when event ∷ []) when.time rows rows old old
   silent_takes rows sender when event old last quiet = record {
     changes = [];
@@ -123,7 +123,7 @@ module _ {S : Type 0} (cmp : S → S → Ordering) (total : IsTotalOrder cmp) (e
 
   -- ---- what retracts all
 
-  pub leaves-begin : (sender : S) (when : When) (rows : Rows S) (old : List (Telling S)) → AllLast cmp factor when.time rows → LeavesTo cmp factor asked sender when rows rows old old
+  pub leaves-begin : (sender : S) (when : Stamp) (rows : Rows S) (old : List (Telling S)) → AllLast cmp factor when.time rows → LeavesTo cmp factor asked sender when rows rows old old
   leaves-begin sender when rows old last = record {
     changes = [];
     account = λ all moment before le account.
@@ -133,7 +133,7 @@ module _ {S : Type 0} (cmp : S → S → Ordering) (total : IsTotalOrder cmp) (e
     others = λ other apart. refl;
   }
 
-  pub leaves-next : (sender : S) (when : When) (rows now after : Rows S) (subject : Subject S) (old mid new : List (Telling S)) → LeavesTo cmp factor asked sender when rows now old mid → IsFirstOf cmp sender now subject
+  pub leaves-next : (sender : S) (when : Stamp) (rows now after : Rows S) (subject : Subject S) (old mid new : List (Telling S)) → LeavesTo cmp factor asked sender when rows now old mid → IsFirstOf cmp sender now subject
       → after ≡ without cmp subject now → new ≡ mid ++ changes_told asked (change when.time subject kinds.Retracted ∷ []) → LeavesTo cmp factor asked sender when rows after old new
   leaves-next sender when rows now after subject old mid new leaves first gone told =
       let one : Change S = change when.time subject kinds.Retracted in
@@ -153,7 +153,7 @@ module _ {S : Type 0} (cmp : S → S → Ordering) (total : IsTotalOrder cmp) (e
             ap (λ (r : Rows S). row_at cmp r other) gone ∙ others_without cmp total exact now subject other (λ same. apart (same ∙ first.own)) ∙ leaves.others other apart;
       }
 
-  pub leaves-end : (sender : S) (when : When) (rows now : Rows S) (old new : List (Telling S)) → HasNone cmp sender now → LeavesTo cmp factor asked sender when rows now old new
+  pub leaves-end : (sender : S) (when : Stamp) (rows now : Rows S) (old new : List (Telling S)) → HasNone cmp sender now → LeavesTo cmp factor asked sender when rows now old new
       → Takes cmp factor asked sender (said sender when events.RetractAll ∷ []) when.time rows now old new
   leaves-end sender when rows now old new none leaves = record {
     changes = leaves.changes;
@@ -166,7 +166,7 @@ module _ {S : Type 0} (cmp : S → S → Ordering) (total : IsTotalOrder cmp) (e
   -- ---- what a TLV tells
 
   -- of what is ignored nothing is told
-  ignored_takes : (sender : S) (when : When) (reason : Reason) (rows after : Rows S) (old new : List (Telling S)) → Takes cmp factor asked sender (said sender when (events.Ignored reason) ∷ []) when.time rows after old new
+  ignored_takes : (sender : S) (when : Stamp) (reason : Reason) (rows after : Rows S) (old new : List (Telling S)) → Takes cmp factor asked sender (said sender when (events.Ignored reason) ∷ []) when.time rows after old new
       → Takes cmp factor asked sender (said sender when events.Nothing ∷ []) when.time rows after old new
   ignored_takes sender when reason rows after old new takes = record {
     changes = takes.changes;
@@ -188,7 +188,7 @@ module _ {S : Type 0} (cmp : S → S → Ordering) (total : IsTotalOrder cmp) (e
       same : (all : List (Said S)) (other : Subject S) → word_on cmp (all ++ said sender when events.Nothing ∷ []) other ≡ word_on cmp (all ++ said sender when (events.Ignored reason) ∷ []) other
       same all other = word_more cmp all (said sender when events.Nothing) other ∙ sym (word_more cmp all (said sender when (events.Ignored reason)) other)
 
-  pub tells_takes : (view : View) (sender : S) (when : When) (context : Context) (tlv : TlvAt) (event : Event) (rows after : Rows S) (old new : List (Telling S)) → Ok event ≡ says.said context tlv
+  pub tells_takes : (view : View) (sender : S) (when : Stamp) (context : Context) (tlv : TlvAt) (event : Event) (rows after : Rows S) (old new : List (Telling S)) → Ok event ≡ says.said context tlv
       → Takes cmp factor asked sender (said sender when (seen_event asked view event) ∷ []) when.time rows after old new
       → Takes cmp factor asked sender (said sender when (seen_event asked view (says.tells context tlv)) ∷ []) when.time rows after old new
   tells_takes view sender when context tlv event rows after old new is takes = by (says.refuses context.via_v6 tlv) (says.ignored_for context tlv) refl is
@@ -206,13 +206,13 @@ module _ {S : Type 0} (cmp : S → S → Ordering) (total : IsTotalOrder cmp) (e
           (ignored_takes sender when reason rows after old new
           (subst (λ (v : Event). Takes cmp factor asked sender (said sender when (seen_event asked view v) ∷ []) when.time rows after old new) is_ignored takes))
 
-  pub tlv_takes : (view : View) (sender : S) (time : ℕ) (its_factor : Option ℕ) (when : When) (context : Context) (tlv : TlvAt) (event : Event) (rows after : Rows S) (old new : List (Telling S))
+  pub tlv_takes : (view : View) (sender : S) (time : ℕ) (its_factor : Option ℕ) (when : Stamp) (context : Context) (tlv : TlvAt) (event : Event) (rows after : Rows S) (old new : List (Telling S))
       → its_factor ≡ factor → when ≡ (told_at time context tlv).when → Ok event ≡ says.said context tlv
       → Takes cmp its_factor asked sender (said sender when (seen_event asked view event) ∷ []) when.time rows after old new
       → Takes cmp factor asked sender (said_of asked view sender (told_at time context tlv ∷ [])) time rows after old new
   tlv_takes view sender time its_factor when context tlv event rows after old new same timed is takes =
       tells_takes view sender (told_at time context tlv).when context tlv event rows after old new is
-      (subst (λ (w : When). Takes cmp factor asked sender (said sender w (seen_event asked view event) ∷ []) w.time rows after old new) timed
+      (subst (λ (w : Stamp). Takes cmp factor asked sender (said sender w (seen_event asked view event) ∷ []) w.time rows after old new) timed
       (subst (λ (f : Option ℕ). Takes cmp f asked sender (said sender when (seen_event asked view event) ∷ []) when.time rows after old new) same takes))
 
   -- what was taken is told, once what has expired was

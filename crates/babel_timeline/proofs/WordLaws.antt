@@ -1,13 +1,13 @@
 -- The last word on a subject, after one thing more.
 use Rattle.std.proofs.Common.{◌≡◌, ℕ, ◌+◌, ◌*◌, ◌<◌, ◌≤◌, Bool, true, false, cond, ◌⊎◌, inl, inr, List, [], ◌∷◌, ◌++◌, map, Option, Some, None, refl, sym, ap, ◌∙◌, arith}
-use Rattle.std.specs.Prelude.{not, ◌&&◌, nat_le, nat_lt, is_none}
+use Rattle.std.specs.Prelude.{not, nat_le, nat_lt, is_none}
 use Rattle.std.specs.declared.cmp.Ordering.{Ordering}
 use Rattle.std.specs.declared.cmp.Ordering.TheVariants.{Less, Equal, Greater}
 use Rattle.std.specs.Ordering.{is_eq, ordering_then}
 use Rattle.std.specs.Cmp.{IsTotalOrder}
 use Rattle.std.specs.BTreeMap.{is_at}
 use Rattle.std.specs.List.{AllByRecursion, filter}
-use Rattle.std.specs.Option.{option_and_then}
+use Rattle.std.specs.Option.{option_and_then, option_map_or}
 use Rattle.std.proofs.lemmas.Bool.Decides.{nat_tests}
 use Rattle.std.proofs.lemmas.Cmp.{tied_itself}
 use Rattle.std.proofs.lemmas.List.Sums.{fold-append}
@@ -20,7 +20,7 @@ use Rattle.babel_tlv.specs.declared.mode.Mode.TheVariants as modes
 use Rattle.babel_tlv.specs.Keys.{key_cmp}
 use Rattle.babel_tlv.specs.Route.{RouteKey}
 use Rattle.babel_table.specs.Holds.{same_key}
-use Rattle.babel_table.specs.Moments.{Told, When, Word, has_passed, last_word, left_at, word_after}
+use Rattle.babel_table.specs.Moments.{Told, Stamp, Word, has_expired, last_word, left_at, word_after}
 use Rattle.babel_table.proofs.HoldsLaws.{same_key-is}
 use Rattle.babel_table.proofs.MomentLaws.{none_either, words_from}
 use Rattle.babel_timeline.specs.declared.subject.Subject.{Subject}
@@ -62,15 +62,15 @@ all_more P (x ∷ xs) last all here = (all.0, all_more P xs last all.1 here)
 
 -- ---- the last word on a key in mode Plain
 
-abbrev pub next : RouteKey → When → Event → Option Word → Option Word
+abbrev pub next : RouteKey → Stamp → Event → Option Word → Option Word
 next key when event old = word_after modes.Plain 0 key when event old
 
 -- a wildcard leaves none
-pub none_left : (key : RouteKey) (when : When) (old : Option Word) → next key when events.RetractAll old ≡ None
+pub none_left : (key : RouteKey) (when : Stamp) (old : Option Word) → next key when events.RetractAll old ≡ None
 none_left key when old = sym (none_either (is_none (option_and_then (left_at modes.Plain 0 when.time) old)) None)
 
 -- it is the same by any factor
-next_any : (factor : ℕ) (key : RouteKey) (when : When) (event : Event) (old : Option Word) → word_after modes.Plain factor key when event old ≡ next key when event old
+next_any : (factor : ℕ) (key : RouteKey) (when : Stamp) (event : Event) (old : Option Word) → word_after modes.Plain factor key when event old ≡ next key when event old
 next_any factor key when (events.Announce other ann) old = refl
 next_any factor key when (events.Retract other) old = refl
 next_any factor key when events.RetractAll old = sym (none_either (is_none (option_and_then (left_at modes.Plain factor when.time) old)) None) ∙ sym (none_left key when old)
@@ -86,39 +86,41 @@ from_any factor key old (one ∷ later) =
 pub last_any : (factor : ℕ) (told : List Told) (key : RouteKey) → last_word modes.Plain factor told key ≡ last_word modes.Plain 0 told key
 last_any factor told key = from_any factor key None told
 
--- ---- what has passed
+-- ---- what has expired
 
 module _ (factor moment : ℕ) where
-  -- all is left of a word that has not passed, and nothing of one that has
-  pub left_plain : (said : Word) → left_at modes.Plain factor moment said ≡ cond (has_passed factor moment said.when) None (Some said.held)
+  -- all is left of a word that has not expired, and nothing of one that has
+  pub left_plain : (said : Word) → left_at modes.Plain factor moment said ≡ cond (has_expired factor moment said.when) None (Some said.held)
   left_plain said =
-      ap (λ (k : ℕ). cond (not (has_passed factor moment said.when)) (Some said.held) (cond (not (has_passed k moment said.when)) (Some helds.Unreachable) None)) once
-      ∙ by (has_passed factor moment said.when)
+      ap (λ (k : ℕ). cond (not (has_expired factor moment said.when)) (Some said.held) (cond (not (has_expired k moment said.when)) (Some helds.Unreachable) None)) once
+      ∙ by (has_expired factor moment said.when)
     where
       once : 1 * factor ≡ factor
       once = omega arith
 
-      by : (passed : Bool) → cond (not passed) (Some said.held) (cond (not passed) (Some helds.Unreachable) None) ≡ cond passed None (Some said.held)
+      by : (expired : Bool) → cond (not expired) (Some said.held) (cond (not expired) (Some helds.Unreachable) None) ≡ cond expired None (Some said.held)
       by true = refl
       by false = refl
 
-  pub passed_by : (when : When) (end : ℕ) → end_of (Some factor) when ≡ Some end → end ≤ moment → has_passed factor moment when ≡ true
-  passed_by when end is le = by (nat_lt 0 when.interval) is
+  pub expired_by : (when : Stamp) (end : ℕ) → end_of (Some factor) when ≡ Some end → end ≤ moment → has_expired factor moment when ≡ true
+  expired_by when end is le = by (nat_lt 0 when.interval) is
     where
       below : (time : ℕ) → time ≤ moment → nat_le time moment ≡ true
       below time lt = grind (arith, nat_tests)
 
-      by : (ends : Bool) → cond ends (Some (when.time + factor * when.interval)) None ≡ Some end → ends && nat_le (when.time + factor * when.interval) moment ≡ true
+      by : (ends : Bool) → cond ends (Some (when.time + factor * when.interval)) None ≡ Some end
+          → option_map_or (λ time. nat_le time moment) (cond ends (Some (when.time + factor * when.interval)) None) false ≡ true
       by true e = let same : when.time + factor * when.interval ≡ end = cc in below (when.time + factor * when.interval) (omega (arith, same, le))
       by false e = absurd cc
 
-  pub lasts_by : (when : When) → ((end : ℕ) → end_of (Some factor) when ≡ Some end → moment < end) → has_passed factor moment when ≡ false
+  pub lasts_by : (when : Stamp) → ((end : ℕ) → end_of (Some factor) when ≡ Some end → moment < end) → has_expired factor moment when ≡ false
   lasts_by when later = by (nat_lt 0 when.interval) later
     where
       above : (time : ℕ) → moment < time → nat_le time moment ≡ false
       above time lt = grind (arith, nat_tests)
 
-      by : (ends : Bool) → ((end : ℕ) → cond ends (Some (when.time + factor * when.interval)) None ≡ Some end → moment < end) → ends && nat_le (when.time + factor * when.interval) moment ≡ false
+      by : (ends : Bool) → ((end : ℕ) → cond ends (Some (when.time + factor * when.interval)) None ≡ Some end → moment < end)
+          → option_map_or (λ time. nat_le time moment) (cond ends (Some (when.time + factor * when.interval)) None) false ≡ false
       by true after = above (when.time + factor * when.interval) (after (when.time + factor * when.interval) refl)
       by false after = refl
 
@@ -167,7 +169,7 @@ cond_then Greater b new old = refl
 
 module _ {S : Type 0} (cmp : S → S → Ordering) (total : IsTotalOrder cmp) where
   -- what is said of one key alone changes the word on one subject alone
-  pub words_become : (all : List (Said S)) (subject : Subject S) (when : When) (event : Event) (new : Option Word)
+  pub words_become : (all : List (Said S)) (subject : Subject S) (when : Stamp) (event : Event) (new : Option Word)
       → ((key : RouteKey) (old : Option Word) → next key when event old ≡ cond (same_key subject.key key) new old) → (other : Subject S)
       → word_on cmp (all ++ said subject.sender when event ∷ []) other ≡ cond (is_at (subject_cmp cmp subject) other) new (word_on cmp all other)
   words_become all subject when event new becomes other =

@@ -10,7 +10,7 @@ use Rattle.babel_tlv.specs.declared.event.Event.{Event}
 use Rattle.babel_tlv.specs.declared.held.Held.TheVariants as helds
 use Rattle.babel_tlv.specs.Route.{RouteKey, Announcement}
 use Rattle.babel_tlv.specs.declared.mode.Mode.TheVariants as modes
-use Rattle.babel_table.specs.Moments.{HoldsAt, Told, When, Word, last_word, word}
+use Rattle.babel_table.specs.Moments.{HoldsAt, Told, Stamp, Word, last_word, word}
 use Rattle.babel_timeline.specs.declared.change.Change.{Change}
 use Rattle.babel_timeline.specs.declared.row.Row.{Row}
 use Rattle.babel_timeline.specs.declared.subject.Subject.{Subject}
@@ -19,22 +19,22 @@ use Rattle.babel_timeline.specs.Rows.{Ends, Rows, end_of, row_at, subject_cmp}
 
 -- ---- what is held at a moment
 
--- this is held for the key at the moment. Where no factor is given, nothing passes
+-- this is held for the key at the moment. Where no factor is given, nothing expires
 abbrev pub IsHeldAt : Option ℕ → ℕ → List Told → RouteKey → Announcement → Type 0
 IsHeldAt None moment told key ann =
     option_map (λ said. said.held) (last_word modes.Plain 0 told key) ≡ Some (helds.Route ann)
 IsHeldAt (Some factor) moment told key ann =
     HoldsAt modes.Plain factor moment told key (helds.Route ann)
 
--- what was said then has ended at the moment
-pub record HasEnded (factor : Option ℕ) (moment : ℕ) (when : When) : Type 0 where
+-- what was said then has expired at the moment
+pub record HasExpired (factor : Option ℕ) (moment : ℕ) (when : Stamp) : Type 0 where
   pub time : ℕ
   pub end : end_of factor when ≡ Some time
-  pub passed : time ≤ moment
+  pub past : time ≤ moment
 
--- a row is the last word on its key, or there is none since that word has ended
+-- a row is the last word on its key, or there is none since that word has expired
 abbrev pub IsLeft : Option ℕ → ℕ → Option Row → Option Word → Type 0
-IsLeft factor moment None (Some said) = HasEnded factor moment said.when
+IsLeft factor moment None (Some said) = HasExpired factor moment said.when
 IsLeft factor moment row said =
     option_map (λ row. word row.when (helds.Route row.ann)) row ≡ said
 
@@ -44,7 +44,7 @@ pub record Said (S : Type 0) : Type 0 where
   pub sender : S
   pub told : Told
 
-abbrev pub said : {S : Type 0} → S → When → Event → Said S
+abbrev pub said : {S : Type 0} → S → Stamp → Event → Said S
 said sender when event =
     record { sender = sender; told = record { when = when; event = event } }
 

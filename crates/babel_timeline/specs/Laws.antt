@@ -9,7 +9,7 @@ use Rattle.babel_tlv.specs.declared.event.Event.{Event}
 use Rattle.babel_tlv.specs.declared.event.Event.TheVariants as events
 use Rattle.babel_tlv.specs.declared.mode.Mode.TheVariants as modes
 use Rattle.babel_tlv.specs.Route.{RouteKey, Announcement}
-use Rattle.babel_table.specs.Moments.{When, Word, word_after}
+use Rattle.babel_table.specs.Moments.{Stamp, Word, word_after}
 use Rattle.babel_timeline.specs.declared.change.Change.{Change}
 use Rattle.babel_timeline.specs.declared.change.ChangeKind.TheVariants as kinds
 use Rattle.babel_timeline.specs.declared.row.Row.{Row}
@@ -49,7 +49,7 @@ module _ {S : Type 0} (cmp : S → S → Ordering) (factor : Option ℕ) where
   -- what is retracted for one key
   abbrev pub RetractingKeepsAccount : Type 0
   RetractingKeepsAccount = (all : List (Said S)) (moment : ℕ) (changes : List (Change S))
-      (rows : Rows S) (subject : Subject S) (when : When)
+      (rows : Rows S) (subject : Subject S) (when : Stamp)
       → Account None all moment changes rows → IsTime moment when.time rows
       → Account None (all ++ said subject.sender when (events.Retract subject.key) ∷ []) when.time
       (changes ++ option_to_list (option_map (λ row. change when.time subject kinds.Retracted)
@@ -59,7 +59,7 @@ module _ {S : Type 0} (cmp : S → S → Ordering) (factor : Option ℕ) where
   -- what retracts all of a sender, and each row of it that goes then, until none is left
   abbrev pub RetractingAllKeepsAccount : Type 0
   RetractingAllKeepsAccount = (all : List (Said S)) (moment : ℕ) (changes : List (Change S))
-      (rows : Rows S) (sender : S) (when : When)
+      (rows : Rows S) (sender : S) (when : Stamp)
       → Account None all moment changes rows → IsTime moment when.time rows
       → Account (Some sender) (all ++ said sender when events.RetractAll ∷ []) when.time changes
       rows
@@ -80,7 +80,7 @@ module _ {S : Type 0} (cmp : S → S → Ordering) (factor : Option ℕ) where
   -- what speaks of no key
   abbrev pub SilenceKeepsAccount : Type 0
   SilenceKeepsAccount = (all : List (Said S)) (moment : ℕ) (changes : List (Change S))
-      (rows : Rows S) (sender : S) (when : When) (event : Event)
+      (rows : Rows S) (sender : S) (when : Stamp) (event : Event)
       → Account None all moment changes rows
       → ((key : RouteKey) (old : Option Word) → word_after modes.Plain 0 key when event old ≡ old)
       → Account None (all ++ said sender when event ∷ []) moment changes rows

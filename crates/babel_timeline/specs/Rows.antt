@@ -1,6 +1,6 @@
 -- The rows of many senders: what each announced last for a key, and when. Their orders are this
 -- project's own.
-use Rattle.std.specs.Prelude.{◌≡◌, ℕ, ◌<◌, ◌+◌, ◌*◌, nat_lt, if◌then◌else◌, IsSome, List}
+use Rattle.std.specs.Prelude.{◌≡◌, ℕ, ◌<◌, IsSome, List}
 use Rattle.std.specs.Prelude.{Option, Some, None}
 use Rattle.std.specs.declared.cmp.Ordering.{Ordering}
 use Rattle.std.specs.declared.cmp.Ordering.TheVariants.{Less}
@@ -10,19 +10,17 @@ use Rattle.std.specs.BTreeMap.Range.{IsLeBy}
 use Rattle.std.specs.Map.{lookup}
 use Rattle.babel_tlv.specs.Route.{RouteKey}
 use Rattle.babel_tlv.specs.Keys.{key_cmp}
-use Rattle.babel_table.specs.Moments.{When}
+use Rattle.babel_table.specs.Moments.{Stamp, end_after}
 use Rattle.babel_timeline.specs.declared.queue.Expiry.{Expiry}
 use Rattle.babel_timeline.specs.declared.row.Row.{Row}
 use Rattle.babel_timeline.specs.declared.subject.Subject.{Subject}
 
 -- ---- when a row ends
 
--- RFC 8966, appendix B: when what was said then ends, so many ten-millionths of its Interval later.
--- Without a factor, or with an Interval of 0, which 4.6.9 forbids, it does not end
-abbrev pub end_of : Option ℕ → When → Option ℕ
+-- when what was said then ends, so many times its Interval later, or never without a factor
+abbrev pub end_of : Option ℕ → Stamp → Option ℕ
 end_of None when = None
-end_of (Some factor) when =
-    if nat_lt 0 when.interval then Some (when.time + factor * when.interval) else None
+end_of (Some factor) when = end_after factor when
 
 -- ---- rows
 

@@ -30,9 +30,8 @@ use crate::sender::Sender;
 use crate::subject::Subject;
 use crate::telling::Telling;
 use crate::timeline::Timeline;
-use crate::when::When;
 use babel_prefix::Family;
-use babel_table::Report;
+use babel_table::{Report, Stamp};
 use babel_tlv::{
     Ann, EventKind, Fault, Held, Key, Route, Start, State, Tlv, Tlvs, View, check_body,
 };
@@ -213,7 +212,7 @@ impl Interest {
         &self,
         timeline: &mut Timeline<S>,
         subject: &Subject<S>,
-        when: When,
+        when: Stamp,
         told: &mut Vec<Telling<S>>,
     ) -> Result<(), AllocError>
         requires { AllLast S.cmp timeline.old.factor when.time timeline.old.rows }
@@ -233,7 +232,7 @@ impl Interest {
         &self,
         timeline: &mut Timeline<S>,
         sender: S,
-        when: When,
+        when: Stamp,
         told: &mut Vec<Telling<S>>,
     ) -> Result<(), AllocError>
         requires { AllLast S.cmp timeline.old.factor when.time timeline.old.rows }
@@ -253,7 +252,7 @@ impl Interest {
         &self,
         timeline: &mut Timeline<S>,
         sender: S,
-        when: When,
+        when: Stamp,
         kind: EventKind,
         route: &Route,
         at: u64,
@@ -306,7 +305,7 @@ impl Interest {
     {
         self.expire(timeline, time, told)?;
         let kind = state.step_into(tlv, route)?;
-        let when = When::new(time, interval(tlv.body));
+        let when = Stamp::new(time, interval(tlv.body));
         let before = self.answer(timeline, sender);
         self.take(timeline, sender, when, kind, route, tlv.at, told)?;
         self.tell_answer(timeline, time, sender, before, told)?;

@@ -4,6 +4,25 @@
 //! Of a `Timeline` a caller first takes what has expired by a time, and then gives what was said at
 //! that time. A `Teller` does both of packets, and tells what a view sees of it, or what is
 //! answered for two addresses. The crate knows nothing of captures or of text.
+//!
+//! What it promises the crates above, each with its contract as docs/PROMISES.md has them:
+//!
+//! - So it is from nothing on, where times do not run backwards and what ends by a time is told
+//!   before what is said then; each call keeps it. — `laws::accounts_are_kept` · *begun*,
+//!   *announcing*, *retracting*, *silence*, *expiring*; `accounts_are_kept_by_wildcards` · *begun*,
+//!   *each*, *ended*
+//! - An announcement, a retraction, a wildcard (by key) and the end of a row (by time, key, sender)
+//!   change the rows, and are told, as stated. — `Timeline::announce` · *ok*, *told*; `retract` ·
+//!   *rows*, *told*; `retract_next`, `expire_next` · *none*, *first*, *told*, *rows*
+//! - There are at most so many rows: only one more is refused for it, and changes nothing. —
+//!   `Timeline::are_few`; `announce` · *refused*, *err*
+//! - A sender's last row up to a key is found, or there is none. — `Timeline::last_of`
+//! - A packet that is heard is TLVs to its end, and with what they say, as the view sees it, and
+//!   what expires by its time, the changes account for all again. — `Teller::hear` · *ok*
+//!   (`Hears`); `expire` · *ok*, *last*
+//! - A packet changes its sender's report alone, which counts the TLVs of the packets heard of it
+//!   as that of a dump of these packets does. — `Teller::hear` · *counts* (`CountsPacket`);
+//!   `Teller::report`
 #![tactic(auto)]
 
 mod asked;
@@ -20,7 +39,6 @@ mod subject;
 mod teller;
 mod telling;
 mod timeline;
-mod when;
 
 pub use change::{Change, ChangeKind};
 pub use row::Row;
@@ -29,4 +47,3 @@ pub use subject::Subject;
 pub use teller::Teller;
 pub use telling::Telling;
 pub use timeline::Timeline;
-pub use when::When;

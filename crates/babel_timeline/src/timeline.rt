@@ -97,7 +97,7 @@ fn settle<S: Sender>(
         let subject = first.subject();
         let entry = cells.find(&subject).unwrap();
         let row = entry.row;
-        let end = row.when.end(factor);
+        let end = row.end(factor);
         if entry.queued == end {
             return Ok(Some(first));
         }
@@ -180,7 +180,7 @@ impl<S: Sender> Timeline<S> {
         ensures err { OnErr result (self.new ≡ self.old) }
     {
         let row = *row;
-        let end = row.when.end(self.factor);
+        let end = row.end(self.factor);
         let Some(before) = self.cells.find(subject) else {
             self.queue.put(subject, end)?;
             return match self.cells.add(subject, &Entry { row, queued: end }) {

@@ -4,6 +4,22 @@
 //! The crate reads octets that are in memory and keeps nothing of them but a parser state of a few
 //! addresses; no call takes memory. The faults of dumps are here, too, since later crates share
 //! them. It knows nothing of how rows are kept, of files, or of where a packet came from.
+//!
+//! What it promises the crates above, each with its contract as docs/PROMISES.md has them:
+//!
+//! - A whole packet, less than one, a wrong magic and a wrong version are told apart. — `frame`
+//! - A body is accepted exactly if it is TLVs to its end; else the first place without one is
+//!   named. So are the octets after some TLVs. — `check_body`; `check_rest`
+//! - Its TLVs come in order, each once, with their offsets. — `Tlvs::new`, `advance`, `Tlvs` as an
+//!   iterator
+//! - A packet starts with the stated parser state. — `State::at`, `new`
+//! - A key has two prefixes of one family; an announcement has no reserved router-id and no
+//!   infinite metric. These, and held values, have orders as addresses have. — `Key::new`,
+//!   `Ann::new` · *fits*, *value*; `laws::key_order`, `announcement_order`, `held_order`,
+//!   `orders_are_total`, `equal_are_one`
+//! - A pair's group is the stated octets after the pairs of its packet so far, at most 96 (79 by
+//!   its TLVs' lengths); what is being written then stands for these and the pair. —
+//!   `Writing::new`; `put_group` · *behind*, *after*, *few*
 #![tactic(auto)]
 
 mod address;

@@ -1,18 +1,18 @@
 -- What is said behind the first change, and before it.
-use Rattle.std.proofs.Common.{◌≡◌, inl, inr, ℕ, ◌+◌, ◌-◌, ◌^◌, ◌<◌, ◌≤◌, cond, List, [], ◌∷◌, length, get_or, take, drop, Option, Some, None, refl, sym, ◌∙◌, ap, subst, arith}
+use Rattle.std.proofs.Common.{◌≡◌, inl, inr, ℕ, ◌-◌, ◌^◌, ◌<◌, ◌≤◌, cond, List, [], ◌∷◌, length, get_or, take, drop, Option, Some, None, refl, sym, ◌∙◌, ap, subst, arith}
 use Rattle.std.proofs.Math.Seq.{take-length}
-use Rattle.std.proofs.lemmas.Bool.{cases_lt}
 use Rattle.babel_prefix.proofs.Members.{Listed}
 use Rattle.babel_trie.specs.Boxes.{Answers, SameAnswers}
-use Rattle.babel_trie.specs.Runs.{said_at, AreRuns, StartAfter, run_answers}
+use Rattle.babel_trie.specs.Runs.{said_at, AreRuns, StartAfter, HasRuns, run_answers}
 use Rattle.babel_trie.specs.Spans.{start_or}
-use Rattle.babel_trie.specs.Differs.{AgreeBelow, DifferFirst, AgreeBelowBoth, DifferFirstAt, IsFirstPair}
+use Rattle.babel_trie.specs.Differs.{IsFirstPair}
 use Rattle.babel_trie.specs.Held.{sources_at}
 use Rattle.babel_trie.specs.Interned.{HasTrie}
 use Rattle.babel_trie.specs.Shape.{value_at}
 use Rattle.babel_trie.specs.declared.table.Node.{Node}
 use Rattle.babel_trie.specs.declared.table.Sources.{Sources}
 use Rattle.babel_trie.specs.declared.table.Sources.TheVariants.{Stored}
+use Rattle.babel_trie.proofs.AgreeLaws.{IsAt}
 use Rattle.babel_trie.proofs.HeldLaws.{sources_at-stands}
 use Rattle.babel_trie.specs.declared.runs.Change.{Change}
 use Rattle.babel_trie.proofs.RunLaws.{reached, above}
@@ -61,12 +61,6 @@ module _ {F : Type 0} where
   tail-said none (x ∷ xs) other d some le =
       ap (λ ys. said_at x.sources ys d) (sym (tail-is x xs)) ∙ sym (ap (λ b. said_at (cond b x.sources none) xs d) (reached x d le))
 
-  -- what a list says from an address up to the next change
-  pub said-step : (none here says : F) (list rest tail : List (Change F)) (at d : ℕ) → ((e : ℕ) → at ≤ e → said_at here rest e ≡ said_at none list e)
-      → ((e : ℕ) → at ≤ e → said_at says tail e ≡ said_at here rest e) →
-      StartAfter d tail → at ≤ d → said_at none list d ≡ says
-  said-step none here says list rest tail at d p q ahead le = sym (p d le) ∙ sym (q d le) ∙ said-before says tail d ahead
-
   -- a list that says something of the first address says the same whatever came before
   pub said-first : (list : List (Change F)) (other : Change F) (none : F) (end : ℕ) → 0 < length list → start_or end list ≡ 0 → (d : ℕ)
       → said_at (get_or list 0 other).sources list d ≡ said_at none list d
@@ -79,39 +73,18 @@ module _ {F : Type 0} where
 abbrev pub no_sources : {V : Type 0} → Sources V
 no_sources = Stored (record { 0 = 0 })
 
--- what two lists of changes answer, by what they say
-module _ {V : Type 0} (w : ℕ) (none : Sources (Option V)) where
-  -- what they answer for a destination is what the trie of what they say there does
-  pub answers-at : (sources : List (Node (Option V))) (list : List (Change (Sources (Option V)))) (d : ℕ) (says : Sources (Option V))
-      → said_at none list d ≡ says → (h : HasTrie w sources says) → run_answers w sources none list d ≡ value_at h.trie w
-  answers-at sources list d says is h = ap (λ (n : Sources (Option V)). value_at (sources_at w sources n) w) is ∙ ap (λ t. value_at t w) (sources_at-stands w sources says h)
-
-  module _ (sources others : List (Node (Option V))) (left right : List (Change (Sources (Option V)))) (here there : Sources (Option V))
-      (h : HasTrie w sources here) (k : HasTrie w others there) (at : ℕ)
-      (below : AgreeBelowBoth at (2 ^ w) (run_answers w sources none left) (run_answers w others none right)) where
-    -- up to the next change of either they answer the same, where the tries do
-    pub answers-agree : (end : ℕ) → ((d : ℕ) → at ≤ d → d ≤ end → said_at none left d ≡ here)
-        → ((d : ℕ) → at ≤ d → d ≤ end → said_at none right d ≡ there) → AgreeBelow (2 ^ w) (value_at h.trie w) (value_at k.trie w) →
-        (n : ℕ) → n ≤ end + 1 → AgreeBelowBoth n (2 ^ w) (run_answers w sources none left) (run_answers w others none right)
-    answers-agree end here_is there_is same n n_in d d_in s s_in =
-        elim (cases_lt d at) [
-          | inl lt ↦ below d lt s s_in
-          | inr ge ↦
-              ap (λ (f : ℕ → Option V). f s) (answers-at sources left d here (here_is d ge (omega arith)) h) ∙ same s s_in
-              ∙ sym (ap (λ (f : ℕ → Option V). f s) (answers-at others right d there (there_is d ge (omega arith)) k))
-        ]
-
-    -- where the tries differ the lists do
-    pub answers-first : (src : ℕ) → at < 2 ^ w → said_at none left at ≡ here → said_at none right at ≡ there → DifferFirst (2 ^ w) (value_at h.trie w) (value_at k.trie w) src →
-        DifferFirstAt (2 ^ w) (2 ^ w) (run_answers w sources none left) (run_answers w others none right) (at, src)
-    answers-first src at_in here_is there_is d =
-        let l = sym (answers-at sources left at here here_is h) in
-        let r = sym (answers-at others right at there there_is k) in
-        record {
-          in_range = at_in;
-          differ = subst (λ f. DifferFirst (2 ^ w) f (run_answers w others none right at) src) l (subst (λ g. DifferFirst (2 ^ w) (value_at h.trie w) g src) r d);
-          agree_below = below;
-        }
+-- from an address up to its next change a list answers as what it says there
+pub list_at : {V : Type 0} {w : ℕ} {nodes : List (Node (Option V))} {list : List (Change (Sources (Option V)))} {f : Answers V} → HasRuns w nodes list f →
+    (here says : Sources (Option V)) (rest tail : List (Change (Sources (Option V)))) (at : ℕ) → at < 2 ^ w → ((d : ℕ) → at ≤ d → said_at here rest d ≡ said_at no_sources list d)
+    → ((d : ℕ) → at ≤ d → said_at says tail d ≡ said_at here rest d) → StartAfter at tail → IsAt w at (run_answers w nodes no_sources list) nodes says (λ d. StartAfter d tail)
+list_at {V} {w} {nodes} {list} runs here says rest tail at at_in p q behind =
+    let is = λ (d : ℕ) (le : at ≤ d) (ahead : StartAfter d tail). sym (p d le) ∙ sym (q d le) ∙ said-before says tail d ahead in
+    let held = subst (HasTrie w nodes) (is at (omega arith) behind) (runs.each no_sources at at_in) in
+    record {
+      held = held;
+      quiet = behind;
+      answers = λ d le d_in ahead src src_in. ap (λ (s : Sources (Option V)). value_at (sources_at w nodes s) w src) (is d le ahead) ∙ ap (λ t. value_at t w src) (sources_at-stands w nodes says held);
+    }
 
 -- functions that agree with two others differ first where those do
 pub first-same : {V : Type 0} (w : ℕ) (f g f' g' : Answers V) → SameAnswers w f f' → SameAnswers w g g' → (found : Option (ℕ × ℕ))

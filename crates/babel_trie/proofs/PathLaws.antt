@@ -1,6 +1,6 @@
 -- A node from some bits further on its path, and what is looked up there.
 use mathlib.Core.Bool.{beq}
-use Rattle.std.proofs.Common.{◌≡◌, inl, inr, ℕ, zero, suc, ◌-◌, ◌<◌, ◌≤◌, Bool, true, false, cond, List, length, Some, refl, sym, ◌∙◌, ap, subst, arith}
+use Rattle.std.proofs.Common.{◌≡◌, inl, inr, ℕ, zero, suc, ◌+◌, ◌-◌, ◌<◌, ◌≤◌, Bool, true, false, cond, List, get_or, length, Some, refl, sym, ◌∙◌, ap, subst, arith}
 use Rattle.std.specs.List.{slice_get}
 use Rattle.babel_trie.specs.Shape.{Shape, leaf, fork, is_low, value_at}
 use Rattle.babel_trie.specs.Interned.{Opens, OpensFrom, further, inner, HaveHalves, Stands, IsNormal, IsNormalLoose, IsTrie, FitsPath}
@@ -12,7 +12,7 @@ use Rattle.babel_trie.specs.declared.table.NodeNumber.{NodeNumber}
 use Rattle.babel_trie.specs.declared.table.Sources.{Sources}
 use Rattle.babel_trie.specs.declared.table.Sources.TheVariants.{Constant, Stored}
 use Rattle.babel_trie.proofs.FormLaws.{HalvesOf, halves_of_trie, some_bits, Opens-in}
-use Rattle.babel_trie.proofs.NumberLaws.{inner-more, inner-normal, is_low-mod}
+use Rattle.babel_trie.proofs.NumberLaws.{inner-more, inner-normal, is_low-mod, slice_get_at, slice_get_in}
 use Rattle.std.proofs.lemmas.Bool.{false≢true}
 
 -- bits that are tested for equality
@@ -73,12 +73,40 @@ module _ {V : Type 0} (nodes : List (Node V)) where
       let e : p.0 ≡ node = cc in
       (subst (λ (m : Node V). passed ≤ m.skip) e p.2, p.3 ∙ ap (λ (m : Node V). let z : Loose V = Split (further passed m) in z) e)
 
-  pub around : (number : NodeNumber) (node : Node V) (passed bits : ℕ) (x : Loose V) → OpensFrom nodes (Stored number) passed x → slice_get nodes number.0 ≡ Some node → IsTrie bits nodes x →
-      (passed ≤ node.skip) × (node.skip - passed < bits) × HalvesOf nodes bits (Split (further passed node))
-  around number node passed bits x p at h =
-      let f = from_stored number node passed x p at in
+  -- the node that is read where sources are stored, as far as bits of its path are passed
+  pub record IsRead (s : Sources V) (number : NodeNumber) (node : Node V) (passed bits : ℕ) : Type 0 where
+    pub is : s ≡ Stored number
+    pub at : slice_get nodes number.0 ≡ Some node
+    pub passed_in : passed ≤ node.skip
+    pub left_in : node.skip - passed < bits
+    pub rest : HalvesOf nodes bits (Split (further passed node))
+
+  pub read : (s : Sources V) (number : NodeNumber) (node : Node V) (passed bits : ℕ) (x : Loose V) → s ≡ Stored number → OpensFrom nodes s passed x → IsTrie bits nodes x →
+      node ≡ get_or nodes number.0 node → IsRead s number node passed bits
+  read s number node passed bits x is p h here =
+      let opens = subst (λ (r : Sources V). OpensFrom nodes r passed x) is p in
+      let at = slice_get_at nodes number.0 node (slice_get_in nodes number.0 opens.0 opens.1) here in
+      let f = from_stored number node passed x opens at in
       let trie = subst (IsTrie bits nodes) f.1 h in
-      (f.0, omega (arith, some_bits nodes bits (further passed node) trie, further-skip passed node), halves_of_trie nodes bits (further passed node) trie)
+      record {
+        is = is;
+        at = at;
+        passed_in = f.0;
+        left_in = omega (arith, some_bits nodes bits (further passed node) trie, further-skip passed node);
+        rest = halves_of_trie nodes bits (further passed node) trie;
+      }
+
+  module _ {s : Sources V} {number : NodeNumber} {node : Node V} {passed bits : ℕ} (a : IsRead s number node passed bits) where
+    -- what the sources stand for, the rest of the path does
+    pub rest_stands : (x : Loose V) (t : Shape V) → OpensFrom nodes s passed x → Stands nodes x t → Stands nodes (Split (further passed node)) t
+    rest_stands x t p q = subst (λ (y : Loose V). Stands nodes y t) (from_stored number node passed x (subst (λ (r : Sources V). OpensFrom nodes r passed x) a.is p) a.at).1 q
+
+    -- and one bit further on
+    pub one_on : passed < node.skip → (x : Loose V) × (Split (inner (further passed node)) ≡ x) × OpensFrom nodes s (passed + 1) x
+    one_on left =
+        let e : suc passed ≡ passed + 1 = omega arith in
+        let next : Loose V = Split (further (passed + 1) node) in
+        (next, ap (λ (n : ℕ). let y : Loose V = Split (further n node) in y) e, subst (λ (r : Sources V). OpensFrom nodes r (passed + 1) next) (sym a.is) (node, a.at, omega arith, refl))
 
   -- what a node names at its block
   pub at_block : (y : Node V) (l h : Loose V) → HaveHalves nodes y l h → y.skip ≡ 0 → Opens nodes y.low l × Opens nodes y.high h

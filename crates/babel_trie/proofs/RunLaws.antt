@@ -11,10 +11,10 @@ use Rattle.babel_trie.specs.Shape.{Shape, leaf, fork, value_at}
 use Rattle.babel_trie.specs.Sound.{KeepsNodes}
 use Rattle.babel_trie.specs.declared.runs.Change.{Change}
 use Rattle.babel_trie.specs.declared.table.Loose.{Loose}
-use Rattle.babel_trie.specs.declared.table.Loose.TheVariants.{Same, Split}
+use Rattle.babel_trie.specs.declared.table.Loose.TheVariants.{Same}
 use Rattle.babel_trie.specs.declared.table.Node.{Node}
 use Rattle.babel_trie.specs.declared.table.Sources.{Sources}
-use Rattle.babel_trie.specs.declared.table.Sources.TheVariants.{Constant, Stored}
+use Rattle.babel_trie.specs.declared.table.Sources.TheVariants.{Constant}
 use Rattle.std.proofs.Math.Seq.{take-length}
 use Rattle.std.proofs.lemmas.List.{length-take}
 use Rattle.babel_trie.proofs.HeldLaws.{sources_at-stands}

@@ -1,7 +1,6 @@
 -- What two passes have come to, told apart, is what their rows answer differently.
-use Rattle.std.proofs.Common.{◌≡◌, inl, inr, ℕ, ◌^◌, ◌<◌, ◌≤◌, List, map, Option, Some, None, refl, sym, subst, arith}
-use Rattle.babel_prefix.specs.Best.{Row, answer}
-use Rattle.babel_prefix.specs.Entries.{Entry, row_of}
+use Rattle.std.proofs.Common.{◌≡◌, inl, inr, ℕ, ◌^◌, ◌<◌, ◌≤◌, List, Option, Some, None, refl, sym, subst, arith}
+use Rattle.babel_prefix.specs.Best.{Row}
 use Rattle.babel_trie.specs.Boxes.{Answers, HasEqualityTest, IsBoxList, SameAnswers}
 use Rattle.babel_trie.specs.Differences.{TellsApart, IsDifference, AreDifferences}
 use Rattle.babel_trie.specs.Pass.{IsFilled}
@@ -16,7 +15,7 @@ use Rattle.babel_trie.proofs.BoxesExist.{boxes_exist}
 use Rattle.babel_trie.proofs.BoxLaws.{same_option}
 use Rattle.babel_trie.proofs.Decided.{Decided}
 use Rattle.babel_trie.proofs.DifferenceLaws.{differing_test}
-use Rattle.babel_trie.proofs.PairLaws.{IsAt}
+use Rattle.babel_trie.proofs.AgreeLaws.{IsAt}
 use Rattle.babel_trie.proofs.RunLaws.{HasValues, Says, says-more}
 use Rattle.babel_trie.proofs.TellLaws.{one_told}
 
@@ -47,15 +46,13 @@ module _ {V : Type 0} where
     pub differences_exist : (w : ℕ) → (boxes : List (Row (Differing V))) × AreDifferences w f g boxes
     differences_exist w = let boxes = boxes_apart w in (boxes.0, record { difference = apart; is_difference = is_apart w; box_list = boxes.1 })
 
-  module _ {w at : ℕ} {rows others : List (Entry V)} {nodes : List (Node (Option V))} {here there : Sources (Option V)} {Quiet OtherQuiet : ℕ → Type 0}
-      (l : IsAt w at rows nodes here Quiet) (r : IsAt w at others nodes there OtherQuiet) where
+  module _ {w at : ℕ} {f g : Answers V} {nodes : List (Node (Option V))} {here there : Sources (Option V)} {Quiet OtherQuiet : ℕ → Type 0}
+      (l : IsAt w at f nodes here Quiet) (r : IsAt w at g nodes there OtherQuiet) where
     -- what tells apart what both passes have come to is what the rows answer differently, up to the next change of either
-    pub told-values : (h : Answers (Differing V)) → IsDifference w (answer w (map row_of rows)) (answer w (map row_of others)) h →
+    pub told-values : (h : Answers (Differing V)) → IsDifference w f g h →
         (differing : List (Node (Option (Differing V)))) (s : Sources (Option (Differing V))) →
         AreTold nodes here there differing s → (d : ℕ) → at ≤ d → d < 2 ^ w → Quiet d → OtherQuiet d → HasValues w (h d) differing s
     told-values h is differing s told d le d_in quiet other_quiet =
-        let f = answer w (map row_of rows) in
-        let g = answer w (map row_of others) in
         let at = told l.held.trie r.held.trie l.held.stands r.held.stands in
         record {
           held = record { trie = at.0; stands = at.1; fits = at.2.fits w l.held.fits r.held.fits; reduced = at.2.reduced };
@@ -66,7 +63,7 @@ module _ {V : Type 0} where
         }
 
     -- so the list says it up to there, once it says what tells them apart
-    pub told-more : (h : Answers (Differing V)) → IsDifference w (answer w (map row_of rows)) (answer w (map row_of others)) h →
+    pub told-more : (h : Answers (Differing V)) → IsDifference w f g h →
         (to : ℕ) (old new : List (Node (Option (Differing V)))) (list after : List (Change (Sources (Option (Differing V))))) (s : Sources (Option (Differing V))) →
         KeepsNodes old new → AreTold nodes here there new s → IsFilled at to s list after → to ≤ 2 ^ w →
         ((d : ℕ) → d < to → Quiet d × OtherQuiet d) → Says w at h old list → Says w to h new after

@@ -1,6 +1,6 @@
 -- What is answered from an address on, as a list of the addresses at which that changes: this
 -- project's own, over the best match of RFC 9079, 4.
-use Rattle.std.specs.Prelude.{◌≡◌, ◌≢◌, ℕ, ◌^◌, ◌<◌, ◌≤◌, cond, nat_le, List, [], ◌∷◌, Option}
+use Rattle.std.specs.Prelude.{◌≢◌, ℕ, ◌^◌, ◌<◌, ◌≤◌, cond, nat_le, List, [], ◌∷◌, Option}
 use Rattle.babel_prefix.specs.Members.{Listed}
 use Rattle.babel_trie.specs.Boxes.{Answers, SameAnswers}
 use Rattle.babel_trie.specs.Held.{sources_at}

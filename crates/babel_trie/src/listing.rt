@@ -1,18 +1,17 @@
 //! The rows of a list of changes.
-ghost use Rattle.std.specs.Prelude.{◌≡◌, ◌+◌, ◌-◌, ◌*◌, ◌^◌, ◌%◌, ◌<◌, ◌≤◌, ◌++◌};
-ghost use Rattle.std.specs.Prelude.{List, map, length, OnOk, OnErr, Option, None, true, false};
+ghost use Rattle.std.specs.Prelude.{◌≡◌, ◌+◌, ◌-◌, ◌*◌, ◌^◌, ◌%◌, ◌<◌, ◌≤◌};
+ghost use Rattle.std.specs.Prelude.{map, length, OnOk, OnErr, Option, None, true, false};
 ghost use Rattle.babel_prefix.specs.Address.{block_of};
 ghost use Rattle.babel_prefix.specs.Covers.{IsAddressPrefix, IsBlock};
-ghost use Rattle.babel_prefix.specs.Entries.{Entry};
 ghost use Rattle.babel_prefix.specs.Members.{Listed};
 ghost use Rattle.babel_prefix.specs.Width.{width_of};
 ghost use Rattle.babel_trie.specs.Cut.{block_from, largest_in};
 ghost use Rattle.babel_trie.specs.Held.{sources_at};
 ghost use Rattle.babel_trie.specs.Interned.{Stands, Represents, IsTrie, HasTrie};
-ghost use Rattle.babel_trie.specs.Nested.{entry_at, node_block, leaves, rows_at, rows_of};
+ghost use Rattle.babel_trie.specs.Nested.{block_rows, entry_at, node_block, rows_of};
 ghost use Rattle.babel_trie.specs.Runs.{AreRuns, StartBelow};
 ghost use Rattle.babel_trie.specs.Shape.{Shape, leaf};
-ghost use Rattle.babel_trie.specs.Sinks.{StopsAmong};
+ghost use Rattle.babel_trie.specs.Sinks.{GoesOn, StopsIn};
 ghost use Rattle.babel_trie.specs.Spans.{each_with, run_rows};
 ghost use Rattle.babel_trie.specs.declared.runs.Change.{Change};
 ghost use Rattle.babel_trie.specs.declared.table.Loose.TheVariants.{Split};
@@ -129,14 +128,10 @@ fn push_constant<V: Copy, S: Sink<V>>(
     requires place { place < 2 ^ (width_of family - bits) }
     requires can { S.can_put out.old }
     ensures can { OnOk result (S.can_put out.new) }
-    ensures ok { OnOk result ((t : Shape (Option V)) (start : S) (rows : List (Entry V))
-        → leaf constant ≡ t → S.has start out.old rows
-        → S.has start out.new (rows ++ map (entry_at family)
-        (rows_at (block_of dst) (leaves (width_of family) bits place t)))) }
-    ensures err { OnErr result ((t : Shape (Option V)) (start : S) (rows : List (Entry V))
-        → leaf constant ≡ t → S.has start out.old rows
-        → StopsAmong (S.stopped start out.new) rows (map (entry_at family)
-        (rows_at (block_of dst) (leaves (width_of family) bits place t)))) }
+    ensures ok { OnOk result ((t : Shape (Option V)) → leaf constant ≡ t
+        → GoesOn S.has out.old out.new (block_rows family dst bits place t)) }
+    ensures err { OnErr result ((t : Shape (Option V)) → leaf constant ≡ t
+        → StopsIn S.has S.stopped out.old out.new (block_rows family dst bits place t)) }
 {
     let Some(value) = constant else {
         return Ok(());
@@ -163,14 +158,12 @@ impl<V: LawfulOrd> Table<Option<V>> {
         requires place { place < 2 ^ (width_of family - bits) }
         requires can { S.can_put out.old }
         ensures can { OnOk result (S.can_put out.new) }
-        ensures ok { OnOk result ((t : Shape (Option V)) (start : S) (rows : List (Entry V))
-            → Represents self.now.nodes.items sources.now t → S.has start out.old rows
-            → S.has start out.new (rows ++ map (entry_at family)
-            (rows_at (block_of dst) (leaves (width_of family) bits place t)))) }
-        ensures err { OnErr result ((t : Shape (Option V)) (start : S) (rows : List (Entry V))
-            → Represents self.now.nodes.items sources.now t → S.has start out.old rows
-            → StopsAmong (S.stopped start out.new) rows (map (entry_at family)
-            (rows_at (block_of dst) (leaves (width_of family) bits place t)))) }
+        ensures ok { OnOk result ((t : Shape (Option V))
+            → Represents self.now.nodes.items sources.now t
+            → GoesOn S.has out.old out.new (block_rows family dst bits place t)) }
+        ensures err { OnErr result ((t : Shape (Option V))
+            → Represents self.now.nodes.items sources.now t
+            → StopsIn S.has S.stopped out.old out.new (block_rows family dst bits place t)) }
     {
         match sources {
             Sources::Constant(constant) => push_constant(*constant, family, dst, bits, place, out),
@@ -199,14 +192,12 @@ impl<V: LawfulOrd> Table<Option<V>> {
         requires place { place < 2 ^ (width_of family - bits) }
         requires can { S.can_put out.old }
         ensures can { OnOk result (S.can_put out.new) }
-        ensures ok { OnOk result ((t : Shape (Option V)) (start : S) (rows : List (Entry V))
-            → Stands self.now.nodes.items (Split node.now) t → S.has start out.old rows
-            → S.has start out.new (rows ++ map (entry_at family)
-            (rows_at (block_of dst) (leaves (width_of family) bits place t)))) }
-        ensures err { OnErr result ((t : Shape (Option V)) (start : S) (rows : List (Entry V))
-            → Stands self.now.nodes.items (Split node.now) t → S.has start out.old rows
-            → StopsAmong (S.stopped start out.new) rows (map (entry_at family)
-            (rows_at (block_of dst) (leaves (width_of family) bits place t)))) }
+        ensures ok { OnOk result ((t : Shape (Option V))
+            → Stands self.now.nodes.items (Split node.now) t
+            → GoesOn S.has out.old out.new (block_rows family dst bits place t)) }
+        ensures err { OnErr result ((t : Shape (Option V))
+            → Stands self.now.nodes.items (Split node.now) t
+            → StopsIn S.has S.stopped out.old out.new (block_rows family dst bits place t)) }
     {
         if has_nothing_beside(node) {
             let (bits, place) = block_of_node(node, family, bits, place);
@@ -237,51 +228,17 @@ impl<V: LawfulOrd> Table<Option<V>> {
         requires place { place < 2 ^ (width_of family - bits) }
         requires can { S.can_put out.old }
         ensures can { OnOk result (S.can_put out.new) }
-        ensures ok { OnOk result ((t : Shape (Option V)) (start : S) (rows : List (Entry V))
-            → Stands self.now.nodes.items whole.now t → S.has start out.old rows
-            → S.has start out.new (rows ++ map (entry_at family)
-            (rows_at (block_of dst) (leaves (width_of family) bits place t)))) }
-        ensures err { OnErr result ((t : Shape (Option V)) (start : S) (rows : List (Entry V))
-            → Stands self.now.nodes.items whole.now t → S.has start out.old rows
-            → StopsAmong (S.stopped start out.new) rows (map (entry_at family)
-            (rows_at (block_of dst) (leaves (width_of family) bits place t)))) }
+        ensures ok { OnOk result ((t : Shape (Option V))
+            → Stands self.now.nodes.items whole.now t
+            → GoesOn S.has out.old out.new (block_rows family dst bits place t)) }
+        ensures err { OnErr result ((t : Shape (Option V))
+            → Stands self.now.nodes.items whole.now t
+            → StopsIn S.has S.stopped out.old out.new (block_rows family dst bits place t)) }
     {
         match whole {
             Loose::Same(constant) => push_constant(*constant, family, dst, bits, place, out),
             Loose::Split(node) => self.push_node(node, family, dst, bits, place, out),
         }
-    }
-
-    /// Puts out the rows of one destination prefix and any source, in order: one row where one
-    /// value is answered for all sources.
-    fn push_block<S: Sink<V>>(
-        &self,
-        whole: Loose<Option<V>>,
-        family: Family,
-        dst: Prefix,
-        out: &mut S,
-    ) -> Result<(), S::Error>
-        requires trie { IsTrie (width_of family) self.now.nodes.items whole }
-        requires dst_family { dst.address.family ≡ family }
-        requires can { S.can_put out.old }
-        ensures can { OnOk result (S.can_put out.new) }
-        ensures ok { OnOk result ((t : Shape (Option V)) (start : S) (rows : List (Entry V))
-            → Stands self.now.nodes.items whole t → S.has start out.old rows
-            → S.has start out.new (rows ++ map (entry_at family)
-            (rows_at (block_of dst) (leaves (width_of family) (width_of family) 0 t)))) }
-        ensures err { OnErr result ((t : Shape (Option V)) (start : S) (rows : List (Entry V))
-            → Stands self.now.nodes.items whole t → S.has start out.old rows
-            → StopsAmong (S.stopped start out.new) rows (map (entry_at family)
-            (rows_at (block_of dst) (leaves (width_of family) (width_of family) 0 t)))) }
-    {
-        let Loose::Same(constant) = whole else {
-            return self.push_rows(&whole, family, dst, family.width(), 0, out);
-        };
-        let Some(value) = constant else {
-            return Ok(());
-        };
-        out.put((dst, Prefix::whole(family), value))?;
-        Ok(())
     }
 
     /// Puts out the rows of the largest blocks from one destination to another, in order, all with
@@ -299,22 +256,19 @@ impl<V: LawfulOrd> Table<Option<V>> {
         requires fits { last < 2 ^ width_of family }
         requires can { S.can_put out.old }
         ensures can { OnOk result (S.can_put out.new) }
-        ensures ok { OnOk result ((start : S) (rows : List (Entry V)) → S.has start out.old rows
-            → S.has start out.new (rows ++ map (entry_at family) (rows_of (width_of family)
-            (each_with (sources_at (width_of family) self.now.nodes.items sources)
-            (largest_in (width_of family) from last))))) }
-        ensures err { OnErr result ((start : S) (rows : List (Entry V)) → S.has start out.old rows
-            → StopsAmong (S.stopped start out.new) rows (map (entry_at family)
-            (rows_of (width_of family) (each_with
-            (sources_at (width_of family) self.now.nodes.items sources)
-            (largest_in (width_of family) from last))))) }
+        ensures ok { let width = width_of family in OnOk result (GoesOn S.has out.old out.new
+            (map (entry_at family) (rows_of width (each_with
+            (sources_at width self.now.nodes.items sources) (largest_in width from last))))) }
+        ensures err { let width = width_of family in OnErr result (StopsIn S.has S.stopped
+            out.old out.new (map (entry_at family) (rows_of width (each_with
+            (sources_at width self.now.nodes.items sources) (largest_in width from last))))) }
     {
         let whole = self.opened(sources);
         let mut at = from;
         loop {
             let bits = first_bits(at, last);
             let dst = block_prefix(family, at, bits);
-            self.push_block(whole, family, dst, out)?;
+            self.push_rows(&whole, family, dst, family.width(), 0, out)?;
             let end = last_address(at, bits);
             if end == last {
                 return Ok(());
@@ -336,12 +290,10 @@ impl<V: LawfulOrd> Table<Option<V>> {
             → HasTrie (width_of family) self.now.nodes.items x.sources }
         requires can { S.can_put out.old }
         ensures can { OnOk result (S.can_put out.new) }
-        ensures ok { OnOk result ((start : S) (rows : List (Entry V)) → S.has start out.old rows
-            → S.has start out.new (rows ++ map (entry_at family)
-            (run_rows (width_of family) self.now.nodes.items runs.now))) }
-        ensures err { OnErr result ((start : S) (rows : List (Entry V)) → S.has start out.old rows
-            → StopsAmong (S.stopped start out.new) rows (map (entry_at family)
-            (run_rows (width_of family) self.now.nodes.items runs.now))) }
+        ensures ok { OnOk result (GoesOn S.has out.old out.new
+            (map (entry_at family) (run_rows (width_of family) self.now.nodes.items runs.now))) }
+        ensures err { OnErr result (StopsIn S.has S.stopped out.old out.new
+            (map (entry_at family) (run_rows (width_of family) self.now.nodes.items runs.now))) }
     {
         let top = last_address(0, family.width());
         let mut rest = runs;

@@ -95,38 +95,6 @@ fn narrow<V: LawfulOrd>(
 }
 
 impl<V: LawfulOrd> Table<Option<V>> {
-    /// Lays the rows in a half over its trie.
-    #[cycle(lay)]
-    fn lay_half(
-        &mut self,
-        rows: &[Row<V>],
-        width: u8,
-        bits: u8,
-        start: u128,
-        trie: &mut Loose<Option<V>>,
-    ) -> Result<(), AllocError>
-        requires sound { IsSound ⟦<Sources<Option<V>> as Ord>⟧.cmp
-            ⟦<Sources<Option<V>> as LawfulOrd>⟧.mark self.old.nodes.items self.old.numbers }
-        requires trie { IsTrie bits self.old.nodes.items trie.old }
-        requires normal { IsNormalLoose self.old.nodes.items trie.old }
-        requires place { IsPlace width bits start }
-        requires rows { InBlock source_block width bits start rows.now }
-        requires one { HasOneDestination rows.now }
-        requires width { width ≤ 128 }
-        ensures sound { OnOk result (IsSound ⟦<Sources<Option<V>> as Ord>⟧.cmp
-            ⟦<Sources<Option<V>> as LawfulOrd>⟧.mark self.new.nodes.items self.new.numbers) }
-        ensures keeps { OnOk result (KeepsNodes self.old.nodes.items self.new.nodes.items) }
-        ensures normal { OnOk result (IsNormalLoose self.new.nodes.items trie.new) }
-        ensures laid { OnOk result ((t : Shape (Option V))
-            → Stands self.old.nodes.items trie.old t
-            → IsLaid width bits start (map row_of rows.now) self.new.nodes.items trie.new t) }
-    {
-        if rows.is_empty() {
-            return Ok(());
-        }
-        self.lay(rows, width, bits, start, trie)
-    }
-
     /// Lays the rows of both halves of a block over its trie.
     #[cycle(lay)]
     fn lay_halves(
@@ -156,8 +124,8 @@ impl<V: LawfulOrd> Table<Option<V>> {
             self.new.nodes.items trie.new t) }
     {
         let (mut low, mut high) = self.halves(*trie);
-        self.lay_half(rows.low, width, bits - 1, start, &mut low)?;
-        self.lay_half(rows.high, width, bits - 1, rows.middle, &mut high)?;
+        self.lay(rows.low, width, bits - 1, start, &mut low)?;
+        self.lay(rows.high, width, bits - 1, rows.middle, &mut high)?;
         self.join(&low, &high, trie)?;
         Ok(())
     }
@@ -205,7 +173,7 @@ impl<V: LawfulOrd> Table<Option<V>> {
         Ok(())
     }
 
-    /// Lays rows of one destination over the trie of a block.
+    /// Lays rows of one destination, if there are any, over the trie of a block.
     #[cycle(lay)]
     fn lay(
         &mut self,
@@ -231,6 +199,9 @@ impl<V: LawfulOrd> Table<Option<V>> {
             → Stands self.old.nodes.items trie.old t
             → IsLaid width bits start (map row_of rows.now) self.new.nodes.items trie.new t) }
     {
+        if rows.is_empty() {
+            return Ok(());
+        }
         if let Some(narrowed) = narrow(rows, width, bits, start, trie) {
             self.lay_inside(rows, width, bits, &narrowed, trie)?;
             return Ok(());

@@ -4,7 +4,7 @@ use Rattle.std.proofs.lemmas.Result.{err_from_is_err_and}
 use Rattle.babel_capture.specs.Capture.{IsReadToCut}
 use Rattle.babel_capture.specs.Counts.{Counts}
 use Rattle.babel_dump.specs.LeftOut.{LeavesNoneOut, first_left_out}
-use Rattle.babel_dump.proofs.CaptureReads.{given_capture, given_cut, given_fault, given_read}
+use Rattle.babel_dump.proofs.CaptureReads.{feed_cause, given_capture, given_cut, given_fault, given_read}
 use Rattle.babel_dump.proofs.capture_input.read_capture.Goals as goal
 
 pub returns : goal.returns
@@ -18,6 +18,14 @@ returns g c =
           c.in_ok-gathered.ensures.wanted cut.1
           (λ strict. subst (λ (r : Counts). LeavesNoneOut r) c.report.ensures (c.in_ok-refuse_left_out.ensures.none strict)) c.moment-moment.ensures);
       cause = tt;
+      called = search rules;
+    }
+
+pub returns-in_err-feed_all : goal.returns-in_err-feed_all
+returns-in_err-feed_all g c =
+    let exit = err_from_is_err_and c.from_residual.result c.from_residual.ensures.1 in record {
+      made = search rules;
+      cause = rw (exit.1, exit.2, ← c.capture_for-capture.ensures.wanted) (feed_cause _ _ _ c.in_err-feed_all.ensures.gathered.cause);
       called = search rules;
     }
 

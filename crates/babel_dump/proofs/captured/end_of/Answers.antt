@@ -15,4 +15,5 @@ returns-in_err-refuse_left_out-clause-err c =
       record { is_read = subst (λ (place : Option ℕ). IsReadToCut f.limit fed f.progress.gathering place) (sym cut.0) (c.in_ok-read_to.ensures.ok fed read); accepted = cut.1 },
       first.0,
       (search rules),
+      (search rules),
     ))

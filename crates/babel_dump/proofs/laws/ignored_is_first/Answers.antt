@@ -1,4 +1,5 @@
-use Rattle.babel_dump.proofs.FirstIgnored.{first_is_first, none_is_none, offsets_of_dumps_rise}
+use Rattle.babel_dump.proofs.FirstIgnored.{first_is_first, none_is_none}
+use Rattle.babel_dump.proofs.Rising.{offsets_of_dumps_rise}
 use Rattle.babel_dump.proofs.laws.ignored_is_first.Goals as goal
 
 pub returns-clause-none : goal.returns-clause-none

@@ -2,7 +2,7 @@
 use Rattle.std.proofs.Common.{add-one}
 use Rattle.std.specs.Option.{option_and_then}
 use Rattle.babel_table.specs.Live.{kept_at}
-use Rattle.babel_table.proofs.PassedLaws.{changed-more}
+use Rattle.babel_table.proofs.ExpiredLaws.{changed-more}
 use Rattle.babel_table.proofs.family_rows.leave_all.Goals as goal
 
 pub loop-row-preserved : goal.loop-row-preserved

@@ -5,7 +5,8 @@ use Rattle.std.specs.Option.{IfSome}
 use Rattle.babel_trie.specs.Pass.{ahead_of, rows_left}
 use Rattle.babel_trie.specs.declared.table.Sources.TheVariants.{Constant, Stored}
 use Rattle.babel_trie.proofs.NodeLaws.{sound_by}
-use Rattle.babel_trie.proofs.PairLaws.{come, rows_from, agree-more, differ-here}
+use Rattle.babel_trie.proofs.AgreeLaws.{agree-more, differ-here}
+use Rattle.babel_trie.proofs.PairLaws.{come, rows_from}
 use Rattle.babel_trie.proofs.least.first_pair_passed.Goals as goal
 
 pub loop-other-init : goal.loop-other-init

@@ -11,13 +11,13 @@ use Rattle.babel_trie.proofs.PutLaws.{put_none, put_one, stops_at_last}
 use Rattle.babel_trie.proofs.listing.push_constant.Goals as goal
 
 pub returns-in_default-clause-ok : goal.returns-in_default-clause-ok
-returns-in_default-clause-ok g c u start given is has =
+returns-in_default-clause-ok g c u is start given has =
     let all : Shape (Option g.row.V.Denot) → List (Row g.row.V.Denot) = λ x. rows_at (block_of c.args.dst) (leaves (width_of c.args.family) c.args.bits c.args.place x) in
     let same : leaf None ≡ u = ap (λ (v : Option g.row.V.Denot). leaf v) (sym c.in_default.is) ∙ is in
     put_none c.args.family (g.S.Sink.has start c.args.out.now) given (all u) (sym (ap all same)) has
 
 pub returns-clause-ok : goal.returns-clause-ok
-returns-clause-ok g c u start given is has =
+returns-clause-ok g c u is start given has =
     let all : Shape (Option g.row.V.Denot) → List (Row g.row.V.Denot) = λ x. rows_at (block_of c.args.dst) (leaves (width_of c.args.family) c.args.bits c.args.place x) in
     let Has = g.S.Sink.has start c.put.new.self in
     let v = c.in-Some.value in
@@ -26,7 +26,7 @@ returns-clause-ok g c u start given is has =
     (put_one c.args.family Has given c.args.dst c.node_prefix.result _ v c.requires.dst_family c.node_prefix.ensures.family c.node_prefix.ensures.block (c.in_ok-put.ensures.ok start given has))
 
 pub returns-in_err-put-clause-err : goal.returns-in_err-put-clause-err
-returns-in_err-put-clause-err g c = let exit = err_from_is_err_and c.from_residual.result c.from_residual.ensures.1 in rw exit.1 (λ u start given is has.
+returns-in_err-put-clause-err g c = let exit = err_from_is_err_and c.from_residual.result c.from_residual.ensures.1 in rw exit.1 (λ u is start given has.
     let all : Shape (Option g.row.V.Denot) → List (Row g.row.V.Denot) = λ x. rows_at (block_of c.args.dst) (leaves (width_of c.args.family) c.args.bits c.args.place x) in
     let Stopped = g.S.Sink.stopped start c.put.new.self in
     let v = c.in-Some.value in

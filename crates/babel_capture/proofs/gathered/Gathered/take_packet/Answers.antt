@@ -77,4 +77,4 @@ returns-clause-ok g c =
     } in
     subst (λ (v : Gathering). Sinks g.S.Sink.has c.args.sink.now sink (GatherMore v new (sighting_of (v.report.packets + 1) c.args.at packet ∷ []))) c.self.view_is
     (sinks-told g.S.Sink.has c.args.sink.now sink (GatherMore old new (next ∷ [])) telling (made_of next what) told c.take-2.ensures
-    (gathered-push next old new what refl report senders c.in_ok-interval.ensures.few (finding-taken c.finding-finding.result c.in_default.not-Refused) refl finds))
+    (gathered-push next old new what refl report senders c.in_ok-interval.ensures.few (finding-taken c.finding-finding.result c.in_default-finding.not-Refused) refl finds))

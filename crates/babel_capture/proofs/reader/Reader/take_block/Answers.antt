@@ -1,6 +1,7 @@
 use Rattle.std.proofs.Common.{◌≡◌, ◌+◌, List, ℕ, length, refl, sym, subst}
 use Rattle.std.specs.Prelude.{Ok, OnOk}
-use Rattle.std.proofs.lemmas.Result.{IfErr-weaker}
+use Rattle.std.proofs.lemmas.Result.{IfErr-weaker, IfOk-at_ok}
+use Rattle.babel_capture.specs.declared.block.Block.{Block}
 use Rattle.babel_capture.specs.declared.fault.Fault.{Fault}
 use Rattle.babel_capture.specs.declared.fault.Fault.TheVariants as faults
 use Rattle.babel_capture.specs.Blocks.{IsBlock}
@@ -16,13 +17,15 @@ use Rattle.babel_capture.proofs.reader.Reader.take_block.Goals as goal
 
 pub returns-clause-ok : goal.returns-clause-ok
 returns-clause-ok g c =
+    let says : block_said c.self.inside.context c.self.inside.at c.args.block.now ≡ Ok (content_of c.in-Ok.said) =
+    IfOk-at_ok (λ (said : Block). block_said c.self.inside.context c.self.inside.at c.args.block.now ≡ Ok (content_of said)) c.in-Ok.is c.read_block-read.ensures.ok in
     let old = the_view c.self.inside in
     let new = the_view (record { context = c.take.new.self; gathered = c.take_said.new.self; at = c.self.inside.at + length c.args.block.now; passed = c.self.inside.passed }) in
     let block = c.args.block.now in
     let is_block = subst (λ (p : Progress). IsBlock p.context p.at block) (sym c.self.view_is) c.requires.is_block in
     subst (λ (p : Progress). OnOk c.take_said.result (Sinks g.S.Sink.has c.args.sink.now c.take_said.new.sink (LeadMore p new block))) c.self.view_is
     (ok-both c.take_said.result (λ names sinks. sinks-as g.S.Sink.has c.args.sink.now c.take_said.new.sink _ (LeadMore old new block)
-    (λ more gathers. lead-push block old new (content_of c.in_ok-said.said) more is_block c.in_ok-said.ensures.ok c.in_ok-take.ensures.ok refl gathers names) sinks)
+    (λ more gathers. lead-push block old new (content_of c.in-Ok.said) more is_block says c.in_ok-take.ensures.ok refl gathers names) sinks)
     c.take_said.ensures.names c.take_said.ensures.ok)
 
 -- the block says what needs memory
@@ -31,11 +34,15 @@ Needs block old = (content : Content) × (block_said old.context old.at block �
 
 pub returns-clause-memory : goal.returns-clause-memory
 returns-clause-memory g c =
-    IfErr-weaker c.take_said.result (λ (fault : Fault). fault ≡ faults.Memory → BlockNeedsMemory c.self.inside.gathered.wanted c.self.inside.gathered.senders (content_of c.in_ok-said.said))
+    let says : block_said c.self.inside.context c.self.inside.at c.args.block.now ≡ Ok (content_of c.in-Ok.said) =
+    IfOk-at_ok (λ (said : Block). block_said c.self.inside.context c.self.inside.at c.args.block.now ≡ Ok (content_of said)) c.in-Ok.is c.read_block-read.ensures.ok in
+    IfErr-weaker c.take_said.result (λ (fault : Fault). fault ≡ faults.Memory → BlockNeedsMemory c.self.inside.gathered.wanted c.self.inside.gathered.senders (content_of c.in-Ok.said))
     (λ (fault : Fault). fault ≡ faults.Memory → Needs c.args.block.now c.args.self.now)
-    (λ fault needs memory. subst (Needs c.args.block.now) c.self.view_is (content_of c.in_ok-said.said, c.in_ok-said.ensures.ok, needs memory)) c.take_said.ensures.memory
+    (λ fault needs memory. subst (Needs c.args.block.now) c.self.view_is (content_of c.in-Ok.said, says, needs memory)) c.take_said.ensures.memory
 
 pub returns-in_err-take-clause-memory : goal.returns-in_err-take-clause-memory
 returns-in_err-take-clause-memory g c =
-    if-memory c.from_residual-in_err-take.result (Needs c.args.block.now c.args.self.now)
-    (subst (Needs c.args.block.now) c.self.view_is (content_of c.in_ok-said.said, c.in_ok-said.ensures.ok, c.in_err-take.ensures.err c.self.inside.gathered.wanted c.self.inside.gathered.senders))
+    let says : block_said c.self.inside.context c.self.inside.at c.args.block.now ≡ Ok (content_of c.in-Ok.said) =
+    IfOk-at_ok (λ (said : Block). block_said c.self.inside.context c.self.inside.at c.args.block.now ≡ Ok (content_of said)) c.in-Ok.is c.read_block-read.ensures.ok in
+    if-memory c.from_residual.result (Needs c.args.block.now c.args.self.now)
+    (subst (Needs c.args.block.now) c.self.view_is (content_of c.in-Ok.said, says, c.in_err-take.ensures.err c.self.inside.gathered.wanted c.self.inside.gathered.senders))

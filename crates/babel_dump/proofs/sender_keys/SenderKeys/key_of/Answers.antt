@@ -56,8 +56,8 @@ returns-clause-ok c =
       is_key = record {
         octets = key.octets;
         are = subst (λ (r : Reading). AreOctets keys.form r keys.view 1024 table key.octets) c.of-reading.ensures key.are;
-        line_is = ap (λ (k : MadeKey). k.line.items) c.with_passed.ensures ∙ key.line_is ∙ ap (key_line key.octets) name;
-        report_is = ap (λ (k : MadeKey). k.report) c.with_passed.ensures ∙ key.report_is;
-        rows_is = ap (λ (k : MadeKey). k.rows) c.with_passed.ensures ∙ key.rows_is;
+        line_is = ap (λ (k : MadeKey). k.line.items) c.with_expired_rows.ensures ∙ key.line_is ∙ ap (key_line key.octets) name;
+        report_is = ap (λ (k : MadeKey). k.report) c.with_expired_rows.ensures ∙ key.report_is;
+        rows_is = ap (λ (k : MadeKey). k.rows) c.with_expired_rows.ensures ∙ key.rows_is;
       };
     }

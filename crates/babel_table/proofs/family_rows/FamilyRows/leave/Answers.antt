@@ -5,7 +5,7 @@ use Rattle.std.specs.Option.{option_and_then}
 use Rattle.babel_table.specs.Live.{kept_at}
 use Rattle.babel_table.specs.Said.{Words, standing}
 use Rattle.babel_table.specs.Words.{replaced}
-use Rattle.babel_table.proofs.PassedLaws.{changed-whole, counted-said, standing-said}
+use Rattle.babel_table.proofs.ExpiredLaws.{changed-whole, counted-said, standing-said}
 use Rattle.babel_table.proofs.family_rows.FamilyRows.leave.Goals as goal
 
 pub invariant_of-self : goal.invariant_of-self

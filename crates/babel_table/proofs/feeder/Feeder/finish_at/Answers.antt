@@ -1,4 +1,4 @@
--- What was heard has no fault, and its table at the moment has the words that have not passed.
+-- What was heard has no fault, and its table at the moment has the words that have not expired.
 use Rattle.std.proofs.Common.{◌≡◌, true, subst}
 use Rattle.std.specs.Prelude.{IfOk}
 use Rattle.std.proofs.lemmas.Result.{err_from_is_err_and}

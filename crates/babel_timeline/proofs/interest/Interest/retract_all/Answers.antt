@@ -31,7 +31,7 @@ loop-change-preserved g c = record {
   leaves = leaves-next g.S.Ord.cmp g.met.S.Ord.total g.met.S.Sender.exact c.args.timeline.now.factor c.args.self.now.asked c.args.sender c.args.when c.args.timeline.now.rows c.loop-change.timeline.rows c.retract_next.new.self.rows c.in-Some.change.subject
       c.args.told.now.items c.loop-change.told.items c.tell.new.told.items c.loop-change.invariant.leaves c.in-Some.ensures.first (ap (λ (h : Held g.row.S.Denot). h.rows) c.in-Some.ensures.rows)
       (c.in_ok-tell.ensures ∙ ap (λ (t : Change g.row.S.Denot). c.loop-change.told.items ++ changes_told c.args.self.now.asked (t ∷ []))
-      (c.in-Some.ensures.told ∙ ap (λ (n : ℕ). change n c.in-Some.change.subject kinds.Retracted) c.time.ensures));
+      (c.in-Some.ensures.told ∙ ap (λ (n : ℕ). change n c.in-Some.change.subject kinds.Retracted) c.time.ensures.value));
 }
 
 pub returns-clause-ok : goal.returns-clause-ok

@@ -2,7 +2,7 @@
 use Rattle.std.proofs.Common.{ap, subst, sym, ◌∙◌, ℕ, Option, [], ◌∷◌}
 use Rattle.babel_tlv.specs.EventKinds.{event_of}
 use Rattle.babel_tlv.specs.Frames.{tlv_value}
-use Rattle.babel_table.specs.Moments.{When, told_at}
+use Rattle.babel_table.specs.Moments.{Stamp, told_at}
 use Rattle.babel_timeline.specs.Rows.{AllLast}
 use Rattle.babel_timeline.specs.Telling.{said_of}
 use Rattle.babel_timeline.proofs.TakingLaws.{at_time, taken_tells, tlv_takes}
@@ -11,7 +11,7 @@ use Rattle.babel_timeline.proofs.interest.Interest.take_tlv.Goals as goal
 pub take-requires : goal.take-requires
 take-requires g c =
     subst (λ (f : Option ℕ). AllLast g.S.Ord.cmp f c.new-when.result.time c.expire.new.timeline.rows) (sym c.expire.ensures.bounds.0)
-    (subst (λ (n : ℕ). AllLast g.S.Ord.cmp c.args.timeline.now.factor n c.expire.new.timeline.rows) (sym (ap (λ (w : When). w.time) c.new-when.ensures)) c.in_ok-expire.ensures.last)
+    (subst (λ (n : ℕ). AllLast g.S.Ord.cmp c.args.timeline.now.factor n c.expire.new.timeline.rows) (sym (ap (λ (w : Stamp). w.time) c.new-when.ensures)) c.in_ok-expire.ensures.last)
 
 pub returns-clause-ok : goal.returns-clause-ok
 returns-clause-ok g c =

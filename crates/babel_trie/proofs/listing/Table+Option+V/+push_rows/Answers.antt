@@ -1,12 +1,9 @@
 -- Rows of the lower half come first, and then those of the upper.
-use Rattle.std.proofs.Common.{get_or, length, ◌≡◌, ℕ, ◌≤◌, ◌<◌, ◌+◌, ◌-◌, ◌*◌, List, [], ◌++◌, Option, map, sym, ap, subst, arith, rules}
+use Rattle.std.proofs.Common.{get_or, length, ◌≡◌, ℕ, ◌≤◌, ◌<◌, ◌+◌, ◌-◌, ◌*◌, List, Option, ap, subst, arith, rules}
 use Rattle.std.proofs.lemmas.Option.{slice_get_within}
 use Rattle.std.proofs.lemmas.Result.{err_from_is_err_and, on_err_weaker, on_ok_weaker}
-use Rattle.babel_prefix.specs.Address.{block_of}
-use Rattle.babel_prefix.specs.Best.{Row}
 use Rattle.babel_prefix.specs.Width.{width_of}
 use Rattle.babel_trie.specs.Interned.{Represents, IsTrie, HasTrie, Stands}
-use Rattle.babel_trie.specs.Nested.{entry_at, leaves, rows_at}
 use Rattle.babel_trie.specs.Shape.{Shape, leaf}
 use Rattle.babel_trie.specs.declared.table.Loose.{Loose}
 use Rattle.babel_trie.specs.declared.table.Loose.TheVariants.{Split}
@@ -15,11 +12,10 @@ use Rattle.babel_trie.specs.declared.table.NodeNumber.{NodeNumber}
 use Rattle.babel_trie.specs.declared.table.Sources.{Sources}
 use Rattle.babel_trie.specs.declared.table.Sources.TheVariants.{Stored}
 use Rattle.babel_trie.proofs.FormLaws.{some_bits}
-use Rattle.babel_trie.proofs.HalfLaws.{halved, half_tries, fork_halves}
-use Rattle.babel_trie.proofs.ListLaws.{rows_of_halves, width_le}
+use Rattle.babel_trie.proofs.HalfLaws.{halved, half_tries}
+use Rattle.babel_trie.proofs.ListLaws.{width_le}
 use Rattle.babel_trie.proofs.NumberLaws.{one_shape, stored_node}
 use Rattle.babel_trie.proofs.PushLaws as push
-use Rattle.babel_trie.proofs.PutLaws.{put_both, stop_first, stop_then}
 use Rattle.babel_trie.proofs.listing.Table+Option+V.+push_rows.Goals as goal
 
 module _ {V : Type 0} (nodes list : List (Node V)) (s : Sources V) (number : NodeNumber) (i : ℕ) (t : Shape V) where
@@ -94,54 +90,27 @@ push_node-push_sources-requires-then-has_nothing_beside g t c κs within =
     search rules
 
 pub push_node-returns-in_err-push_sources-clause-err : goal.push_node-returns-in_err-push_sources-clause-err
-push_node-returns-in_err-push_sources-clause-err g t c = let exit = err_from_is_err_and c.from_residual.result c.from_residual.ensures.1 in rw exit.1 (λ u start given p has.
-    let nodes = c.args.self.now.nodes.items in
-    let family = c.args.family in
-    let dst = block_of c.args.dst in
-    let b = c.block_of_node-bits.result.0 in
-    let none = c.has_nothing_beside.ensures.yes c.if-has_nothing_beside.true in
-    let of = push.block_halves nodes (width_of family) c.args.bits c.args.place c.args.node.now none u p in
-    let is = push.half_rows nodes (width_of family) c.args.bits c.args.place c.args.node.now none u of b c.block_of_node-bits.result.1
-    c.places-low_place.result.0 c.places-low_place.result.1 c.block_of_node-bits.ensures.bits c.block_of_node-bits.ensures.place
-    c.places-low_place.ensures.low c.places-low_place.ensures.high dst in
-    let low = rows_at dst (leaves (width_of family) (b - 1) c.places-low_place.result.0 of.low_half) in
-    let high = rows_at dst (leaves (width_of family) (b - 1) c.places-low_place.result.1 of.high_half) in
-    let all = rows_at dst (leaves (width_of family) c.args.bits c.args.place u) in
-    stop_first family (g.S.Sink.stopped start c.push_sources.new.out) given low high all is (c.in_err-push_sources.ensures.err of.low_half start given of.low has))
+push_node-returns-in_err-push_sources-clause-err g t c = let exit = err_from_is_err_and c.from_residual.result c.from_residual.ensures.1 in rw exit.1 (λ u p.
+    let two = push.block_halves c.args.self.now.nodes.items (width_of c.args.family) c.args.bits c.args.place c.args.node.now (c.has_nothing_beside.ensures.yes c.if-has_nothing_beside.true) u p
+    c.block_of_node-bits.result.0 c.block_of_node-bits.result.1 c.places-low_place.result.0 c.places-low_place.result.1 c.block_of_node-bits.ensures.bits c.block_of_node-bits.ensures.place
+    c.places-low_place.ensures.low c.places-low_place.ensures.high in
+    push.low_stops c.args.family c.args.dst two g.S.Sink.has g.S.Sink.stopped c.args.out.now c.push_sources.new.out c.push_sources.new.out c.in_err-push_sources.ensures.err)
 
 pub push_node-returns-then-has_nothing_beside-clause-ok : goal.push_node-returns-then-has_nothing_beside-clause-ok
-push_node-returns-then-has_nothing_beside-clause-ok g t c = on_ok_weaker c.push_sources-then-has_nothing_beside.result (λ there u start given p has.
-    let nodes = c.args.self.now.nodes.items in
-    let family = c.args.family in
-    let dst = block_of c.args.dst in
-    let b = c.block_of_node-bits.result.0 in
-    let none = c.has_nothing_beside.ensures.yes c.if-has_nothing_beside.true in
-    let of = push.block_halves nodes (width_of family) c.args.bits c.args.place c.args.node.now none u p in
-    let is = push.half_rows nodes (width_of family) c.args.bits c.args.place c.args.node.now none u of b c.block_of_node-bits.result.1
-    c.places-low_place.result.0 c.places-low_place.result.1 c.block_of_node-bits.ensures.bits c.block_of_node-bits.ensures.place
-    c.places-low_place.ensures.low c.places-low_place.ensures.high dst in
-    let low = rows_at dst (leaves (width_of family) (b - 1) c.places-low_place.result.0 of.low_half) in
-    let high = rows_at dst (leaves (width_of family) (b - 1) c.places-low_place.result.1 of.high_half) in
-    let all = rows_at dst (leaves (width_of family) c.args.bits c.args.place u) in
-    put_both family (g.S.Sink.has start c.push_sources-then-has_nothing_beside.new.out) given low high all is
-    (there of.high_half start (given ++ map (entry_at family) low) of.high (c.in_ok-push_sources.ensures.ok of.low_half start given of.low has))) c.push_sources-then-has_nothing_beside.ensures.ok
+push_node-returns-then-has_nothing_beside-clause-ok g t c = on_ok_weaker c.push_sources-then-has_nothing_beside.result (λ there u p.
+    let two = push.block_halves c.args.self.now.nodes.items (width_of c.args.family) c.args.bits c.args.place c.args.node.now (c.has_nothing_beside.ensures.yes c.if-has_nothing_beside.true) u p
+    c.block_of_node-bits.result.0 c.block_of_node-bits.result.1 c.places-low_place.result.0 c.places-low_place.result.1 c.block_of_node-bits.ensures.bits c.block_of_node-bits.ensures.place
+    c.places-low_place.ensures.low c.places-low_place.ensures.high in
+    push.both_put c.args.family c.args.dst two g.S.Sink.has g.S.Sink.stopped c.args.out.now c.push_sources.new.out c.push_sources-then-has_nothing_beside.new.out c.in_ok-push_sources.ensures.ok
+    there) c.push_sources-then-has_nothing_beside.ensures.ok
 
 pub push_node-returns-then-has_nothing_beside-clause-err : goal.push_node-returns-then-has_nothing_beside-clause-err
-push_node-returns-then-has_nothing_beside-clause-err g t c = on_err_weaker c.push_sources-then-has_nothing_beside.result (λ there u start given p has.
-    let nodes = c.args.self.now.nodes.items in
-    let family = c.args.family in
-    let dst = block_of c.args.dst in
-    let b = c.block_of_node-bits.result.0 in
-    let none = c.has_nothing_beside.ensures.yes c.if-has_nothing_beside.true in
-    let of = push.block_halves nodes (width_of family) c.args.bits c.args.place c.args.node.now none u p in
-    let is = push.half_rows nodes (width_of family) c.args.bits c.args.place c.args.node.now none u of b c.block_of_node-bits.result.1
-    c.places-low_place.result.0 c.places-low_place.result.1 c.block_of_node-bits.ensures.bits c.block_of_node-bits.ensures.place
-    c.places-low_place.ensures.low c.places-low_place.ensures.high dst in
-    let low = rows_at dst (leaves (width_of family) (b - 1) c.places-low_place.result.0 of.low_half) in
-    let high = rows_at dst (leaves (width_of family) (b - 1) c.places-low_place.result.1 of.high_half) in
-    let all = rows_at dst (leaves (width_of family) c.args.bits c.args.place u) in
-    stop_then family (g.S.Sink.stopped start c.push_sources-then-has_nothing_beside.new.out) given low high all is
-    (there of.high_half start (given ++ map (entry_at family) low) of.high (c.in_ok-push_sources.ensures.ok of.low_half start given of.low has))) c.push_sources-then-has_nothing_beside.ensures.err
+push_node-returns-then-has_nothing_beside-clause-err g t c = on_err_weaker c.push_sources-then-has_nothing_beside.result (λ there u p.
+    let two = push.block_halves c.args.self.now.nodes.items (width_of c.args.family) c.args.bits c.args.place c.args.node.now (c.has_nothing_beside.ensures.yes c.if-has_nothing_beside.true) u p
+    c.block_of_node-bits.result.0 c.block_of_node-bits.result.1 c.places-low_place.result.0 c.places-low_place.result.1 c.block_of_node-bits.ensures.bits c.block_of_node-bits.ensures.place
+    c.places-low_place.ensures.low c.places-low_place.ensures.high in
+    push.high_stops c.args.family c.args.dst two g.S.Sink.has g.S.Sink.stopped c.args.out.now c.push_sources.new.out c.push_sources-then-has_nothing_beside.new.out c.in_ok-push_sources.ensures.ok
+    there) c.push_sources-then-has_nothing_beside.ensures.err
 
 pub push_node-push_rows-requires : goal.push_node-push_rows-requires
 push_node-push_rows-requires g t c κs within =
@@ -172,79 +141,52 @@ push_node-push_rows-requires-2 g t c κs within =
     search rules
 
 pub push_node-returns-in_err-push_rows-clause-err : goal.push_node-returns-in_err-push_rows-clause-err
-push_node-returns-in_err-push_rows-clause-err g t c = let exit =
-    err_from_is_err_and c.from_residual-in_err-push_rows.result c.from_residual-in_err-push_rows.ensures.1 in rw exit.1 (λ u start given p has.
-    let nodes = c.args.self.now.nodes.items in
-    let family = c.args.family in
-    let dst = block_of c.args.dst in
-    let f = fork_halves nodes (Split c.args.node.now) c.halves-low.result.0 c.halves-low.result.1 (λ v e. absurd (cc)) c.halves-low.ensures.node u p in
-    let rows : ℕ → Shape (Option g.row.V.Denot) → List (Row g.row.V.Denot) = λ k x. rows_at dst (leaves (width_of family) (c.args.bits - 1) k x) in
-    let low = rows c.places-low_place-2.result.0 f.low_half in
-    let high = rows c.places-low_place-2.result.1 f.high_half in
-    let all = rows_at dst (leaves (width_of family) c.args.bits c.args.place u) in
-    let is = sym (rows_of_halves dst (width_of family) c.args.bits c.args.place u f.low_half f.high_half [] low (low ++ high) f.is
-    (ap (λ k. rows k f.low_half) c.places-low_place-2.ensures.low) (ap (λ k. low ++ rows k f.high_half) c.places-low_place-2.ensures.high)) in
-    stop_first family (g.S.Sink.stopped start c.push_rows.new.out) given low high all is (c.in_err-push_rows.ensures.err f.low_half start given f.low_stands has))
+push_node-returns-in_err-push_rows-clause-err g t c = let exit = err_from_is_err_and c.from_residual-in_err-push_rows.result c.from_residual-in_err-push_rows.ensures.1 in rw exit.1 (λ u p.
+    let two = push.two_halves c.args.self.now.nodes.items (width_of c.args.family) c.args.bits c.args.place c.args.node.now c.halves-low.result.0 c.halves-low.result.1 c.halves-low.ensures.node u p
+    c.places-low_place-2.result.0 c.places-low_place-2.result.1 c.places-low_place-2.ensures.low c.places-low_place-2.ensures.high in
+    push.low_stops c.args.family c.args.dst two g.S.Sink.has g.S.Sink.stopped c.args.out.now c.push_rows.new.out c.push_rows.new.out c.in_err-push_rows.ensures.err)
 
 pub push_node-returns-clause-ok : goal.push_node-returns-clause-ok
-push_node-returns-clause-ok g t c = on_ok_weaker c.push_rows-2.result (λ there u start given p has.
-    let nodes = c.args.self.now.nodes.items in
-    let family = c.args.family in
-    let dst = block_of c.args.dst in
-    let f = fork_halves nodes (Split c.args.node.now) c.halves-low.result.0 c.halves-low.result.1 (λ v e. absurd (cc)) c.halves-low.ensures.node u p in
-    let rows : ℕ → Shape (Option g.row.V.Denot) → List (Row g.row.V.Denot) = λ k x. rows_at dst (leaves (width_of family) (c.args.bits - 1) k x) in
-    let low = rows c.places-low_place-2.result.0 f.low_half in
-    let high = rows c.places-low_place-2.result.1 f.high_half in
-    let all = rows_at dst (leaves (width_of family) c.args.bits c.args.place u) in
-    let is = sym (rows_of_halves dst (width_of family) c.args.bits c.args.place u f.low_half f.high_half [] low (low ++ high) f.is
-    (ap (λ k. rows k f.low_half) c.places-low_place-2.ensures.low) (ap (λ k. low ++ rows k f.high_half) c.places-low_place-2.ensures.high)) in
-    put_both family (g.S.Sink.has start c.push_rows-2.new.out) given low high all is
-    (there f.high_half start (given ++ map (entry_at family) low) f.high_stands (c.in_ok-push_rows.ensures.ok f.low_half start given f.low_stands has))) c.push_rows-2.ensures.ok
+push_node-returns-clause-ok g t c = on_ok_weaker c.push_rows-2.result (λ there u p.
+    let two = push.two_halves c.args.self.now.nodes.items (width_of c.args.family) c.args.bits c.args.place c.args.node.now c.halves-low.result.0 c.halves-low.result.1 c.halves-low.ensures.node u p
+    c.places-low_place-2.result.0 c.places-low_place-2.result.1 c.places-low_place-2.ensures.low c.places-low_place-2.ensures.high in
+    push.both_put c.args.family c.args.dst two g.S.Sink.has g.S.Sink.stopped c.args.out.now c.push_rows.new.out c.push_rows-2.new.out c.in_ok-push_rows.ensures.ok there) c.push_rows-2.ensures.ok
 
 pub push_node-returns-clause-err : goal.push_node-returns-clause-err
-push_node-returns-clause-err g t c = on_err_weaker c.push_rows-2.result (λ there u start given p has.
-    let nodes = c.args.self.now.nodes.items in
-    let family = c.args.family in
-    let dst = block_of c.args.dst in
-    let f = fork_halves nodes (Split c.args.node.now) c.halves-low.result.0 c.halves-low.result.1 (λ v e. absurd (cc)) c.halves-low.ensures.node u p in
-    let rows : ℕ → Shape (Option g.row.V.Denot) → List (Row g.row.V.Denot) = λ k x. rows_at dst (leaves (width_of family) (c.args.bits - 1) k x) in
-    let low = rows c.places-low_place-2.result.0 f.low_half in
-    let high = rows c.places-low_place-2.result.1 f.high_half in
-    let all = rows_at dst (leaves (width_of family) c.args.bits c.args.place u) in
-    let is = sym (rows_of_halves dst (width_of family) c.args.bits c.args.place u f.low_half f.high_half [] low (low ++ high) f.is
-    (ap (λ k. rows k f.low_half) c.places-low_place-2.ensures.low) (ap (λ k. low ++ rows k f.high_half) c.places-low_place-2.ensures.high)) in
-    stop_then family (g.S.Sink.stopped start c.push_rows-2.new.out) given low high all is
-    (there f.high_half start (given ++ map (entry_at family) low) f.high_stands (c.in_ok-push_rows.ensures.ok f.low_half start given f.low_stands has))) c.push_rows-2.ensures.err
+push_node-returns-clause-err g t c = on_err_weaker c.push_rows-2.result (λ there u p.
+    let two = push.two_halves c.args.self.now.nodes.items (width_of c.args.family) c.args.bits c.args.place c.args.node.now c.halves-low.result.0 c.halves-low.result.1 c.halves-low.ensures.node u p
+    c.places-low_place-2.result.0 c.places-low_place-2.result.1 c.places-low_place-2.ensures.low c.places-low_place-2.ensures.high in
+    push.high_stops c.args.family c.args.dst two g.S.Sink.has g.S.Sink.stopped c.args.out.now c.push_rows.new.out c.push_rows-2.new.out c.in_ok-push_rows.ensures.ok there) c.push_rows-2.ensures.err
 
 pub push_rows-returns-in-Same-clause-ok : goal.push_rows-returns-in-Same-clause-ok
-push_rows-returns-in-Same-clause-ok g t c = on_ok_weaker c.push_constant.result (λ there u start given p has.
-    there u start given (one_shape c.args.self.now.nodes.items c.args.whole.now (leaf c.in-Same.constant) u c.in-Same.is p) has) c.push_constant.ensures.ok
+push_rows-returns-in-Same-clause-ok g t c = on_ok_weaker c.push_constant.result (λ there u p. there u
+    (one_shape c.args.self.now.nodes.items c.args.whole.now (leaf c.in-Same.constant) u c.in-Same.is p)) c.push_constant.ensures.ok
 
 pub push_sources-returns-in-Constant-clause-ok : goal.push_sources-returns-in-Constant-clause-ok
-push_sources-returns-in-Constant-clause-ok g t c = on_ok_weaker c.push_constant.result (λ there u start given p has.
+push_sources-returns-in-Constant-clause-ok g t c = on_ok_weaker c.push_constant.result (λ there u p.
     let nodes = c.args.self.now.nodes.items in
     let opens = subst (λ (s : Sources (Option g.row.V.Denot)). Represents nodes s u) c.in-Constant.is p in
-    there u start given (one_shape nodes opens.0 (leaf c.in-Constant.constant) u opens.1 opens.2) has) c.push_constant.ensures.ok
+    there u (one_shape nodes opens.0 (leaf c.in-Constant.constant) u opens.1 opens.2)) c.push_constant.ensures.ok
 
 pub push_sources-returns-in-Stored-clause-ok : goal.push_sources-returns-in-Stored-clause-ok
-push_sources-returns-in-Stored-clause-ok g t c = on_ok_weaker c.push_node.result (λ there u start given p has.
-    there u start given (stored_stands c.args.self.now.nodes.items c.nodes.result.now c.args.sources.now c.in-Stored.number c.index.result u
-    c.index-nodes-index.result c.in-Stored.is c.nodes.ensures c.index.ensures c.index-nodes-index.is p) has) c.push_node.ensures.ok
+push_sources-returns-in-Stored-clause-ok g t c = on_ok_weaker c.push_node.result (λ there u p. there u
+    (stored_stands c.args.self.now.nodes.items c.nodes.result.now c.args.sources.now c.in-Stored.number c.index.result u
+    c.index-nodes-index.result c.in-Stored.is c.nodes.ensures c.index.ensures c.index-nodes-index.is p)) c.push_node.ensures.ok
 
 pub push_rows-returns-in-Same-clause-err : goal.push_rows-returns-in-Same-clause-err
-push_rows-returns-in-Same-clause-err g t c = on_err_weaker c.push_constant.result (λ there u start given p has.
-    there u start given (one_shape c.args.self.now.nodes.items c.args.whole.now (leaf c.in-Same.constant) u c.in-Same.is p) has) c.push_constant.ensures.err
+push_rows-returns-in-Same-clause-err g t c = on_err_weaker c.push_constant.result (λ there u p. there u
+    (one_shape c.args.self.now.nodes.items c.args.whole.now (leaf c.in-Same.constant) u c.in-Same.is p)) c.push_constant.ensures.err
 
 pub push_sources-returns-in-Constant-clause-err : goal.push_sources-returns-in-Constant-clause-err
-push_sources-returns-in-Constant-clause-err g t c = on_err_weaker c.push_constant.result (λ there u start given p has.
+push_sources-returns-in-Constant-clause-err g t c = on_err_weaker c.push_constant.result (λ there u p.
     let nodes = c.args.self.now.nodes.items in
     let opens = subst (λ (s : Sources (Option g.row.V.Denot)). Represents nodes s u) c.in-Constant.is p in
-    there u start given (one_shape nodes opens.0 (leaf c.in-Constant.constant) u opens.1 opens.2) has) c.push_constant.ensures.err
+    there u (one_shape nodes opens.0 (leaf c.in-Constant.constant) u opens.1 opens.2)) c.push_constant.ensures.err
 
 pub push_sources-returns-in-Stored-clause-err : goal.push_sources-returns-in-Stored-clause-err
-push_sources-returns-in-Stored-clause-err g t c = on_err_weaker c.push_node.result (λ there u start given p has.
-    there u start given (stored_stands c.args.self.now.nodes.items c.nodes.result.now c.args.sources.now c.in-Stored.number c.index.result u
-    c.index-nodes-index.result c.in-Stored.is c.nodes.ensures c.index.ensures c.index-nodes-index.is p) has) c.push_node.ensures.err
+push_sources-returns-in-Stored-clause-err g t c = on_err_weaker c.push_node.result (λ there u p. there u
+    (stored_stands c.args.self.now.nodes.items c.nodes.result.now c.args.sources.now c.in-Stored.number c.index.result u
+    c.index-nodes-index.result c.in-Stored.is c.nodes.ensures c.index.ensures c.index-nodes-index.is p)) c.push_node.ensures.err
 
 pub push_node-halves-low-requires : goal.push_node-halves-low-requires
 push_node-halves-low-requires g t c = (c.args.bits, omega (arith, c.requires.bits, width_le c.args.family), c.requires.trie)
@@ -279,9 +221,9 @@ pub push_node-places-low_place-requires-clause-place : goal.push_node-places-low
 push_node-places-low_place-requires-clause-place g t c = c.block_of_node-bits.ensures.inside
 
 pub push_rows-returns-in-Split-clause-ok : goal.push_rows-returns-in-Split-clause-ok
-push_rows-returns-in-Split-clause-ok g t c = on_ok_weaker c.push_node.result (λ there u start given p has.
-    there u start given (subst (λ (x : Loose (Option g.row.V.Denot)). Stands c.args.self.now.nodes.items x u) c.in-Split.is p) has) c.push_node.ensures.ok
+push_rows-returns-in-Split-clause-ok g t c = on_ok_weaker c.push_node.result (λ there u p. there u (subst (λ (x : Loose (Option g.row.V.Denot)). Stands c.args.self.now.nodes.items x u)
+    c.in-Split.is p)) c.push_node.ensures.ok
 
 pub push_rows-returns-in-Split-clause-err : goal.push_rows-returns-in-Split-clause-err
-push_rows-returns-in-Split-clause-err g t c = on_err_weaker c.push_node.result (λ there u start given p has.
-    there u start given (subst (λ (x : Loose (Option g.row.V.Denot)). Stands c.args.self.now.nodes.items x u) c.in-Split.is p) has) c.push_node.ensures.err
+push_rows-returns-in-Split-clause-err g t c = on_err_weaker c.push_node.result (λ there u p. there u (subst (λ (x : Loose (Option g.row.V.Denot)). Stands c.args.self.now.nodes.items x u)
+    c.in-Split.is p)) c.push_node.ensures.err

@@ -216,8 +216,8 @@ lay-returns-clause-laid g t c u p =
     c.lay_halves.new.self.nodes.items c.set.new.trie c.lay_halves.new.trie u set
     (c.in_ok-lay_halves.ensures.laid set.new set.stands)
 
-pub lay_halves-lay_half-requires : goal.lay_halves-lay_half-requires
-lay_halves-lay_half-requires g t c κs within =
+pub lay_halves-lay-requires : goal.lay_halves-lay-requires
+lay_halves-lay-requires g t c κs within =
     let a = c.args in
     let nodes = a.self.now.nodes.items in
     let low = c.halves-low.result.0 in
@@ -227,7 +227,7 @@ lay_halves-lay_half-requires g t c κs within =
     let whole = c.requires.trie in
     let tries = half_tries a.bits nodes a.trie.now low high parts.some whole (halved nodes a.trie.now low high halves.one halves.node whole.trie whole.stands) in
     let normals = halves_normal nodes (form_from_sound _ nodes a.self.now.numbers c.requires.sound) a.trie.now low high halves.one halves.node c.requires.normal in
-    let falls : 3 * (a.bits - 1) + 1 < t = omega (arith, c.decreases, parts.some) in
+    let falls : 3 * (a.bits - 1) < t = omega (arith, c.decreases, parts.some) in
     let trie : IsTrie (a.bits - 1) nodes low = tries.0 in
     let normal : IsNormalLoose nodes low = normals.0 in
     let place : IsPlace a.width (a.bits - 1) a.start = place_low a.width a.bits a.start parts.place parts.some in
@@ -235,12 +235,12 @@ lay_halves-lay_half-requires g t c κs within =
     let one : HasOneDestination a.rows.now.low.now = one_left a.rows.now.low.now a.rows.now.high.now c.requires.one in
     search rules
 
-pub lay_halves-lay_half-requires-2 : goal.lay_halves-lay_half-requires-2
-lay_halves-lay_half-requires-2 g t c κs within =
+pub lay_halves-lay-requires-2 : goal.lay_halves-lay-requires-2
+lay_halves-lay-requires-2 g t c κs within =
     let a = c.args in
     let nodes = a.self.now.nodes.items in
-    let new = c.lay_half.new.self.nodes.items in
-    let keeps = c.in_ok-lay_half.ensures.keeps in
+    let new = c.lay.new.self.nodes.items in
+    let keeps = c.in_ok-lay.ensures.keeps in
     let low = c.halves-low.result.0 in
     let high = c.halves-low.result.1 in
     let halves = c.halves-low.ensures in
@@ -248,7 +248,7 @@ lay_halves-lay_half-requires-2 g t c κs within =
     let whole = c.requires.trie in
     let tries = half_tries a.bits nodes a.trie.now low high parts.some whole (halved nodes a.trie.now low high halves.one halves.node whole.trie whole.stands) in
     let normals = halves_normal nodes (form_from_sound _ nodes a.self.now.numbers c.requires.sound) a.trie.now low high halves.one halves.node c.requires.normal in
-    let falls : 3 * (a.bits - 1) + 1 < t = omega (arith, c.decreases, parts.some) in
+    let falls : 3 * (a.bits - 1) < t = omega (arith, c.decreases, parts.some) in
     let trie : IsTrie (a.bits - 1) new high = IsTrie-grows nodes new keeps (a.bits - 1) high tries.1 in
     let normal : IsNormalLoose new high = IsNormalLoose-grows nodes new keeps high normals.1 in
     let place : IsPlace a.width (a.bits - 1) a.rows.now.middle = upper_place c.requires.middle parts in
@@ -265,9 +265,9 @@ lay_halves-join-requires-clause-low g t c =
     let halves = c.halves-low.ensures in
     let whole = c.requires.trie in
     let trie = (half_tries a.bits nodes a.trie.now low high c.requires.rows.some whole (halved nodes a.trie.now low high halves.one halves.node whole.trie whole.stands)).0 in
-    let laid = c.in_ok-lay_half.ensures.laid trie.trie trie.stands in
+    let laid = c.in_ok-lay.ensures.laid trie.trie trie.stands in
     let fits : height laid.new ≤ 127 = omega (arith, laid.fits trie.fits, c.requires.rows.place.bits_in, c.requires.width) in
-    IsTrie-grows c.lay_half.new.self.nodes.items c.lay_half-2.new.self.nodes.items c.in_ok-lay_half-2.ensures.keeps 127 c.lay_half.new.trie
+    IsTrie-grows c.lay.new.self.nodes.items c.lay-2.new.self.nodes.items c.in_ok-lay-2.ensures.keeps 127 c.lay.new.trie
     (record { trie = laid.new; stands = laid.stands; fits = fits; reduced = laid.reduced trie.reduced })
 
 pub lay_halves-join-requires-clause-high : goal.lay_halves-join-requires-clause-high
@@ -279,17 +279,17 @@ lay_halves-join-requires-clause-high g t c =
     let halves = c.halves-low.ensures in
     let whole = c.requires.trie in
     let trie = (half_tries a.bits nodes a.trie.now low high c.requires.rows.some whole (halved nodes a.trie.now low high halves.one halves.node whole.trie whole.stands)).1 in
-    let laid = c.in_ok-lay_half-2.ensures.laid trie.trie (Stands-grows nodes c.lay_half.new.self.nodes.items c.in_ok-lay_half.ensures.keeps high trie.trie trie.stands) in
+    let laid = c.in_ok-lay-2.ensures.laid trie.trie (Stands-grows nodes c.lay.new.self.nodes.items c.in_ok-lay.ensures.keeps high trie.trie trie.stands) in
     let fits : height laid.new ≤ 127 = omega (arith, laid.fits trie.fits, c.requires.rows.place.bits_in, c.requires.width) in
     record { trie = laid.new; stands = laid.stands; fits = fits; reduced = laid.reduced trie.reduced }
 
 pub lay_halves-join-requires-clause-low_normal : goal.lay_halves-join-requires-clause-low_normal
 lay_halves-join-requires-clause-low_normal g t c =
-    IsNormalLoose-grows c.lay_half.new.self.nodes.items c.lay_half-2.new.self.nodes.items c.in_ok-lay_half-2.ensures.keeps c.lay_half.new.trie c.in_ok-lay_half.ensures.normal
+    IsNormalLoose-grows c.lay.new.self.nodes.items c.lay-2.new.self.nodes.items c.in_ok-lay-2.ensures.keeps c.lay.new.trie c.in_ok-lay.ensures.normal
 
 pub lay_halves-returns-clause-keeps : goal.lay_halves-returns-clause-keeps
 lay_halves-returns-clause-keeps g t c i node e =
-    c.in_ok-join.ensures.keeps i node (c.in_ok-lay_half-2.ensures.keeps i node (c.in_ok-lay_half.ensures.keeps i node e))
+    c.in_ok-join.ensures.keeps i node (c.in_ok-lay-2.ensures.keeps i node (c.in_ok-lay.ensures.keeps i node e))
 
 pub lay_halves-returns-clause-laid : goal.lay_halves-returns-clause-laid
 lay_halves-returns-clause-laid g t c u p =
@@ -299,13 +299,13 @@ lay_halves-returns-clause-laid g t c u p =
     let low_half = c.halves-low.result.0 in
     let high_half = c.halves-low.result.1 in
     let nodes1 = a.self.now.nodes.items in
-    let nodes2 = c.lay_half.new.self.nodes.items in
-    let nodes3 = c.lay_half-2.new.self.nodes.items in
+    let nodes2 = c.lay.new.self.nodes.items in
+    let nodes3 = c.lay-2.new.self.nodes.items in
     let fits : height u ≤ a.bits = subst (λ x. height x ≤ a.bits) (one_shape nodes1 a.trie.now c.requires.trie.trie u c.requires.trie.stands p) c.requires.trie.fits in
     let halved = halved nodes1 a.trie.now low_half high_half c.halves-low.ensures.one c.halves-low.ensures.node u p in
-    let in_low = c.in_ok-lay_half.ensures.laid halved.low_half halved.low_stands in
-    let there = c.in_ok-lay_half-2.ensures.laid halved.high_half (Stands-grows nodes1 nodes2 c.in_ok-lay_half.ensures.keeps high_half halved.high_half halved.high_stands) in
-    let in_high = subst (λ m. IsLaid a.width (a.bits - 1) m (map row_of high) nodes3 c.lay_half-2.new.trie halved.high_half) c.requires.middle there in
-    let joined = c.in_ok-join.ensures.joins in_low.new in_high.new (Stands-grows nodes2 nodes3 c.in_ok-lay_half-2.ensures.keeps c.lay_half.new.trie in_low.new in_low.stands) in_high.stands in
-    overlaid_joined a.width a.bits a.start low high c.requires.rows nodes1 nodes2 nodes3 c.join.new.self.nodes.items low_half high_half c.lay_half.new.trie c.lay_half-2.new.trie c.join.new.whole u
+    let in_low = c.in_ok-lay.ensures.laid halved.low_half halved.low_stands in
+    let there = c.in_ok-lay-2.ensures.laid halved.high_half (Stands-grows nodes1 nodes2 c.in_ok-lay.ensures.keeps high_half halved.high_half halved.high_stands) in
+    let in_high = subst (λ m. IsLaid a.width (a.bits - 1) m (map row_of high) nodes3 c.lay-2.new.trie halved.high_half) c.requires.middle there in
+    let joined = c.in_ok-join.ensures.joins in_low.new in_high.new (Stands-grows nodes2 nodes3 c.in_ok-lay-2.ensures.keeps c.lay.new.trie in_low.new in_low.stands) in_high.stands in
+    overlaid_joined a.width a.bits a.start low high c.requires.rows nodes1 nodes2 nodes3 c.join.new.self.nodes.items low_half high_half c.lay.new.trie c.lay-2.new.trie c.join.new.whole u
     halved in_low in_high joined fits

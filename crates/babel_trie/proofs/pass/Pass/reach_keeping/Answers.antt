@@ -4,7 +4,7 @@ use Rattle.std.proofs.lemmas.Bool.{cases_lt}
 use Rattle.std.proofs.lemmas.List.{length-take}
 use Rattle.std.specs.List.{slice_get}
 use Rattle.babel_prefix.proofs.Members.{Listed}
-use Rattle.babel_trie.specs.Pass.{IsPassOver, IsQuietUpTo, ahead_of, rows_left}
+use Rattle.babel_trie.specs.Pass.{IsPassOver, IsQuietUpTo, ahead_of}
 use Rattle.babel_trie.specs.Runs.{StartAfter}
 use Rattle.babel_trie.specs.Split.{rows_of_split}
 use Rattle.babel_trie.proofs.NumberLaws.{slice_get-take, slice_get-taken, slice_get_in}

@@ -19,7 +19,8 @@ use Rattle.babel_trie.proofs.NodeLaws.{sound_by}
 use Rattle.babel_trie.proofs.BoxesExist.{boxes_exist, test_by}
 use Rattle.babel_trie.proofs.EarlyRuns.{agree_so_far, has_runs_so_far, so_far, some_below}
 use Rattle.babel_trie.proofs.NumberLaws.{slice_get-taken}
-use Rattle.babel_trie.proofs.PairLaws.{at-values, come, rows_from}
+use Rattle.babel_trie.proofs.AgreeLaws.{at-values}
+use Rattle.babel_trie.proofs.PairLaws.{come, rows_from}
 use Rattle.babel_trie.proofs.RunLaws.{Says, IsKeptWith, keeps-kept, says-all, says-grows, says-kept, says-more}
 use Rattle.babel_trie.proofs.pass.Table+Option+V.table_runs.Goals as goal
 use Rattle.babel_trie.proofs.pass.Table+Option+V.table_runs.Goals.{then-due-len+then-nodes-ge-FEW_NODES+in_ok-early_count+else-branch-most, else-due-len}

@@ -1,0 +1,119 @@
+-- What comes of what was asked for, over streams.
+use Rattle.std.proofs.Common.{◌≡◌, ◌≢◌, ℕ, Bool, List, Option, None, Some, Ok, Result, refl, sym, ap, subst, ◌∙◌}
+use Rattle.std.specs.Prelude.{IfOk, IfSome}
+use Rattle.std.specs.Io.KnownBytes.{Appends, Keeps}
+use Rattle.std.specs.Map.{keys_of}
+use Rattle.babel_capture.specs.Counts.{Made}
+use Rattle.babel_dump.specs.CaptureGiven.{made_in}
+use Rattle.babel_dump.specs.Device.{InputState}
+use Rattle.babel_dump.specs.EventsRun.{TellsEvents}
+use Rattle.babel_dump.specs.Fed.{AreWhole}
+use Rattle.babel_dump.specs.MadeKeys.{AreKeys}
+use Rattle.babel_dump.specs.Packets.{packets_made}
+use Rattle.babel_dump.specs.SenderKeys.{AreOwn, GaveSenders, each_from}
+use Rattle.babel_dump.specs.declared.begun.Begins.TheVariants as beginnings
+use Rattle.babel_dump.specs.declared.events_job.Events.{Events}
+use Rattle.babel_dump.specs.declared.events_outcome.EventsOutcome.{EventsOutcome}
+use Rattle.babel_dump.specs.declared.made_keys.MadeKeys.{MadeKeys}
+use Rattle.babel_dump.specs.declared.sender_keys.SenderKeys.{SenderKeys}
+use Rattle.babel_dump.specs.declared.sender_keys.SendersRead.{SendersRead}
+use Rattle.babel_dump.specs.AskedRun.{Beginnings, Did, DidJob, ToldEvents, WroteKeys, misplaced_at}
+use Rattle.babel_dump.specs.Begun.{BeginsSo}
+use Rattle.babel_dump.specs.Files.{reading_of}
+use Rattle.babel_dump.specs.Given.{Reads}
+use Rattle.babel_dump.specs.JobRun.{RanJob, SaysBy}
+use Rattle.babel_dump.specs.Misplaced.{begun_work, misplaced_by}
+use Rattle.babel_dump.specs.Run.{Output}
+use Rattle.babel_dump.specs.declared.asked.Asked.{Asked}
+use Rattle.babel_dump.specs.declared.begun.Begins.{Begins}
+use Rattle.babel_dump.specs.declared.done.Done.{Done}
+use Rattle.babel_dump.specs.declared.format.Format.{Format}
+use Rattle.babel_dump.specs.declared.job.Job.{Job}
+use Rattle.babel_dump.specs.declared.job.Work.{Work}
+use Rattle.babel_dump.specs.declared.outcome.Outcome.{Outcome}
+use Rattle.babel_dump.specs.declared.run_fault.Side.TheVariants as sides
+use Rattle.babel_dump.specs.declared.trouble.Trouble.{Trouble}
+
+-- a device gives what a stream has
+pub keeps_left : (stream left given : Option (List ℕ)) → left ≡ given → Keeps stream given → Keeps stream left
+keeps_left stream left given gives kept = subst (Keeps stream) (sym gives) kept
+
+module _ (job : Job) (stream other : Option (List ℕ)) (first second told told_too : Begins) (begins : BeginsSo stream first)
+    (other_begins : IfSome (reading_of sides.Other job.work) (λ _. BeginsSo other second)) (same : told ≡ first) (same_too : told_too ≡ second) where
+  abbrev begun : Beginnings job stream other
+  begun = record { first = first; second = second; begins = begins; other_begins = other_begins }
+
+  so : (option : Option (List ℕ)) → misplaced_by told told_too job.work ≡ option → misplaced_at begun ≡ option
+  so option is = subst (λ (b : Begins). misplaced_by b second job.work ≡ option) same (subst (λ (b : Begins). misplaced_by told b job.work ≡ option) same_too is)
+
+  pub refused_so : (option : List ℕ) → misplaced_by told told_too job.work ≡ Some option → (begun : Beginnings job stream other) × (misplaced_at begun ≡ Some option)
+  refused_so option is = (begun, so (Some option) is)
+
+  job_so : (seed : ℕ) (now : Job) → now.work ≡ begun_work told told_too seed job.work → now.format ≡ job.format → now.quiet ≡ job.quiet
+      → now ≡ record job { work = begun_work first second seed job.work }
+  job_so seed now work format quiet =
+      let make : Work → Format → Bool → Job = λ w f q. record { work = w; format = f; quiet = q } in
+      ap (λ w. make w now.format now.quiet) (work ∙ ap (λ (b : Begins). begun_work b told_too seed job.work) same ∙ ap (λ (b : Begins). begun_work first b seed job.work) same_too)
+      ∙ ap (λ f. make (begun_work first second seed job.work) f now.quiet) format ∙ ap (λ q. make (begun_work first second seed job.work) job.format q) quiet
+
+  pub did_so : (seed : ℕ) (now : Job) (reader second_reader : Reads) (writer : Output) (untouched : Type 0) (outcome : Outcome) (done : Done)
+      → now.work ≡ begun_work told told_too seed job.work → now.format ≡ job.format → now.quiet ≡ job.quiet → misplaced_by told told_too job.work ≡ None
+      → Keeps stream reader.old.left → Keeps other second_reader.old.left → RanJob now reader second_reader writer untouched (Ok outcome) → done.status ≡ outcome.status
+      → DidJob job seed stream other writer done
+  did_so seed now reader second_reader writer untouched outcome done work format quiet placed keeps other_keeps ran status =
+      let wrote = ran.ran.wrote in
+      record {
+        begun = begun;
+        placed = so None placed;
+        reader = reader;
+        second = second_reader;
+        keeps = keeps;
+        other_keeps = other_keeps;
+        text = wrote.0;
+        outcome = outcome;
+        says = subst (λ (j : Job). SaysBy j.work j reader second_reader wrote.0 outcome) (job_so seed now work format quiet) wrote.1;
+        wrote = wrote.2;
+        status = status;
+      }
+
+-- ---- events, and keys
+
+keeps_itself : (stream : Option (List ℕ)) → Keeps stream stream
+keeps_itself None = tt
+keeps_itself (Some octets) = refl
+
+pub told_so : (events : Events) (stream : Option (List ℕ)) (old new given : InputState) (writer : Output) (answer : EventsOutcome) (done : Done) → old ≡ given → given.left ≡ stream
+    → TellsEvents events old new writer answer → done.status ≡ answer.outcome.status → ToldEvents events stream writer done
+told_so events stream old new given writer answer done is left tells status = record {
+  reader = record { old = old; new = new };
+  keeps = keeps_left stream old.left stream (ap (λ (s : InputState). s.left) is ∙ left) (keeps_itself stream);
+  answer = answer;
+  tells = tells;
+  status = status;
+}
+
+pub wrote_so : (keys : SenderKeys) (stream : Option (List ℕ)) (begins told : Begins) (old new : InputState) (writer : Output) (senders : SendersRead) (made : MadeKeys) (text : List ℕ) (done : Done)
+    → BeginsSo stream begins → told ≡ begins → told ≢ beginnings.Dump → Keeps stream old.left → GaveSenders keys (each_from keys old new) senders
+    → ((records : List Made) → AreWhole (packets_made records) → AreOwn keys records senders.tables.entries
+    → AreKeys keys records senders.read.moment senders.read.gathered (keys_of senders.tables.entries) made)
+    → done.senders ≡ made.senders → text ≡ made.lines.items → Appends writer.old.taken writer.new.taken text → done.status ≡ 0 → WroteKeys keys stream writer done
+wrote_so keys stream begins told old new writer senders made text done begun is no_dump keeps gave are same lines wrote status = record {
+  begins = begins;
+  begun = begun;
+  no_dump = λ dump. no_dump (is ∙ dump);
+  reader = record { old = old; new = new };
+  keeps = keeps;
+  senders = senders;
+  gave = gave;
+  made = made;
+  are_keys = are (made_in gave.gave.given) gave.whole gave.are_own;
+  told = same;
+  wrote = subst (Appends writer.old.taken writer.new.taken) lines wrote;
+  status = status;
+}
+
+-- ---- whatever was asked for
+
+pub did_as : (asked known : Asked) (seed : ℕ) (stream other : Option (List ℕ)) (writer : Output) (result : Result Done Trouble) → asked ≡ known
+    → IfOk result (Did known seed stream other writer) → IfOk result (Did asked seed stream other writer)
+did_as asked known seed stream other writer result is did = subst (λ (a : Asked). IfOk result (Did a seed stream other writer)) (sym is) did

@@ -1,5 +1,0 @@
-use Rattle.std.proofs.Common.{length}
-use Rattle.babel_dump.proofs.ignored.+first_among.Given as goal
-
-abbrev pub decreases-first_among : goal.decreases-first_among
-decreases-first_among l = length l.reasons.now

@@ -1,0 +1,105 @@
+-- What comes of what was asked for, over streams: this project's own.
+use Rattle.std.specs.Prelude.{ℕ, ◌≡◌, ◌≢◌, List, Option, None, Some, IfSome}
+use Rattle.std.specs.Io.KnownBytes.{Appends, Keeps}
+use Rattle.std.specs.Map.{keys_of}
+use Rattle.babel_dump.specs.Begun.{BeginsSo}
+use Rattle.babel_dump.specs.CaptureGiven.{made_in}
+use Rattle.babel_dump.specs.EventsRun.{TellsEvents}
+use Rattle.babel_dump.specs.Files.{reading_of}
+use Rattle.babel_dump.specs.Given.{Reads}
+use Rattle.babel_dump.specs.JobRun.{SaysBy}
+use Rattle.babel_dump.specs.MadeKeys.{AreKeys}
+use Rattle.babel_dump.specs.Misplaced.{begun_work, misplaced_by}
+use Rattle.babel_dump.specs.Run.{Output}
+use Rattle.babel_dump.specs.SenderKeys.{GaveSenders, each_from}
+use Rattle.babel_dump.specs.declared.asked.Asked.{Asked}
+use Rattle.babel_dump.specs.declared.asked.Asked.TheVariants as askeds
+use Rattle.babel_dump.specs.declared.begun.Begins.{Begins}
+use Rattle.babel_dump.specs.declared.begun.Begins.TheVariants as beginnings
+use Rattle.babel_dump.specs.declared.done.Done.{Done}
+use Rattle.babel_dump.specs.declared.events_job.Events.{Events}
+use Rattle.babel_dump.specs.declared.events_outcome.EventsOutcome.{EventsOutcome}
+use Rattle.babel_dump.specs.declared.job.Job.{Job}
+use Rattle.babel_dump.specs.declared.made_keys.MadeKeys.{MadeKeys}
+use Rattle.babel_dump.specs.declared.outcome.Outcome.{Outcome}
+use Rattle.babel_dump.specs.declared.run_fault.Side.TheVariants as sides
+use Rattle.babel_dump.specs.declared.sender_keys.SenderKeys.{SenderKeys}
+use Rattle.babel_dump.specs.declared.sender_keys.SendersRead.{SendersRead}
+use Rattle.babel_dump.specs.declared.trouble.Trouble.{Trouble}
+use Rattle.babel_dump.specs.declared.trouble.Trouble.TheVariants as troubles
+
+-- what the inputs of a job begin with: the other is looked at where a dump is read of it
+pub record Beginnings (job : Job) (stream other : Option (List ℕ)) : Type 0 where
+  pub first : Begins
+  pub second : Begins
+  pub begins : BeginsSo stream first
+  pub other_begins : IfSome (reading_of sides.Other job.work) (λ reading. BeginsSo other second)
+
+-- the option that was given for a dump, and is for captures alone
+abbrev pub misplaced_at : {job : Job} {stream other : Option (List ℕ)}
+    → Beginnings job stream other → Option (List ℕ)
+misplaced_at {job} begun = misplaced_by begun.first begun.second job.work
+
+-- A job was done: its dumps were read of captures where the streams begin as such, and no option was
+-- misplaced; and the text was written that says what was found.
+pub record DidJob (job : Job) (seed : ℕ) (stream other : Option (List ℕ)) (writer : Output)
+    (done : Done) : Type 0 where
+  pub begun : Beginnings job stream other
+  pub placed : misplaced_at begun ≡ None
+  pub reader : Reads
+  pub second : Reads
+  pub keeps : Keeps stream reader.old.left
+  pub other_keeps : Keeps other second.old.left
+  pub text : List ℕ
+  pub outcome : Outcome
+  pub says : SaysBy (begun_work begun.first begun.second seed job.work)
+      (record job { work = begun_work begun.first begun.second seed job.work })
+      reader second text outcome
+  pub wrote : Appends writer.old.taken writer.new.taken text
+  pub status : done.status ≡ outcome.status
+
+-- The stream is no dump, but a capture, and the keys of its senders were written: of each that is
+-- asked for and has a packet, or a datagram that is missed, its key, or its fault is told.
+pub record WroteKeys (keys : SenderKeys) (stream : Option (List ℕ)) (writer : Output)
+    (done : Done) : Type 0 where
+  pub begins : Begins
+  pub begun : BeginsSo stream begins
+  pub no_dump : begins ≢ beginnings.Dump
+  pub reader : Reads
+  pub keeps : Keeps stream reader.old.left
+  pub senders : SendersRead
+  pub gave : GaveSenders keys (each_from keys reader.old reader.new) senders
+  pub made : MadeKeys
+  pub are_keys : AreKeys keys (made_in gave.gave.given) senders.read.moment senders.read.gathered
+      (keys_of senders.tables.entries) made
+  pub told : done.senders ≡ made.senders
+  pub wrote : Appends writer.old.taken writer.new.taken made.lines.items
+  pub status : done.status ≡ 0
+
+-- what changed in a capture was told
+pub record ToldEvents (events : Events) (stream : Option (List ℕ)) (writer : Output)
+    (done : Done) : Type 0 where
+  pub reader : Reads
+  pub keeps : Keeps stream reader.old.left
+  pub answer : EventsOutcome
+  pub tells : TellsEvents events reader.old reader.new writer answer
+  pub status : done.status ≡ answer.outcome.status
+
+-- what was asked for was done
+abbrev pub Did :
+    Asked → (seed : ℕ) → (stream other : Option (List ℕ)) → Output → Done → Type 0
+Did (askeds.Job job) seed stream other = DidJob job seed stream other
+Did (askeds.SenderKeys keys) seed stream other = WroteKeys keys stream
+Did (askeds.Events events) seed stream other = ToldEvents events stream
+
+-- the option that is told as misplaced
+abbrev pub misplaced_told : Trouble → Option (List ℕ)
+misplaced_told (troubles.Misplaced option) = Some option.now
+misplaced_told trouble = None
+
+-- only an option that was misplaced is told so
+abbrev pub IsRefused : Asked → (stream other : Option (List ℕ)) → Trouble → Type 0
+IsRefused (askeds.Job job) stream other trouble =
+    IfSome (misplaced_told trouble)
+    (λ option. (begun : Beginnings job stream other) × (misplaced_at begun ≡ Some option))
+IsRefused asked stream other trouble = Unit {0}

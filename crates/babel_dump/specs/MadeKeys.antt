@@ -1,0 +1,72 @@
+-- `key` without `--from`: the keys of the senders in a capture, all together. It is this project's
+-- own.
+use Rattle.std.specs.Prelude.{ℕ, ◌≡◌, ◌+◌, ◌≤◌, List, [], fold, map, Option, Result, Ok, Err}
+use Rattle.std.specs.Prelude.{MatchResult}
+use Rattle.std.specs.List.{AllByRecursion, flat_map}
+use Rattle.babel_capture.specs.Counts.{Made}
+use Rattle.babel_capture.specs.Gathering.{Gathering, name_of}
+use Rattle.babel_capture.specs.declared.tallies.Origin.{Origin}
+use Rattle.babel_dump.specs.SenderKeys.{IsSenderKey, NoSenderKey}
+use Rattle.babel_dump.specs.declared.done.DumpRead.{DumpRead}
+use Rattle.babel_dump.specs.declared.done.ToldSender.{ToldSender}
+use Rattle.babel_dump.specs.declared.input_fault.InputFault.{InputFault}
+use Rattle.babel_dump.specs.declared.key.MadeKey.{MadeKey}
+use Rattle.babel_dump.specs.declared.made_keys.MadeKeys.{MadeKeys}
+use Rattle.babel_dump.specs.declared.sender_keys.SenderKeys.{SenderKeys}
+
+-- a sender at its place, and its key, or why it has none
+pub record FoundKey : Type 0 where
+  pub origin : Origin
+  pub key : Result MadeKey InputFault
+
+abbrev pub IsFound : SenderKeys → List Made → (moment : Option ℕ) → FoundKey → Type 0
+IsFound keys made moment found =
+    MatchResult found.key (IsSenderKey keys made moment found.origin)
+    (NoSenderKey keys made moment found.origin)
+
+-- its line, the rows of its table, and what was read for it
+abbrev pub line_of : Result MadeKey InputFault → List ℕ
+line_of (Ok key) = key.line.items
+line_of (Err fault) = []
+
+abbrev pub rows_of : Result MadeKey InputFault → ℕ
+rows_of (Ok key) = key.rows
+rows_of (Err fault) = 0
+
+abbrev pub read_of : Result MadeKey InputFault → Result DumpRead InputFault
+read_of (Ok key) = Ok (record { report = key.report; expired_rows = key.expired_rows })
+read_of (Err fault) = Err fault
+
+-- what is told of a sender
+pub record Told : Type 0 where
+  pub origin : Origin
+  pub name : List ℕ
+  pub read : Result DumpRead InputFault
+
+abbrev pub told_by : ToldSender → Told
+told_by sender =
+    record { origin = sender.origin; name = sender.name.items; read = sender.read }
+
+abbrev pub told_of : Gathering → FoundKey → Told
+told_of gathering found = record {
+  origin = found.origin;
+  name = name_of gathering found.origin.place.interface;
+  read = read_of found.key;
+}
+
+-- these are told of, with these lines and so many rows in all, which are no more than the limit
+pub record TellsKeys (keys : SenderKeys) (gathering : Gathering) (found : List FoundKey)
+    (made : MadeKeys) : Type 0 where
+  pub senders : map told_by made.senders.items ≡ map (told_of gathering) found
+  pub lines : made.lines.items ≡ flat_map (λ one. line_of one.key) found
+  pub rows : made.rows ≡ fold (λ sum one. sum + rows_of one.key) 0 found
+  pub few : made.rows ≤ keys.limits.entries
+
+-- each of these senders has its key or its fault, by what a capture's records made of its packets,
+-- and all of them are told of
+pub record AreKeys (keys : SenderKeys) (records : List Made) (moment : Option ℕ)
+    (gathering : Gathering) (senders : List Origin) (made : MadeKeys) : Type 0 where
+  pub found : List FoundKey
+  pub of_each : map (λ one. one.origin) found ≡ senders
+  pub are_found : AllByRecursion (IsFound keys records moment) found
+  pub told : TellsKeys keys gathering found made

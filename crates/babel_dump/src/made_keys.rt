@@ -1,0 +1,124 @@
+//! The keys of the senders in a capture, one after another.
+ghost use Rattle.std.specs.Prelude.{◌≡◌, ◌+◌, ◌∷◌, ◌++◌, ◌≤◌, List, [], IfOk, OnOk};
+ghost use Rattle.std.specs.Map.{keys_of};
+ghost use Rattle.babel_capture.specs.Counts.{Made};
+ghost use Rattle.babel_dump.specs.Fed.{AreWhole};
+ghost use Rattle.babel_dump.specs.MadeKeys.{AreKeys, FoundKey, TellsKeys, line_of, read_of};
+ghost use Rattle.babel_dump.specs.MadeKeys.{rows_of};
+ghost use Rattle.babel_dump.specs.Packets.{packets_made};
+ghost use Rattle.babel_dump.specs.SenderKeys.{AreOwn};
+
+use crate::capture_input::CaptureRead;
+use crate::done::{DumpRead, ToldSender};
+use crate::input_fault::InputFault;
+use crate::key::MadeKey;
+use crate::sender_keys::SenderKeys;
+use crate::sender_tables::SenderTable;
+use crate::trouble::Trouble;
+use babel_capture::Origin;
+use babel_tlv::Fault;
+use std::alloc::{AllocError, Global};
+use std::collections::BTreeMap;
+
+/// What is told of senders of which each has a key, or a fault.
+#[derive(Drop)]
+pub struct MadeKeys {
+    pub senders: Vec<ToldSender>,
+    /// The lines of their keys, one after another.
+    pub lines: Vec<u8>,
+    /// How many rows their tables have in all.
+    rows: u32,
+}
+
+impl MadeKeys {
+    /// The keys of these tables.
+    ///
+    /// # Errors
+    ///
+    /// `TooManyRoutes` where they have more rows in all than the limit.
+    pub fn of(
+        alloc: Global,
+        keys: &SenderKeys,
+        read: &CaptureRead,
+        tables: BTreeMap<Origin, SenderTable>,
+    ) -> Result<MadeKeys, Trouble>
+        ensures { IfOk result (λ made. (records : List Made) → AreWhole (packets_made records)
+            → AreOwn keys.now records tables.entries → AreKeys keys.now records read.now.moment
+            read.now.gathered (keys_of tables.entries) made) }
+    {
+        let mut made = MadeKeys {
+            senders: Vec::new(alloc),
+            lines: Vec::new(alloc),
+            rows: 0,
+        };
+        for (origin, table) in tables {
+            let key = keys.key_of(alloc, origin, table, read.moment);
+            made.push(alloc, keys, read, &origin, key)?;
+        }
+        Ok(made)
+    }
+
+    /// Takes the key of one more sender, or why it has none.
+    fn push(
+        &mut self,
+        alloc: Global,
+        keys: &SenderKeys,
+        read: &CaptureRead,
+        origin: &Origin,
+        key: Result<MadeKey, InputFault>,
+    ) -> Result<(), Trouble>
+        ensures { OnOk result ((found : List FoundKey)
+            → TellsKeys keys.now read.now.gathered found self.old → TellsKeys keys.now
+            read.now.gathered (found ++ record { origin = origin.now; key = key } ∷ []) self.new) }
+    {
+        let told = self.tell(keys, key)?;
+        let sender = ToldSender::new(alloc, &read.gathered, origin, told)?;
+        match self.senders.push(sender) {
+            Ok(()) => Ok(()),
+            Err(error) => Err(Trouble::from(AllocError::from(error))),
+        }
+    }
+
+    /// What is told of a sender: what was read for its key, which is taken, or why it has none.
+    fn tell(
+        &mut self,
+        keys: &SenderKeys,
+        key: Result<MadeKey, InputFault>,
+    ) -> Result<Result<DumpRead, InputFault>, Trouble>
+        ensures same { self.new.senders ≡ self.old.senders }
+        ensures lines { OnOk result
+            (self.new.lines.items ≡ self.old.lines.items ++ line_of key) }
+        ensures rows { OnOk result (self.new.rows ≡ self.old.rows + rows_of key) }
+        ensures few { OnOk result (self.old.rows ≤ keys.now.limits.entries
+            → self.new.rows ≤ keys.now.limits.entries) }
+        ensures read { IfOk result (λ read. read ≡ read_of key) }
+    {
+        match key {
+            Ok(key) => Ok(Ok(self.take(keys, key)?)),
+            Err(InputFault::Dump(Fault::TooManyRoutes { .. })) => Err(Trouble::TooManyRoutes),
+            Err(InputFault::Dump(Fault::Memory)) => Err(Trouble::from(AllocError)),
+            Err(fault) => Ok(Err(fault)),
+        }
+    }
+
+    /// Takes a key: what was read for it.
+    fn take(&mut self, keys: &SenderKeys, key: MadeKey) -> Result<DumpRead, Trouble>
+        ensures same { self.new.senders ≡ self.old.senders }
+        ensures lines { OnOk result
+            (self.new.lines.items ≡ self.old.lines.items ++ key.line.items) }
+        ensures rows { OnOk result (self.new.rows ≡ self.old.rows + key.rows) }
+        ensures few { OnOk result (self.new.rows ≤ keys.now.limits.entries) }
+        ensures read { IfOk result
+            (λ read. (read.report ≡ key.report) × (read.expired_rows ≡ key.expired_rows)) }
+    {
+        let Some(rows) = keys.rows_with(self.rows, key.rows) else {
+            return Err(Trouble::TooManyRoutes);
+        };
+        self.rows = rows;
+        self.lines.extend_from_slice(&key.line)?;
+        Ok(DumpRead {
+            report: key.report,
+            expired_rows: key.expired_rows,
+        })
+    }
+}

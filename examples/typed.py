@@ -1,0 +1,246 @@
+#!/usr/bin/env python3
+"""What babel-dump writes with --json, as values with types: copy what you need of it.
+
+    babel-dump show --json --from fe80::1 x.pcap | typed.py
+
+prints each line as Python has it. What is no such line is an error.
+"""
+
+import dataclasses
+import json
+import sys
+import typing
+from dataclasses import dataclass
+from ipaddress import IPv4Address, IPv4Network, IPv6Address, IPv6Network
+from typing import Any, Dict, List, Literal, Optional, Union
+
+Address = Union[IPv4Address, IPv6Address]
+Prefix = Union[IPv4Network, IPv6Network]
+
+
+@dataclass(frozen=True)
+class Route:
+    """Each field is None where --ignore names it."""
+
+    next_hop: Optional[Address]
+    router_id: Optional[str]
+    seqno: Optional[int]
+    metric: Optional[int]
+
+
+Held = Union[Route, Literal["unreachable"]]
+
+
+@dataclass(frozen=True)
+class Row:
+    """Of show, and of pairs."""
+
+    destination: Prefix
+    source: Prefix
+    answer: Held
+
+
+@dataclass(frozen=True)
+class Looked:
+    """Of lookup."""
+
+    destination: Address
+    source: Address
+    answer: Optional[Held]
+
+
+@dataclass(frozen=True)
+class Counted:
+    """A reason; the offset of its first TLV, or the number of its first packet."""
+
+    reason: str
+    count: int
+    first: int
+
+
+@dataclass(frozen=True)
+class Report:
+    """Of show, after its rows."""
+
+    tlvs: int
+    ignored: List[Counted]
+
+
+@dataclass(frozen=True)
+class Family:
+    routes: int
+    source_specific: int
+    unreachable: int
+
+
+@dataclass(frozen=True)
+class Summary:
+    """Of show --summary; without the last two with --quiet."""
+
+    ipv4: Family
+    ipv6: Family
+    router_ids: int
+    next_hops: int
+    tlvs: Optional[int] = None
+    ignored: Optional[List[Counted]] = None
+
+
+@dataclass(frozen=True)
+class Counts:
+    """Of pairs --count; with --routes of the rows alone."""
+
+    rows: int
+    pairs: Optional[int] = None
+
+
+@dataclass(frozen=True)
+class Same:
+    """Of compare."""
+
+    same: Literal[True]
+
+
+@dataclass(frozen=True)
+class Differ:
+    """Of compare; prefixes are of --all and --routes."""
+
+    same: Literal[False]
+    destination: Union[Address, Prefix]
+    source: Union[Address, Prefix]
+    left: Optional[Held]
+    right: Optional[Held]
+
+
+@dataclass(frozen=True)
+class Differences:
+    """Of compare --count."""
+
+    differences: int
+
+
+@dataclass(frozen=True)
+class Sender:
+    """Of senders; the interval is in hundredths of a second."""
+
+    address: Address
+    interface: int
+    link: Optional[int]
+    vlans: List[int]
+    name: Optional[str]
+    packets: int
+    octets: int
+    updates: int
+    interval: Optional[int]
+    first: Optional[str]
+    last: Optional[str]
+    trailers: int
+
+
+@dataclass(frozen=True)
+class Event:
+    """Of events; addresses are of `answers`."""
+
+    time: str
+    sender: Address
+    interface: int
+    link: Optional[int]
+    vlans: List[int]
+    name: Optional[str]
+    event: Literal["announces", "changes", "retracts", "expires", "answers"]
+    destination: Union[Address, Prefix]
+    source: Union[Address, Prefix]
+    answer: Optional[Route]
+
+
+@dataclass(frozen=True)
+class Note:
+    """Of each command; the sender and its place are those of a note of events."""
+
+    note: str
+    members: Dict[str, Any]
+    origin: Dict[str, Any]
+    other: bool
+
+
+KINDS = Row, Looked, Report, Summary, Counts, Same, Differ, Differences, Sender, Event
+
+# What a note has besides.
+NOTES = {
+    "ignored": {"tlvs": int, "ignored": List[Counted]},
+    "left-out": {"reasons": List[Counted]},
+    "cooked-1": {},
+    "sections": {"sections": int},
+    "trailers": {"packets": int},
+    "capture-cut": {"at": int},
+    "too-short": {"frames": int},
+    "backwards": {"packet": int},
+    "short-span": {"span": int, "interval": int},
+    "expired": {"routes": int},
+    "no-updates": {},
+    "routes-differ": {"routes": int},
+    "source": {"source": Address},
+}
+ORIGIN = {
+    "sender": Address,
+    "interface": int,
+    "link": Optional[int],
+    "vlans": List[int],
+    "name": Optional[str],
+}
+
+
+def members(types, found):
+    """Members by their names, each of its type."""
+    return {name: value(types[name], found[name]) for name in found}
+
+
+def value(kind, found):
+    """What was found, as a value of this kind."""
+    form, kinds = typing.get_origin(kind), typing.get_args(kind)
+    if form is Union:
+        return first(kinds, found)
+    if form is Literal and (type(found), found) in [(type(each), each) for each in kinds]:
+        return found
+    if form is list and type(found) is list:
+        return [value(kinds[0], each) for each in found]
+    if dataclasses.is_dataclass(kind) and type(found) is dict:
+        return kind(**members(typing.get_type_hints(kind), found))
+    if kind in typing.get_args(Address) + typing.get_args(Prefix) and type(found) is str:
+        is_prefix = kind in typing.get_args(Prefix)
+        return kind(found) if ("/" in found) == is_prefix else refuse(found)
+    return found if type(found) is kind else refuse(found)
+
+
+def refuse(found):
+    raise ValueError(f"not expected: {json.dumps(found)}")
+
+
+def first(kinds, found):
+    """What was found, as a value of the first of these kinds that it is of."""
+    for kind in kinds:
+        try:
+            return value(kind, found)
+        except (KeyError, TypeError, ValueError):
+            pass
+    return refuse(found)
+
+
+def note(found):
+    """A note."""
+    name, other = found.pop("note"), value(bool, found.pop("other", False))
+    names = ORIGIN if "sender" in found else {}
+    origin = {each: found.pop(each) for each in names}
+    if found.keys() != NOTES[name].keys():
+        refuse(found)
+    return Note(name, members(NOTES[name], found), members(ORIGIN, origin), other)
+
+
+def line(text):
+    """A line, as a value."""
+    found = json.loads(text)
+    return note(found) if "note" in found else first(KINDS, found)
+
+
+if __name__ == "__main__":
+    for each in sys.stdin:
+        print(line(each))
