@@ -28,7 +28,14 @@ class Route:
     metric: Optional[int]
 
 
-Held = Union[Route, Literal["unreachable"]]
+@dataclass(frozen=True)
+class Unreachable:
+    """In place of a route."""
+
+    unreachable: Literal[True]
+
+
+Held = Union[Route, Unreachable]
 
 
 @dataclass(frozen=True)
@@ -87,9 +94,9 @@ class Summary:
 
 @dataclass(frozen=True)
 class Counts:
-    """Of pairs --count; with --routes of the rows alone."""
+    """Of pairs --count; with --routes of the routes alone."""
 
-    rows: int
+    routes: int
     pairs: Optional[int] = None
 
 
@@ -120,9 +127,9 @@ class Differences:
 
 @dataclass(frozen=True)
 class Sender:
-    """Of senders; the interval is in hundredths of a second."""
+    """Of senders; the interval is in seconds."""
 
-    address: Address
+    sender: Address
     interface: int
     link: Optional[int]
     vlans: List[int]
@@ -130,7 +137,7 @@ class Sender:
     packets: int
     octets: int
     updates: int
-    interval: Optional[int]
+    interval: Optional[float]
     first: Optional[str]
     last: Optional[str]
     trailers: int
@@ -174,7 +181,7 @@ NOTES = {
     "capture-cut": {"at": int},
     "too-short": {"frames": int},
     "backwards": {"packet": int},
-    "short-span": {"span": int, "interval": int},
+    "short-span": {"span": float, "interval": float},
     "expired": {"routes": int},
     "no-updates": {},
     "routes-differ": {"routes": int},

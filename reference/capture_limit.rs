@@ -1394,14 +1394,14 @@ fn senders(words: &Words) -> Result<u8, Failure> {
         let name = &reader.names[place.interface as usize];
         if words.has("json") {
             let place = place_json(*place, name);
-            let interval = interval.map_or("null".to_string(), |each| each.to_string());
+            let interval = interval.map_or("null".to_string(), seconds_text);
             let quoted = |time: Option<String>| match time {
                 Some(time) => format!("\"{time}\""),
                 None => "null".to_string(),
             };
             writeln!(
                 out,
-                "{{\"address\":\"{sender}\",{place},\"packets\":{packets},\"octets\":{octets},\
+                "{{\"sender\":\"{sender}\",{place},\"packets\":{packets},\"octets\":{octets},\
                  \"updates\":{updates},\"interval\":{interval},\"first\":{},\"last\":{},\
                  \"trailers\":{trailers}}}",
                 quoted(first),

@@ -255,7 +255,7 @@ def text_of(value):
 
 def json_of(value):
     if value is None or value == "unreachable":
-        return value
+        return value and {value: True}
     encoding, metric = value
     metric = None if metric == "-" else metric
     via = VIA[encoding]

@@ -312,7 +312,7 @@ def text_of_held(held):
 
 def json_of_held(held):
     names = "next_hop", "router_id", "seqno", "metric"
-    return held if held == "unreachable" else dict(zip(names, held))
+    return {held: True} if held == "unreachable" else dict(zip(names, held))
 
 
 def counts_of(table):

@@ -7,6 +7,7 @@ layer gives the octets of the next one.
 
 import collections
 import datetime
+import decimal
 import fractions
 import functools
 import ipaddress
@@ -560,6 +561,11 @@ def span_of(found):
     return None if None in times or not times else max(times) - min(times)
 
 
+def in_seconds(centiseconds):
+    """So many hundredths of a second, in seconds with two places."""
+    return decimal.Decimal(centiseconds).scaleb(-2)
+
+
 def hundredths(centiseconds):
     """So many hundredths of a second, in seconds without zeros at the end."""
     whole, part = divmod(centiseconds, 100)
@@ -582,7 +588,7 @@ def time_notes(found, intervals):
         yield (
             f"the capture spans {hundredths(spans)} s, the Interval is {hundredths(interval)} s: "
             "routes may be missing",
-            {"note": "short-span", "span": spans, "interval": interval},
+            {"note": "short-span", "span": in_seconds(spans), "interval": in_seconds(interval)},
         )
 
 
@@ -758,18 +764,19 @@ def sender_line(origin, found, as_json):
     first, last = ends_of(origin, found)
     if as_json:
         says = {
-            "address": address,
+            "sender": address,
             "interface": interface,
             "link": link,
             "vlans": list(vlans),
             "name": name_text(name) or None,
         }
         says.update(packets=len(sent), octets=octets, updates=updates)
-        says.update(interval=interval, first=first, last=last, trailers=found.trailers[origin])
+        says.update(interval=None if interval is None else in_seconds(interval))
+        says.update(first=first, last=last, trailers=found.trailers[origin])
         return json_line(says)
     counts = f"packets {len(sent)} octets {octets} updates {updates}"
-    seconds = "-" if interval is None else f"{interval // 100}.{interval % 100:02}"
-    times = f"interval {seconds} first {first or '-'} last {last or '-'}"
+    interval = "-" if interval is None else in_seconds(interval)
+    times = f"interval {interval} first {first or '-'} last {last or '-'}"
     trailers = f"trailers {found.trailers[origin]}"
     return f"{address} {place_text(place, name)} {counts} {times} {trailers}\n"
 
@@ -838,7 +845,14 @@ def texts_of(notes):
 
 
 def json_line(says):
-    return json.dumps(says, separators=(",", ":")) + "\n"
+    members = (f'"{name}":{json_value(value)}' for name, value in says.items())
+    return "{" + ",".join(members) + "}\n"
+
+
+def json_value(value):
+    if isinstance(value, decimal.Decimal):
+        return str(value)
+    return json.dumps(value, separators=(",", ":"))
 
 
 def refuse_if_strict(found, strict):

@@ -413,7 +413,9 @@ def text_of(line):
         ]
         return f"tlvs {said['tlvs']}\n" + "".join(ignored)
     answer = said["answer"]
-    if answer != "unreachable":
+    if answer == {"unreachable": True}:
+        answer = "unreachable"
+    else:
         answer = "via {next_hop} id {router_id} seqno {seqno} metric {metric}".format(**answer)
     return f"{said['destination']} from {said['source']} {answer}\n"
 

@@ -67,7 +67,7 @@ def order(key):
 
 def answer(route, ignored):
     if route is None:
-        return "unreachable"
+        return {"unreachable": True}
     hop, router, seqno, metric = route
     values = ipaddress.ip_address(hop), f"{router:016x}", seqno, metric
     return {
@@ -84,7 +84,7 @@ def read(found):
     key = tuple(ipaddress.ip_network(found[name]) for name in ("destination", "source"))
     answers = [found[name] for name in ("left", "right", "answer") if name in found]
     for one in answers:
-        if isinstance(one, dict) and one["next_hop"] is not None:
+        if one and one.get("next_hop") is not None:
             one["next_hop"] = ipaddress.ip_address(one["next_hop"])
     return key, *answers
 

@@ -77,11 +77,19 @@ vlans_text vlans = marked (codes " vlan ") (codes ".") (vlan_numbers vlans)
 abbrev pub vlans_json : Vlans → List ℕ
 vlans_json vlans = codes "[" ++ marked [] (codes ",") (vlan_numbers vlans) ++ codes "]"
 
--- hundredths of a second in seconds, `N.NN`, or `-` where there is none
+-- hundredths of a second in seconds, `N.NN`
+abbrev pub seconds_text : ℕ → List ℕ
+seconds_text hundredths =
+    decimal (hundredths / 100) ++ codes "." ++ two_digits (hundredths % 100)
+
+-- an Interval in seconds, or `-` or `null` where there is none
 abbrev pub interval_text : Option ℕ → List ℕ
 interval_text None = codes "-"
-interval_text (Some interval) =
-    decimal (interval / 100) ++ codes "." ++ two_digits (interval % 100)
+interval_text (Some interval) = seconds_text interval
+
+abbrev pub interval_json : Option ℕ → List ℕ
+interval_json None = codes "null"
+interval_json (Some interval) = seconds_text interval
 
 -- the times of a sender are told where each packet of the capture has one
 abbrev pub with_times : (has_untimed : Bool) → Tally → Tally
@@ -108,27 +116,31 @@ abbrev pub sender_line : Spelling → (name : List ℕ) → Origin × Tally → 
 sender_line spelling name sender =
     sender_front spelling sender.0 ++ name_text name ++ sender_end sender.0.place sender.1
 
--- `{"address":"ADDRESS","interface":N,"link":N,"vlans":[N,N],"name":`, and
--- `,"packets":N,"octets":N,"updates":N,"interval":N,"first":"TIME","last":"TIME","trailers":N}`
+-- `","interface":N,"link":N,"vlans":[N,N],"name":`
+abbrev pub place_json : Place → List ℕ
+place_json place =
+    codes "\",\"interface\":" ++ decimal place.interface
+    ++ codes ",\"link\":" ++ number_json place.link ++ codes ",\"vlans\":"
+    ++ vlans_json place.vlans
+    ++ codes ",\"name\":"
+
+-- `{"sender":"ADDRESS","interface":N,"link":N,"vlans":[N,N],"name":`, and
+-- `,"packets":N,"octets":N,"updates":N,"interval":N.NN,"first":"TIME","last":"TIME","trailers":N}`
 abbrev pub sender_front_json : Spelling → Origin → List ℕ
 sender_front_json spelling origin =
-    codes "{\"address\":\"" ++ address_text spelling origin.sender ++ codes "\",\"interface\":"
-    ++ decimal origin.place.interface
-    ++ codes ",\"link\":" ++ number_json origin.place.link ++ codes ",\"vlans\":"
-    ++ vlans_json origin.place.vlans
-    ++ codes ",\"name\":"
+    codes "{\"sender\":\"" ++ address_text spelling origin.sender ++ place_json origin.place
 
 abbrev pub sender_end_json : Tally → List ℕ
 sender_end_json tally =
     codes ",\"packets\":" ++ decimal tally.packets ++ codes ",\"octets\":" ++ decimal tally.octets
     ++ codes ",\"updates\":" ++ decimal tally.updates
-    ++ codes ",\"interval\":" ++ number_json tally.interval
+    ++ codes ",\"interval\":" ++ interval_json tally.interval
     ++ codes ",\"first\":" ++ time_json tally.first
     ++ codes ",\"last\":" ++ time_json tally.last
     ++ codes ",\"trailers\":" ++ decimal tally.trailers ++ codes "}" ++ newline
 
--- `{"address":"ADDRESS","interface":N,"link":N,"vlans":[N,N],"name":"NAME"`, and then
--- `,"packets":N,"octets":N,"updates":N,"interval":N,"first":"TIME","last":"TIME","trailers":N}`
+-- `{"sender":"ADDRESS","interface":N,"link":N,"vlans":[N,N],"name":"NAME"`, and then
+-- `,"packets":N,"octets":N,"updates":N,"interval":N.NN,"first":"TIME","last":"TIME","trailers":N}`
 abbrev pub sender_json : Spelling → (name : List ℕ) → Origin × Tally → List ℕ
 sender_json spelling name sender =
     sender_front_json spelling sender.0 ++ name_json name ++ sender_end_json sender.1

@@ -18,8 +18,7 @@ use Rattle.babel_timeline.specs.declared.change.ChangeKind.{ChangeKind}
 use Rattle.babel_timeline.specs.declared.change.ChangeKind.TheVariants as kinds
 use Rattle.babel_timeline.specs.declared.telling.Telling.{Telling}
 use Rattle.babel_timeline.specs.declared.telling.Telling.TheVariants as tellings
-use Rattle.babel_dump.specs.CaptureText.{link_text, name_json, name_text, number_json, vlans_json}
-use Rattle.babel_dump.specs.CaptureText.{vlans_text}
+use Rattle.babel_dump.specs.CaptureText.{link_text, name_json, name_text, place_json, vlans_text}
 use Rattle.babel_dump.specs.JsonText.{addressed_json, answer_json}
 use Rattle.babel_dump.specs.RunText.{announcement_text, answer_text, newline}
 use Rattle.babel_dump.specs.Spelling.{address_text, from_prefix, prefix_text}
@@ -103,14 +102,6 @@ event_line spelling view name told =
     event_front spelling name told ++ name_text name ++ event_end spelling view told
 
 -- ---- JSON
-
--- `","interface":N,"link":N,"vlans":[N,N],"name":`
-abbrev pub place_json : Place → List ℕ
-place_json place =
-    codes "\",\"interface\":" ++ decimal place.interface
-    ++ codes ",\"link\":" ++ number_json place.link ++ codes ",\"vlans\":"
-    ++ vlans_json place.vlans
-    ++ codes ",\"name\":"
 
 -- `{"time":"TIME","sender":"ADDRESS","interface":N,"link":N,"vlans":[N,N],"name":`
 abbrev pub event_front_json : Spelling → Telling Speaker → List ℕ

@@ -87,10 +87,14 @@ differences_or_count_in format view count differences =
     if count then count_in format (codes "differences") (length differences)
     else differences_in format view differences
 
+-- the name of their number: JSON has the one that it has in a summary
+abbrev pub rows_name : Format → List ℕ
+rows_name format = in_format format (codes "rows") (codes "routes")
+
 -- a line for each row, or how many there are
 abbrev pub rows_or_count_in : Format → View → Bool → List (RouteKey × Held) → List ℕ
 rows_or_count_in format view count rows =
-    if count then count_in format (codes "rows") (length rows) else pairs_in format view rows
+    if count then count_in format (rows_name format) (length rows) else pairs_in format view rows
 
 -- what says the first difference, each, or how many there are
 abbrev pub listed_in : Format → View → Listed → List Difference → List ℕ

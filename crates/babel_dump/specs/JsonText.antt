@@ -37,11 +37,11 @@ announcement_json spelling view ann =
     ++ codes ",\"seqno\":" ++ kept_json view.seqno (decimal ann.seqno)
     ++ codes ",\"metric\":" ++ kept_json view.metric (decimal ann.metric) ++ codes "}"
 
--- the announcement, `"unreachable"`, or `null`
+-- the announcement, `{"unreachable":true}`, or `null`
 abbrev pub answer_json : Spelling → View → Option Held → List ℕ
 answer_json spelling view None = codes "null"
 answer_json spelling view (Some (helds.Route ann)) = announcement_json spelling view ann
-answer_json spelling view (Some helds.Unreachable) = codes "\"unreachable\""
+answer_json spelling view (Some helds.Unreachable) = codes "{\"unreachable\":true}"
 
 -- `"destination":"DST","source":"SRC"`, of their texts
 abbrev pub addressed_json : (dst src : List ℕ) → List ℕ
@@ -63,10 +63,10 @@ abbrev pub lookup_json : Spelling → (dst src : Address) → Option Held → Li
 lookup_json spelling dst src answer =
     answered_line spelling keeps_all (address_text spelling dst) (address_text spelling src) answer
 
--- `{"rows":N,"pairs":N}`
+-- `{"routes":N,"pairs":N}`
 abbrev pub counts_json : ℕ → ℕ → List ℕ
 counts_json rows pairs =
-    codes "{\"rows\":" ++ decimal rows ++ codes ",\"pairs\":" ++ decimal pairs ++ codes "}"
+    codes "{\"routes\":" ++ decimal rows ++ codes ",\"pairs\":" ++ decimal pairs ++ codes "}"
     ++ newline
 
 -- `{"reason":"NAME","count":N,"first":PLACE}`

@@ -5,8 +5,7 @@ use Rattle.std.specs.Fmt.{decimal}
 use Rattle.babel_prefix.specs.Address.{Address}
 use Rattle.babel_capture.specs.declared.tallies.Origin.{Origin}
 use Rattle.babel_table.specs.Counts.{Counts}
-use Rattle.babel_dump.specs.CaptureText.{name_json}
-use Rattle.babel_dump.specs.EventText.{place_json}
+use Rattle.babel_dump.specs.CaptureText.{name_json, place_json, seconds_text}
 use Rattle.babel_dump.specs.JsonText.{comma_separated, counted_objects, quoted, report_members}
 use Rattle.babel_dump.specs.LeftOut.{left_out_for, left_out_name, told_reasons}
 use Rattle.babel_dump.specs.RunText.{newline}
@@ -38,6 +37,11 @@ note_name (notes.Source spelling source) = codes "source"
 abbrev pub number_member : (name : List ℕ) → ℕ → List ℕ
 number_member name number = codes ",\"" ++ name ++ codes "\":" ++ decimal number
 
+-- `,"NAME":N.NN`, of hundredths of a second
+abbrev pub seconds_member : (name : List ℕ) → ℕ → List ℕ
+seconds_member name hundredths =
+    codes ",\"" ++ name ++ codes "\":" ++ seconds_text hundredths
+
 -- `,"tlvs":N,"ignored":[..]`
 abbrev pub ignored_members : Counts → List ℕ
 ignored_members counts = codes "," ++ report_members counts
@@ -66,7 +70,7 @@ note_members (notes.CaptureCut at) = number_member (codes "at") at
 note_members (notes.TooShort frames) = number_member (codes "frames") frames
 note_members (notes.Backwards packet) = number_member (codes "packet") packet
 note_members (notes.ShortSpan span interval) =
-    number_member (codes "span") span ++ number_member (codes "interval") interval
+    seconds_member (codes "span") span ++ seconds_member (codes "interval") interval
 note_members (notes.Expired routes) = number_member (codes "routes") routes
 note_members (notes.RoutesDiffer routes) = number_member (codes "routes") routes
 note_members (notes.Source spelling source) = source_member spelling source

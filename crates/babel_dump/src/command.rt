@@ -7,7 +7,7 @@ use std::alloc::{AllocError, Global};
 /// The program's command line.
 pub(crate) fn command<'a>(alloc: Global) -> Result<Command<'a>, AllocError> {
     let command = Command::new(alloc, "babel-dump")
-        .version("1.1.0")
+        .version("1.2.0")
         .about(
             "Shows what Babel packets of one sender announce (RFC 8966, RFC 9079), from a packet \
              capture or a dump",

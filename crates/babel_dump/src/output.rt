@@ -3,7 +3,7 @@ ghost use Rattle.std.specs.Prelude.{◌≡◌, ◌≤◌, ◌++◌, List, ℕ, I
 ghost use Rattle.babel_tlv.specs.declared.view.View.{View};
 ghost use Rattle.babel_dump.specs.CaptureText.{escape};
 ghost use Rattle.babel_dump.specs.InFormat.{count_in, counts_in, line_in, lookup_in, report_in};
-ghost use Rattle.babel_dump.specs.InFormat.{verdict_in};
+ghost use Rattle.babel_dump.specs.InFormat.{rows_name, verdict_in};
 ghost use Rattle.babel_dump.specs.Slices.{HasRoom, TookRoom};
 ghost use Rattle.babel_dump.specs.TextParts.{after_name, closing, hex_text};
 ghost use Rattle.babel_dump.specs.TextParts.{opening, same_in, to_name};
@@ -264,6 +264,17 @@ pub(crate) fn same_output(alloc: Global, format: Format) -> Result<Vec<u8>, Allo
         Format::Json(_) => push_text(&mut text, "{\"same\":true}\n"),
     }
     Ok(text)
+}
+
+/// The name of how many rows there are.
+pub(crate) fn rows_name(format: Format) -> &'static str
+    ensures text { result.now ≡ rows_name format }
+    ensures short { length result.now ≤ 11 }
+{
+    match format {
+        Format::Text(_) => "rows",
+        Format::Json(_) => "routes",
+    }
 }
 
 /// How many there are of what has this name, of at most 11 octets.

@@ -3,7 +3,7 @@ ghost use Rattle.std.specs.Prelude.{◌≡◌, ◌+◌, ◌∷◌, [], ◌++◌,
 ghost use Rattle.std.specs.Fmt.{decimal};
 ghost use Rattle.babel_tlv.specs.Views.{keeps_all};
 ghost use Rattle.babel_dump.specs.CaptureText.{interval_text, link_text, marked, octet_text};
-ghost use Rattle.babel_dump.specs.CaptureText.{sender_end, sender_front};
+ghost use Rattle.babel_dump.specs.CaptureText.{seconds_text, sender_end, sender_front};
 ghost use Rattle.babel_dump.specs.RunText.{announcement_text, answer_line, answer_text};
 ghost use Rattle.babel_dump.specs.RunText.{counts_text, count_text, differ_lines};
 ghost use Rattle.babel_dump.specs.RunText.{held_text, kept_text, newline, pair_line, pair_text};
@@ -145,9 +145,9 @@ pub(crate) fn push_sender_front(buffer: &mut Vec<u8>, spelling: Spelling, origin
 
 /// Appends the link and the VLANs of a sender, and what it sent: the end of a line.
 pub(crate) fn push_sender_end(buffer: &mut Vec<u8>, place: Place, tally: Tally)
-    requires { HasRoom buffer.old 269 }
+    requires { HasRoom buffer.old 284 }
     ensures text { buffer.new.items ≡ buffer.old.items ++ sender_end place tally }
-    ensures room { TookRoom buffer.old buffer.new 269 }
+    ensures room { TookRoom buffer.old buffer.new 284 }
 {
     push_link(buffer, place.link);
     push_marked(buffer, " vlan ", ".", &place.vlans.numbers());
@@ -168,20 +168,27 @@ pub(crate) fn push_sender_end(buffer: &mut Vec<u8>, place: Place, tally: Tally)
     push_octet(buffer, b'\n');
 }
 
-/// Appends hundredths of a second in seconds, or `-` where there is none.
+/// Appends an Interval in seconds, or `-` where there is none.
 fn push_interval(buffer: &mut Vec<u8>, interval: Option<u16>)
-    requires { HasRoom buffer.old 8 }
+    requires { HasRoom buffer.old 23 }
     ensures text { buffer.new.items ≡ buffer.old.items ++ interval_text interval }
-    ensures room { TookRoom buffer.old buffer.new 8 }
+    ensures room { TookRoom buffer.old buffer.new 23 }
 {
     match interval {
-        Some(interval) => {
-            push_decimal(buffer, interval / 100);
-            push_text(buffer, ".");
-            push_two_digits(buffer, u32::from(interval % 100));
-        }
+        Some(interval) => push_seconds(buffer, u64::from(interval)),
         None => push_text(buffer, "-"),
     }
+}
+
+/// Appends hundredths of a second in seconds.
+pub(crate) fn push_seconds(buffer: &mut Vec<u8>, hundredths: u64)
+    requires { HasRoom buffer.old 23 }
+    ensures text { buffer.new.items ≡ buffer.old.items ++ seconds_text hundredths }
+    ensures room { TookRoom buffer.old buffer.new 23 }
+{
+    push_decimal(buffer, hundredths / 100);
+    push_text(buffer, ".");
+    push_two_digits(buffer, (hundredths % 100) as u32);
 }
 
 /// Appends the number of a link, or nothing where there is none.

@@ -2,16 +2,17 @@
 //! or a router-id has a character that JSON escapes.
 ghost use Rattle.std.specs.Prelude.{◌≡◌, ◌+◌, ◌++◌, Some, length};
 ghost use Rattle.hex.specs.Hex.{encode_lower};
-ghost use Rattle.babel_dump.specs.CaptureText.{number_json, sender_end_json};
-ghost use Rattle.babel_dump.specs.CaptureText.{sender_front_json, vlans_json};
-ghost use Rattle.babel_dump.specs.EventText.{place_json};
+ghost use Rattle.babel_dump.specs.CaptureText.{interval_json, number_json, place_json};
+ghost use Rattle.babel_dump.specs.CaptureText.{sender_end_json, sender_front_json, vlans_json};
 ghost use Rattle.babel_dump.specs.JsonText.{addressed_json, announcement_json, answer_json};
 ghost use Rattle.babel_dump.specs.JsonText.{answered_line, counts_json, differ_json};
 ghost use Rattle.babel_dump.specs.JsonText.{count_json, kept_json, pair_json, quoted};
 ghost use Rattle.babel_dump.specs.Slices.{HasRoom, TookRoom};
 ghost use Rattle.babel_dump.specs.Spelling.{address_text};
 
-use crate::push::{push_decimal, push_marked, push_number, push_octet, push_router_id, push_text};
+use crate::push::{
+    push_decimal, push_marked, push_number, push_octet, push_router_id, push_seconds, push_text,
+};
 use crate::push_addr::{Shown, push_addr};
 use crate::push_time::push_time_json;
 use crate::spelling::Spelling;
@@ -83,11 +84,11 @@ pub(crate) fn push_differ_json<A: Shown>(
 
 /// Appends how many rows and pairs there are: an object.
 pub(crate) fn push_counts_json(buffer: &mut Vec<u8>, rows: usize, pairs: usize)
-    requires { HasRoom buffer.old 59 }
+    requires { HasRoom buffer.old 61 }
     ensures text { buffer.new.items ≡ buffer.old.items ++ counts_json rows pairs }
-    ensures room { TookRoom buffer.old buffer.new 59 }
+    ensures room { TookRoom buffer.old buffer.new 61 }
 {
-    push_text(buffer, r#"{"rows":"#);
+    push_text(buffer, r#"{"routes":"#);
     push_decimal(buffer, rows);
     push_text(buffer, r#","pairs":"#);
     push_decimal(buffer, pairs);
@@ -111,19 +112,13 @@ pub(crate) fn push_count_json(buffer: &mut Vec<u8>, name: &str, count: usize)
 
 /// Appends a sender and its place: the front of an object, up to the interface's name.
 pub(crate) fn push_sender_front_json(buffer: &mut Vec<u8>, spelling: Spelling, origin: Origin)
-    requires { HasRoom buffer.old 166 }
+    requires { HasRoom buffer.old 165 }
     ensures text { buffer.new.items ≡ buffer.old.items ++ sender_front_json spelling origin }
-    ensures room { TookRoom buffer.old buffer.new 166 }
+    ensures room { TookRoom buffer.old buffer.new 165 }
 {
-    push_text(buffer, r#"{"address":""#);
+    push_text(buffer, r#"{"sender":""#);
     push_addr(buffer, spelling, origin.sender);
-    push_text(buffer, r#"","interface":"#);
-    push_decimal(buffer, origin.place.interface);
-    push_text(buffer, r#","link":"#);
-    push_number_json(buffer, origin.place.link);
-    push_text(buffer, r#","vlans":"#);
-    push_vlans_json(buffer, origin.place.vlans);
-    push_text(buffer, r#","name":"#);
+    push_place_json(buffer, origin.place);
 }
 
 /// Appends a place, from the end of its sender's address up to the interface's name.
@@ -143,9 +138,9 @@ pub(crate) fn push_place_json(buffer: &mut Vec<u8>, place: Place)
 
 /// Appends what a sender sent: the end of an object.
 pub(crate) fn push_sender_end_json(buffer: &mut Vec<u8>, tally: Tally)
-    requires { HasRoom buffer.old 225 }
+    requires { HasRoom buffer.old 243 }
     ensures text { buffer.new.items ≡ buffer.old.items ++ sender_end_json tally }
-    ensures room { TookRoom buffer.old buffer.new 225 }
+    ensures room { TookRoom buffer.old buffer.new 243 }
 {
     push_text(buffer, r#","packets":"#);
     push_decimal(buffer, tally.packets);
@@ -176,14 +171,14 @@ fn push_vlans_json(buffer: &mut Vec<u8>, vlans: Vlans)
     push_text(buffer, "]");
 }
 
-/// Appends an Interval, or `null`.
+/// Appends an Interval in seconds, or `null`.
 fn push_interval_json(buffer: &mut Vec<u8>, interval: Option<u16>)
-    requires { HasRoom buffer.old 5 }
-    ensures text { buffer.new.items ≡ buffer.old.items ++ number_json interval }
-    ensures room { TookRoom buffer.old buffer.new 5 }
+    requires { HasRoom buffer.old 23 }
+    ensures text { buffer.new.items ≡ buffer.old.items ++ interval_json interval }
+    ensures room { TookRoom buffer.old buffer.new 23 }
 {
     match interval {
-        Some(interval) => push_decimal(buffer, interval),
+        Some(interval) => push_seconds(buffer, u64::from(interval)),
         None => push_text(buffer, "null"),
     }
 }
@@ -214,7 +209,7 @@ pub(crate) fn push_addressed<A: Shown>(buffer: &mut Vec<u8>, spelling: Spelling,
     push_text(buffer, "\"");
 }
 
-/// Appends what is answered, under a view: the object of a route, `"unreachable"`, or `null`.
+/// Appends what is answered, under a view: an object, or `null`.
 pub(crate) fn push_answer_json(
     buffer: &mut Vec<u8>,
     spelling: Spelling,
@@ -231,7 +226,7 @@ pub(crate) fn push_answer_json(
     }
 }
 
-/// Appends what stands for a key, under a view: an object, or `"unreachable"`.
+/// Appends what stands for a key, under a view: an object.
 fn push_held_json(buffer: &mut Vec<u8>, spelling: Spelling, view: View, held: Held)
     requires { HasRoom buffer.old 114 }
     ensures text { buffer.new.items ≡ buffer.old.items ++ answer_json spelling view (Some held) }
@@ -239,7 +234,7 @@ fn push_held_json(buffer: &mut Vec<u8>, spelling: Spelling, view: View, held: He
 {
     match held {
         Held::Route(ann) => push_announcement_json(buffer, spelling, view, ann),
-        Held::Unreachable => push_text(buffer, r#""unreachable""#),
+        Held::Unreachable => push_text(buffer, r#"{"unreachable":true}"#),
     }
 }
 

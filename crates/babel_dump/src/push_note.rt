@@ -2,13 +2,13 @@
 ghost use Rattle.std.specs.Prelude.{◌≡◌, ◌+◌, ◌≤◌, ◌++◌, length};
 ghost use Rattle.babel_dump.specs.NoteJson.{ignored_members, left_out_members, note_json};
 ghost use Rattle.babel_dump.specs.NoteJson.{note_front, note_members, note_name, note_rest};
-ghost use Rattle.babel_dump.specs.NoteJson.{number_member, side_member};
+ghost use Rattle.babel_dump.specs.NoteJson.{number_member, seconds_member, side_member};
 ghost use Rattle.babel_dump.specs.NoteJson.{source_member};
 ghost use Rattle.babel_dump.specs.Slices.{HasRoom, TookRoom};
 
 use crate::left_out::{LeftOutNote, told_reasons};
 use crate::note::{Note, SideNote};
-use crate::push::{push_decimal, push_octet, push_text};
+use crate::push::{push_decimal, push_octet, push_seconds, push_text};
 use crate::push_addr::push_addr;
 use crate::push_json::push_place_json;
 use crate::push_report::{push_counted_json, push_report_members};
@@ -106,8 +106,8 @@ fn push_members(buffer: &mut Vec<u8>, note: &Note)
         Note::TooShort(frames) => push_member(buffer, "frames", *frames),
         Note::Backwards(packet) => push_member(buffer, "packet", *packet),
         Note::ShortSpan { span, interval } => {
-            push_member(buffer, "span", *span);
-            push_member(buffer, "interval", u64::from(*interval));
+            push_seconds_member(buffer, "span", *span);
+            push_seconds_member(buffer, "interval", u64::from(*interval));
         }
         Note::Expired(routes) | Note::RoutesDiffer(routes) => {
             push_member(buffer, "routes", *routes);
@@ -159,4 +159,16 @@ fn push_member(buffer: &mut Vec<u8>, name: &str, number: u64)
     push_text(buffer, name);
     push_text(buffer, "\":");
     push_decimal(buffer, number);
+}
+
+/// Appends hundredths of a second, in seconds, of this name: a member of an object.
+fn push_seconds_member(buffer: &mut Vec<u8>, name: &str, hundredths: u64)
+    requires { HasRoom buffer.old (length name.now + 27) }
+    ensures text { buffer.new.items ≡ buffer.old.items ++ seconds_member name.now hundredths }
+    ensures room { TookRoom buffer.old buffer.new (length name.now + 27) }
+{
+    push_text(buffer, ",\"");
+    push_text(buffer, name);
+    push_text(buffer, "\":");
+    push_seconds(buffer, hundredths);
 }

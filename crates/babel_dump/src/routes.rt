@@ -12,7 +12,7 @@ use crate::filter::Filter;
 use crate::format::Format;
 use crate::job::Listed;
 use crate::outcome::Outcome;
-use crate::output::count_output;
+use crate::output::{count_output, rows_name};
 use crate::run_fault::RunFault;
 use crate::slices::{Found, Rows};
 use babel_canon::{Difference, route_differences};
@@ -34,7 +34,7 @@ pub(crate) fn found_routes(
 {
     let outcome = Outcome::of_dump(0, *table.report());
     if count {
-        let text = count_output(alloc, format, "rows", filter.count(&table))?;
+        let text = count_output(alloc, format, rows_name(format), filter.count(&table))?;
         return Found::text(alloc, text, outcome);
     }
     let rows = Rows::Table(filter, view, table);

@@ -74,12 +74,16 @@ counts_at (Ok x) at start packet body old new begins are counts = record {
 }
 counts_at (Err e) at start packet body old new begins are counts = tt
 
-pub counts_packet : {S : Type 0} (cmp : S → S → Ordering) {T E : Type 0} (r : Result T E) (sender : S) (start : Start) (packet : List ℕ) (old new : List (S × Heard)) (heard : Heard) (octets : ℕ) (report : Counts)
-    → heard ≡ heard_of cmp old sender → octets ≡ heard.octets + length packet → OnOk r (CountsAt heard.octets start packet heard.report report)
-    → new ≡ insert_entry cmp old sender (record { octets = octets; report = report }) → OnOk r (CountsPacket cmp sender start packet old new)
-counts_packet cmp (Ok x) sender start packet old new heard octets report is size counts put = record {
-  report = report;
-  counts = subst (λ (h : Heard). CountsAt h.octets start packet h.report report) is counts;
-  heard = put ∙ ap (λ (n : ℕ). insert_entry cmp old sender (record { octets = n; report = report })) (size ∙ ap (λ (h : Heard). h.octets + length packet) is);
-}
-counts_packet cmp (Err e) sender start packet old new heard octets report is size counts put = tt
+module _ {S : Type 0} (cmp : S → S → Ordering) (sender : S) (start : Start) (packet : List ℕ) (old new : List (S × Heard)) (before after : Heard) where
+  pub counts_packet : before ≡ heard_of cmp old sender → after.octets ≡ before.octets + length packet → CountsAt before.octets start packet before.report after.report → new ≡ insert_entry cmp old sender after
+      → CountsPacket cmp sender start packet old new
+  counts_packet is size counts put = record {
+    report = after.report;
+    counts = subst (λ (h : Heard). CountsAt h.octets start packet h.report after.report) is counts;
+    heard = put ∙ ap (λ (n : ℕ). insert_entry cmp old sender (record { octets = n; report = after.report })) (size ∙ ap (λ (h : Heard). h.octets + length packet) is);
+  }
+
+  pub counts_if_ok : {T E : Type 0} (r : Result T E) → before ≡ heard_of cmp old sender → OnOk r (after.octets ≡ before.octets + length packet) → OnOk r (CountsAt before.octets start packet before.report after.report)
+      → new ≡ insert_entry cmp old sender after → OnOk r (CountsPacket cmp sender start packet old new)
+  counts_if_ok (Ok x) is size counts put = counts_packet is size counts put
+  counts_if_ok (Err e) is size counts put = tt

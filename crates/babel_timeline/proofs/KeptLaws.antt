@@ -125,6 +125,25 @@ same_option : (time : Option ℕ) → option_eq nat_eq time time ≡ true
 same_option None = refl
 same_option (Some time) = is_same time
 
+-- ---- entries
+
+module _ {K X : Type 0} (R : K → K → Ordering) (key : K) where
+  -- one that is there is written in its place
+  pub set_is_insert : IsTotalOrder R → (entries : List (K × X)) (before after : X) → IsStrictlySortedBy R (keys_of entries) → lookup (is_at (R key)) entries ≡ Some before
+      → set_value (is_at (R key)) entries after ≡ insert_entry R entries key after
+  unfolding IsStrictlySortedBy
+  set_is_insert total [] before after rising is = absurd cc
+  set_is_insert total (e ∷ entries) before after rising is = by (set_is_insert total entries before after rising.1) (R key e.0) refl
+    where
+      by : (lookup (is_at (R key)) entries ≡ Some before → set_value (is_at (R key)) entries after ≡ insert_entry R entries key after) → (o : Ordering) → R key e.0 ≡ o
+          → cond (is_eq o) ((e.0, after) ∷ entries) (e ∷ set_value (is_at (R key)) entries after)
+          ≡ match_ordering o ((key, after) ∷ e ∷ entries) ((e.0, after) ∷ entries) (e ∷ insert_entry R entries key after)
+      by again Less o = let none = miss_below total key (e ∷ entries) (o, below_all total key e.0 (keys_of entries) o rising.0) in absurd cc
+      by again Equal o = refl
+      by again Greater o =
+          ap (λ (es : List (K × X)). e ∷ es)
+          (again (sym (ap (λ (b : Bool). cond b (Some e.1) (lookup (is_at (R key)) entries)) (ap is_eq o)) ∙ is))
+
 -- ---- rows of entries
 
 pub row_of_entry : {S : Type 0} (cmp : S → S → Ordering) (entries : Entries S) (subject : Subject S) (entry : Option Entry) → entry_of cmp entries subject ≡ entry
@@ -185,21 +204,6 @@ module _ {S : Type 0} (R : Subject S → Subject S → Ordering) (subject : Subj
       rows_set entries after
       ∙ set_value_same (is_at (R subject)) (rows_of entries) after.row
       (lookup-map_values (λ e. e.row) (is_at (R subject)) entries ∙ ap (λ (e : Option Entry). option_map (λ e. e.row) e) is ∙ ap Some (sym row))
-
-  pub set_is_insert : IsTotalOrder R → (entries : Entries S) (before after : Entry) → IsStrictlySortedBy R (keys_of entries) → lookup (is_at (R subject)) entries ≡ Some before
-      → set_value (is_at (R subject)) entries after ≡ insert_entry R entries subject after
-  unfolding IsStrictlySortedBy
-  set_is_insert total [] before after rising is = absurd cc
-  set_is_insert total (e ∷ entries) before after rising is = by (set_is_insert total entries before after rising.1) (R subject e.0) refl
-    where
-      by : (lookup (is_at (R subject)) entries ≡ Some before → set_value (is_at (R subject)) entries after ≡ insert_entry R entries subject after) → (o : Ordering) → R subject e.0 ≡ o
-          → cond (is_eq o) ((e.0, after) ∷ entries) (e ∷ set_value (is_at (R subject)) entries after)
-          ≡ match_ordering o ((subject, after) ∷ e ∷ entries) ((e.0, after) ∷ entries) (e ∷ insert_entry R entries subject after)
-      by again Less o = let none = miss_below total subject (e ∷ entries) (o, below_all total subject e.0 (keys_of entries) o rising.0) in absurd cc
-      by again Equal o = refl
-      by again Greater o =
-          ap (λ (es : Entries S). e ∷ es)
-          (again (sym (ap (λ (b : Bool). cond b (Some e.1) (lookup (is_at (R subject)) entries)) (ap is_eq o)) ∙ is))
 
 -- ---- the queue
 

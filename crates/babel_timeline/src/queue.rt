@@ -1,5 +1,5 @@
 //! The subjects whose rows may have ended, in the order in which they are looked at.
-ghost use Rattle.std.specs.Prelude.{◌≡◌, ◌||◌, ◌&&◌, ◌≤◌, not, true, IfNone, IfSome, OnErr, OnOk};
+ghost use Rattle.std.specs.Prelude.{◌≡◌, ◌||◌, ◌&&◌, ◌≤◌, not, true, IfNone, IfSome, IsTrue, OnErr, OnOk};
 ghost use Rattle.std.specs.declared.cmp.Ordering.TheVariants.{Less};
 ghost use Rattle.std.specs.BTreeSet.{contains, IsEmpty};
 ghost use Rattle.babel_timeline.specs.Rows.{expiry_cmp, expiry_of};
@@ -73,6 +73,13 @@ impl<S: Sender> Queue<S> {
         }
     }
 
+    /// Whether it is known that nothing is looked at by this time.
+    pub(crate) fn is_quiet(&self, until: u128) -> bool
+        ensures { IsTrue result → NoneBy S.cmp until self.now.expiries }
+    {
+        until < self.soonest
+    }
+
     /// What is looked at first, if by this time.
     pub(crate) fn first_by(&mut self, until: u128) -> Option<Expiry<S>>
         ensures same { self.new ≡ self.old }
@@ -84,7 +91,7 @@ impl<S: Sender> Queue<S> {
             → contains (expiry_cmp S.cmp) self.new.expiries other ≡ true
             → ¬ (expiry_cmp S.cmp other first ≡ Less)) }
     {
-        if until < self.soonest {
+        if self.is_quiet(until) {
             return None;
         }
         let first = *self.expiries.first()?;

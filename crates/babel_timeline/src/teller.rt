@@ -1,7 +1,7 @@
 //! What senders hold as their packets come, and what is told of it.
 ghost use Rattle.std.specs.Prelude.{◌≡◌, ◌+◌, ◌<◌, ◌^◌, [], length, IfOk, IfSome, OnOk};
 ghost use Rattle.babel_tlv.specs.FrameFaults.{BeginsPacket};
-ghost use Rattle.babel_timeline.specs.Hearing.{CountsAt, CountsPacket, heard_of, octets_heard};
+ghost use Rattle.babel_timeline.specs.Hearing.{CountsAt, CountsPacket, octets_heard};
 ghost use Rattle.babel_timeline.specs.Hearing.{report_of};
 ghost use Rattle.babel_timeline.specs.Rows.{AllLast};
 ghost use Rattle.babel_timeline.specs.Telling.{Hears, TellsEnds};
@@ -38,6 +38,42 @@ fn body_of(packet: &[u8], at: u64) -> Result<&[u8], Fault>
         Frame::More => Err(Fault::Truncated { at }),
         Frame::Bad(fault) => Err(fault),
     }
+}
+
+/// Takes a whole packet of a sender, of which this was heard before; counts its octets and TLVs.
+fn take<S: Sender>(
+    interest: &Interest,
+    timeline: &mut Timeline<S>,
+    sender: S,
+    start: &Start,
+    time: u128,
+    packet: &[u8],
+    heard: &mut Heard,
+    told: &mut Vec<Telling<S>>,
+) -> Result<(), Fault>
+    requires { time < 2 ^ 96 }
+    ensures same { timeline.new.factor ≡ timeline.old.factor }
+    ensures ok { OnOk result (Hears S.cmp timeline.old.factor interest.now.asked
+        interest.now.view sender start.now time heard.old.octets packet.now
+        timeline.old.rows timeline.new.rows told.old.items told.new.items) }
+    ensures octets { OnOk result (heard.new.octets ≡ heard.old.octets + length packet.now) }
+    ensures counts { OnOk result
+        (CountsAt heard.old.octets start.now packet.now heard.old.report heard.new.report) }
+{
+    let at = heard.octets;
+    let Some(octets) = at.checked_add(packet.len() as u64) else {
+        return Err(Fault::TooLong);
+    };
+
+    // There are no more TLVs than octets.
+    if heard.report.tlvs() > at {
+        return Err(Fault::TooLong);
+    }
+    heard.octets = octets;
+    let body = body_of(packet, at)?;
+    let place = at + 4;
+    let report = &mut heard.report;
+    interest.take_body(timeline, sender, start, time, body, place, report, told)
 }
 
 impl<S: Sender> Teller<S> {
@@ -82,52 +118,15 @@ impl<S: Sender> Teller<S> {
         self.interest.expire(&mut self.timeline, until, told)
     }
 
-    /// What of a sender was heard.
-    fn heard_of(&self, sender: S) -> Heard
-        ensures { result ≡ heard_of S.cmp self.now.heard.entries sender }
-    {
-        match self.heard.get(&sender) {
-            Some(heard) => *heard,
-            None => Heard::nothing(),
-        }
-    }
-
     /// How many TLVs the packets that were heard of a sender have, and which were ignored; the
     /// offsets are those in its packets, end to end.
     pub fn report(&self, sender: S) -> Report
         ensures { result ≡ report_of S.cmp self.now.heard.entries sender }
     {
-        self.heard_of(sender).report
-    }
-
-    /// Takes a whole packet of a sender, whose first octet lies at this offset of its packets;
-    /// counts its TLVs.
-    fn take(
-        &mut self,
-        sender: S,
-        start: &Start,
-        time: u128,
-        packet: &[u8],
-        at: u64,
-        report: &mut Report,
-        told: &mut Vec<Telling<S>>,
-    ) -> Result<(), Fault>
-        requires in_time { time < 2 ^ 96 }
-        requires fits { at + length packet.now < 2 ^ 64 }
-        requires room { report.old.tlvs + length packet.now < 2 ^ 64 }
-        ensures same { (self.new.timeline.factor ≡ self.old.timeline.factor)
-            × (self.new.interest ≡ self.old.interest) × (self.new.heard ≡ self.old.heard) }
-        ensures ok { OnOk result (Hears S.cmp self.old.timeline.factor self.old.interest.asked
-            self.old.interest.view sender start.now time at packet.now
-            self.old.timeline.rows self.new.timeline.rows told.old.items told.new.items) }
-        ensures counts { OnOk result
-            (CountsAt at start.now packet.now report.old report.new) }
-    {
-        let body = body_of(packet, at)?;
-        let place = at + 4;
-        let timeline = &mut self.timeline;
-        self.interest
-            .take_body(timeline, sender, start, time, body, place, report, told)
+        match self.heard.get(&sender) {
+            Some(heard) => heard.report,
+            None => Report::new(),
+        }
     }
 
     /// Takes a whole packet of a sender, which came at this time, and what has expired by then;
@@ -151,20 +150,32 @@ impl<S: Sender> Teller<S> {
         ensures counts { OnOk result (CountsPacket S.cmp sender start packet.now
             self.old.heard.entries self.new.heard.entries) }
     {
-        let Heard {
-            octets: at,
-            mut report,
-        } = self.heard_of(sender);
-        let Some(octets) = at.checked_add(packet.len() as u64) else {
-            return Err(Fault::TooLong);
-        };
-
-        // There are no more TLVs than octets.
-        if report.tlvs() > at {
-            return Err(Fault::TooLong);
+        if let Some(heard) = self.heard.get_mut(&sender) {
+            let timeline = &mut self.timeline;
+            return take(
+                &self.interest,
+                timeline,
+                sender,
+                &start,
+                time,
+                packet,
+                heard,
+                told,
+            );
         }
-        let taken = self.take(sender, &start, time, packet, at, &mut report, told);
-        match self.heard.insert(sender, Heard { octets, report }) {
+        let mut heard = Heard::nothing();
+        let timeline = &mut self.timeline;
+        let taken = take(
+            &self.interest,
+            timeline,
+            sender,
+            &start,
+            time,
+            packet,
+            &mut heard,
+            told,
+        );
+        match self.heard.insert(sender, heard) {
             Ok(_) => taken,
             Err(_) => Err(Fault::Memory),
         }

@@ -218,6 +218,9 @@ impl<S: Sender> Timeline<S> {
         ensures first { IfOk result (λ first. IfSome first (λ first.
             EndsFirst S.cmp self.old.factor self.old.rows (expiring first) first.time)) }
     {
+        if self.queue.is_quiet(until) {
+            return Ok(None);
+        }
         let last = self.cells.last();
         let first = settle(&mut self.cells, &mut self.queue, self.factor, until);
         self.cells.look_behind(last);

@@ -1,13 +1,7 @@
 -- The first of the set, which no other is before.
-use Rattle.std.proofs.Common.{arith, subst}
-use Rattle.babel_timeline.specs.Kept.{NoneBy, Waiting}
+use Rattle.std.proofs.Common.{arith}
 use Rattle.babel_timeline.proofs.KeptLaws.{first_soonest, least_law}
 use Rattle.babel_timeline.proofs.queue.Queue.first_by.Goals as goal
-
-pub returns-then-until-self-clause-none : goal.returns-then-until-self-clause-none
-returns-then-until-self-clause-none g c =
-    subst (λ (w : Waiting g.row.S.Denot). NoneBy g.S.Ord.cmp c.args.until w.expiries) c.self.view_is
-    (λ expiry held. omega (arith, c.self.invariant expiry held, c.if-until-self.true))
 
 pub returns-then-until-first-clause-none : goal.returns-then-until-first-clause-none
 returns-then-until-first-clause-none g c expiry held =

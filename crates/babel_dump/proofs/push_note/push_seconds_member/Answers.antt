@@ -1,0 +1,9 @@
+use Rattle.babel_dump.proofs.TextLemmas.{appended}
+use Rattle.babel_dump.proofs.push_note.push_seconds_member.Goals as goal
+
+pub returns-clause-text : goal.returns-clause-text
+returns-clause-text c =
+    let before = c.args.buffer.now.items in
+    let name = appended before _ _ _ _ c.push_text.ensures.text c.push_text-2.ensures.text in
+    let colon = appended before _ _ _ _ name c.push_text-3.ensures.text in
+    appended before _ _ _ _ colon c.push_seconds.ensures.text
