@@ -112,8 +112,6 @@ __babel_dump_option 'events' -l to -x \
     -d 'Report changes of the answer for this destination, instead of route changes'
 __babel_dump_option 'events' -l src -x \
     -d 'The source of that answer, of the destination'\''s family'
-__babel_dump_option 'events' -l requests \
-    -d 'Also report the requests of each sender for routes'
 __babel_dump_option 'senders extract' -l strict \
     -d 'Reject a capture if any datagram is left out'
 __babel_dump_option 'show lookup normalise key pairs compare diff events' -l v4-via-v6 \

@@ -160,23 +160,6 @@ class Event:
 
 
 @dataclass(frozen=True)
-class Requested:
-    """Of events --requests; what is not asked for is None."""
-
-    time: str
-    sender: Address
-    interface: int
-    link: Optional[int]
-    vlans: List[int]
-    name: Optional[str]
-    event: Literal["requests"]
-    destination: Optional[Prefix]
-    source: Optional[Prefix]
-    router_id: Optional[str]
-    seqno: Optional[int]
-
-
-@dataclass(frozen=True)
 class Note:
     """Of each command; the sender and its place are those of a note of events."""
 
@@ -186,7 +169,7 @@ class Note:
     other: bool
 
 
-KINDS = Row, Looked, Report, Summary, Counts, Same, Differ, Differences, Sender, Event, Requested
+KINDS = Row, Looked, Report, Summary, Counts, Same, Differ, Differences, Sender, Event
 
 # What a note has besides.
 NOTES = {

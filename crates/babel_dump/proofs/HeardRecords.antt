@@ -34,7 +34,7 @@ use Rattle.babel_timeline.specs.declared.teller.Teller.{Teller}
 use Rattle.babel_timeline.specs.declared.telling.Telling.{Telling}
 use Rattle.babel_timeline.specs.Telling.{TellsEnds}
 use Rattle.babel_dump.specs.EventText.{speaker_of}
-use Rattle.babel_dump.specs.EventsRun.{AreTlvsOf, HaveTold, HaveToldSo, Step, asked_by, is_heard, is_lost, is_of, made_in, packets_heard, requests_made, speaker_at, told_in, unlost, written_in}
+use Rattle.babel_dump.specs.EventsRun.{AreTlvsOf, HaveTold, HaveToldSo, Step, asked_by, is_heard, is_lost, is_of, made_in, packets_heard, speaker_at, told_in, unlost, written_in}
 use Rattle.babel_dump.specs.Followed.{HasHeard, HearsPacket, HearsRecord, IsHeardOf, Suits, unlost_by}
 use Rattle.babel_dump.specs.Speakers.{speaker_cmp, speaker_exact}
 use Rattle.babel_dump.specs.declared.events_job.Events.{Events}
@@ -219,17 +219,12 @@ module _ (events : Events) where
       no_front [] back split = refl
       no_front (step ∷ front) back split = absurd (let bad : [] ≡ step ∷ (front ++ back) = split in cc)
 
-  -- what a step tells, and then what it requests
-  abbrev all_of : Step → Tellings
-  all_of step = step.told ++ requests_made events step.made
-
-  written_more : (before : List Made) (steps : List Step) (step : Step)
-      → written_in events before (steps ++ step ∷ []) ≡ written_in events before steps ++ unlost (before ++ made_in steps) (all_of step)
-  written_more before [] step = append-nil (unlost before (all_of step)) ∙ ap (λ (m : List Made). unlost m (all_of step)) (sym (append-nil before))
+  written_more : (before : List Made) (steps : List Step) (step : Step) → written_in before (steps ++ step ∷ []) ≡ written_in before steps ++ unlost (before ++ made_in steps) step.told
+  written_more before [] step = append-nil (unlost before step.told) ∙ ap (λ (m : List Made). unlost m step.told) (sym (append-nil before))
   written_more before (first ∷ steps) step =
-      ap (λ (t : Tellings). unlost before (all_of first) ++ t) (written_more (before ++ first.made ∷ []) steps step
-      ∙ ap (λ (m : List Made). written_in events (before ++ first.made ∷ []) steps ++ unlost m (all_of step)) (append_assoc before (first.made ∷ []) (made_in steps)))
-      ∙ sym (append_assoc (unlost before (all_of first)) (written_in events (before ++ first.made ∷ []) steps) (unlost (before ++ made_in (first ∷ steps)) (all_of step)))
+      ap (λ (t : Tellings). unlost before first.told ++ t) (written_more (before ++ first.made ∷ []) steps step
+      ∙ ap (λ (m : List Made). written_in (before ++ first.made ∷ []) steps ++ unlost m step.told) (append_assoc before (first.made ∷ []) (made_in steps)))
+      ∙ sym (append_assoc (unlost before first.told) (written_in (before ++ first.made ∷ []) steps) (unlost (before ++ made_in (first ∷ steps)) step.told))
 
   pub unlost_is : (made : List Made) (written : Tellings) (old : Hearing) (was : HasHeard events made written old) (told : Tellings) → unlost_by old.lost told ≡ unlost (made_in was.steps) told
   unlost_is made written old was told = ap (λ (p : Speaker → Bool). filter (λ t. not (p (speaker_of t))) told) (fun_ext was.lost)
@@ -239,15 +234,14 @@ module _ (events : Events) where
     pub has_heard_more : (told : Tellings) → HearsRecord events one old.teller new.teller told
         → ((speaker : Speaker) → contains speaker_cmp new.lost speaker
         ≡ contains speaker_cmp old.lost speaker || is_of speaker (option_map (λ (m : Missed). m.origin) (missed_in one.what)))
-        → HasHeard events (made ++ one ∷ []) (written ++ unlost_by old.lost (told ++ requests_made events one)) new
+        → HasHeard events (made ++ one ∷ []) (written ++ unlost_by old.lost told) new
     has_heard_more told hears lost = record {
       suits = hears.suits;
       steps = steps;
       are_made = made_is ∙ ap (λ (m : List Made). m ++ one ∷ []) was.are_made;
       each = each;
       have_told = have;
-      written_is = ap (λ (t : Tellings). t ++ unlost_by old.lost (all_of step)) was.written_is
-          ∙ ap (λ (t : Tellings). written_in events [] was.steps ++ t) (unlost_is made written old was (all_of step))
+      written_is = ap (λ (t : Tellings). t ++ unlost_by old.lost told) was.written_is ∙ ap (λ (t : Tellings). written_in [] was.steps ++ t) (unlost_is made written old was told)
           ∙ sym (written_more [] was.steps step);
       lost = λ speaker. lost speaker ∙ ap (λ (b : Bool). b || missed speaker) (was.lost speaker) ∙ sym (lost_here speaker) ∙ ap (λ (m : List Made). is_lost m speaker) (sym made_is);
       heard = λ speaker. subst (λ (m : List Made). IsHeardOf events m new.teller.heard.entries speaker) (sym made_is) (hears.heard (made_in was.steps) speaker (was.heard speaker));
@@ -324,11 +318,11 @@ module _ (events : Events) where
   pub heard_and_lost : (made : List Made) (one : Made) (before told told_too : Tellings) (old mid new : Hearing) → mid.lost ≡ old.lost → new.teller ≡ mid.teller
       → (missed : Option Missed) → missed ≡ missed_in one.what
       → (Suits events old.teller → HearsRecord events one old.teller mid.teller mid.heard.items)
-      → told_too ≡ told ++ unlost_by old.lost (mid.heard.items ++ requests_made events one)
+      → told_too ≡ told ++ unlost_by old.lost mid.heard.items
       → ((speaker : Speaker) → contains speaker_cmp new.lost speaker ≡ contains speaker_cmp mid.lost speaker || is_of speaker (option_map (λ (m : Missed). m.origin) missed))
       → HasHeard events made (before ++ told) old → HasHeard events (made ++ one ∷ []) (before ++ told_too) new
   heard_and_lost made one before told told_too old mid new lost teller missed is hears told_is lose was =
-      subst (λ (t : Tellings). HasHeard events (made ++ one ∷ []) t new) (append_assoc before told (unlost_by old.lost (mid.heard.items ++ requests_made events one)) ∙ ap (λ (t : Tellings). before ++ t) (sym told_is))
+      subst (λ (t : Tellings). HasHeard events (made ++ one ∷ []) t new) (append_assoc before told (unlost_by old.lost mid.heard.items) ∙ ap (λ (t : Tellings). before ++ t) (sym told_is))
       (has_heard_more made (before ++ told) one old new was mid.heard.items
       (subst (λ (t : Teller Speaker). HearsRecord events one old.teller t mid.heard.items) (sym teller) (hears was.suits))
       (λ speaker. lose speaker ∙ ap (λ (l : BTreeSet Speaker). contains speaker_cmp l speaker || is_of speaker (option_map (λ (m : Missed). m.origin) missed)) lost

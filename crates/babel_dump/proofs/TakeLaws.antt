@@ -108,7 +108,7 @@ record HasEnded (events : Events) (made : List Made) (moment : Option ℕ) (step
   rows : Rows Speaker
   have_told : HaveTold events moment made (told_in steps ++ ended) rows
   all_last : IfSome moment (λ m. AllLast speaker_cmp events.expiry m rows)
-  written_is : written ≡ written_in events [] steps ++ unlost (made_in steps) ended
+  written_is : written ≡ written_in [] steps ++ unlost (made_in steps) ended
 
 ended_by_then : (events : Events) (made : List Made) (told : Tellings) (moment : Option ℕ) (old new : Followed) → EndsAt events moment old new
     → (was : HasHeard events made (told ++ old.follower.told.items) old.follower.hearing) → HasEnded events (made_in was.steps) moment was.steps (told ++ new.follower.told.items)
@@ -117,7 +117,7 @@ ended_by_then events made told None old new same was = record {
   rows = old.follower.hearing.teller.timeline.rows;
   have_told = subst (λ (t : Tellings). HaveTold events None (made_in was.steps) t old.follower.hearing.teller.timeline.rows) (sym (append-nil (told_in was.steps))) was.have_told;
   all_last = tt;
-  written_is = ap (λ (f : Follower). told ++ f.told.items) same ∙ was.written_is ∙ sym (append-nil (written_in events [] was.steps));
+  written_is = ap (λ (f : Follower). told ++ f.told.items) same ∙ was.written_is ∙ sym (append-nil (written_in [] was.steps));
 }
 ended_by_then events made told (Some moment) old new ends was = record {
   ended = ends.ended;
@@ -126,7 +126,7 @@ ended_by_then events made told (Some moment) old new ends was = record {
   all_last = ends.last;
   written_is = ap (λ (t : Tellings). told ++ t) ends.written ∙ sym (append_assoc told old.follower.told.items (unlost_by old.follower.hearing.lost ends.ended))
       ∙ ap (λ (t : Tellings). t ++ unlost_by old.follower.hearing.lost ends.ended) was.written_is
-      ∙ ap (λ (t : Tellings). written_in events [] was.steps ++ t) (unlost_is events made (told ++ old.follower.told.items) old.follower.hearing was ends.ended);
+      ∙ ap (λ (t : Tellings). written_in [] was.steps ++ t) (unlost_is events made (told ++ old.follower.told.items) old.follower.hearing was ends.ended);
 }
 
 -- the moment is none where a record has no time

@@ -12,7 +12,7 @@ use Rattle.babel_capture.specs.declared.place.Place.{Place}
 use Rattle.babel_tlv.specs.declared.held.Held.{Held}
 use Rattle.babel_tlv.specs.declared.held.Held.TheVariants as helds
 use Rattle.babel_tlv.specs.declared.view.View.{View}
-use Rattle.babel_tlv.specs.Route.{Announcement}
+use Rattle.babel_tlv.specs.Route.{RouteKey, Announcement}
 use Rattle.babel_timeline.specs.Changes.{held_after}
 use Rattle.babel_timeline.specs.declared.change.ChangeKind.{ChangeKind}
 use Rattle.babel_timeline.specs.declared.change.ChangeKind.TheVariants as kinds
@@ -20,9 +20,8 @@ use Rattle.babel_timeline.specs.declared.telling.Telling.{Telling}
 use Rattle.babel_timeline.specs.declared.telling.Telling.TheVariants as tellings
 use Rattle.babel_dump.specs.CaptureText.{link_text, name_json, name_text, place_json, vlans_text}
 use Rattle.babel_dump.specs.JsonText.{addressed_json, answer_json}
-use Rattle.babel_dump.specs.RequestText.{key_text, request_json, request_text}
 use Rattle.babel_dump.specs.RunText.{announcement_text, answer_text, newline}
-use Rattle.babel_dump.specs.Spelling.{address_text, prefix_text}
+use Rattle.babel_dump.specs.Spelling.{address_text, from_prefix, prefix_text}
 use Rattle.babel_dump.specs.TimeText.{time_json, time_or}
 use Rattle.babel_dump.specs.declared.addr_pair.AddrPair.{AddrPair}
 use Rattle.babel_dump.specs.declared.format.Format.{Format}
@@ -36,18 +35,15 @@ use Rattle.babel_dump.specs.declared.spelling.Spelling.{Spelling}
 abbrev pub time_of : Telling Speaker → ℕ
 time_of (tellings.Change change) = change.time
 time_of (tellings.Answer time sender answer) = time
-time_of (tellings.Request time sender request) = time
 
 abbrev pub speaker_of : Telling Speaker → Speaker
 speaker_of (tellings.Change change) = change.subject.sender
 speaker_of (tellings.Answer time sender answer) = sender
-speaker_of (tellings.Request time sender request) = sender
 
 -- what is held after it, or answered from then on
 abbrev pub held_from : Telling Speaker → Option Held
 held_from (tellings.Change change) = option_map helds.Route (held_after change.kind)
 held_from (tellings.Answer time sender answer) = option_map helds.Route answer
-held_from (tellings.Request time sender request) = None
 
 abbrev pub kind_verb : ChangeKind → List ℕ
 kind_verb (kinds.Announced ann) = codes "announces"
@@ -58,7 +54,6 @@ kind_verb kinds.Expired = codes "expires"
 abbrev pub verb : Telling Speaker → List ℕ
 verb (tellings.Change change) = kind_verb change.kind
 verb (tellings.Answer time sender answer) = codes "answers"
-verb (tellings.Request time sender request) = codes "requests"
 
 -- ---- text
 
@@ -78,19 +73,21 @@ event_front spelling name told =
     time_or (within_years (time_of told)) ++ codes " "
     ++ address_text spelling (speaker_of told).sender ++ interface_text (speaker_of told).place name
 
+-- ` DST from SRC`
+abbrev pub key_text : Spelling → RouteKey → List ℕ
+key_text spelling key = codes " " ++ prefix_text spelling key.dst ++ from_prefix spelling key.src
+
 -- ` via NEXTHOP id ROUTERID seqno N metric N`, or nothing where nothing is held any more
 abbrev pub after_text : Spelling → View → Option Announcement → List ℕ
 after_text spelling view None = []
 after_text spelling view (Some ann) = codes " " ++ announcement_text spelling view ann
 
--- of a change ` DST from SRC` and what is held after it; of an answer that, or ` none`; and what is
--- requested
+-- of a change ` DST from SRC` and what is held after it; of an answer that, or ` none`
 abbrev pub told_text : Spelling → View → Telling Speaker → List ℕ
 told_text spelling view (tellings.Change change) =
     key_text spelling change.subject.key ++ after_text spelling view (held_after change.kind)
 told_text spelling view (tellings.Answer time sender answer) =
     codes " " ++ answer_text spelling view (option_map helds.Route answer)
-told_text spelling view (tellings.Request time sender request) = request_text spelling request
 
 -- ` link N vlan N.N VERB `, and what is told
 abbrev pub event_end : Spelling → View → Telling Speaker → List ℕ
@@ -124,19 +121,12 @@ told_json spelling pair (tellings.Change change) =
     addressed_json (prefix_text spelling change.subject.key.dst)
     (prefix_text spelling change.subject.key.src)
 told_json spelling pair (tellings.Answer time sender answer) = asked_json spelling pair
-told_json spelling pair (tellings.Request time sender request) = request_json spelling request
-
--- `,"answer":ANSWER`, but of a request nothing
-abbrev pub answer_member : Spelling → View → Telling Speaker → List ℕ
-answer_member spelling view (tellings.Request time sender request) = []
-answer_member spelling view told =
-    codes ",\"answer\":" ++ answer_json spelling view (held_from told)
 
 -- `,"event":"VERB","destination":"DST","source":"SRC","answer":ANSWER}`
 abbrev pub event_end_json : Spelling → View → Option AddrPair → Telling Speaker → List ℕ
 event_end_json spelling view pair told =
     codes ",\"event\":\"" ++ verb told ++ codes "\"," ++ told_json spelling pair told
-    ++ answer_member spelling view told ++ codes "}" ++ newline
+    ++ codes ",\"answer\":" ++ answer_json spelling view (held_from told) ++ codes "}" ++ newline
 
 -- `{"time":"TIME","sender":"ADDRESS","interface":N,"link":N,"vlans":[N,N],"name":"NAME"`, and then
 -- `,"event":"VERB","destination":"DST","source":"SRC","answer":ANSWER}`

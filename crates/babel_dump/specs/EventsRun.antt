@@ -1,7 +1,7 @@
 -- What `events` tells of a capture, and what it promises: this project's own. Who does not use the
 -- command needs none of this page.
 use Rattle.std.specs.Prelude.{ℕ, ◌≡◌, ◌+◌, ◌≤◌, ◌^◌, Bool, false, not, ◌&&◌, List, [], ◌∷◌, ◌++◌}
-use Rattle.std.specs.Prelude.{if◌then◌else◌, Option, None, Some, IfSome, length, map}
+use Rattle.std.specs.Prelude.{Option, None, Some, IfSome, length, map}
 use Rattle.std.specs.BTreeMap.{is_at}
 use Rattle.std.specs.Io.KnownBytes.{Appends}
 use Rattle.std.specs.List.{AllByRecursion, filter, flat_map, list_any}
@@ -29,7 +29,6 @@ use Rattle.babel_timeline.specs.declared.change.Change.{Change}
 use Rattle.babel_timeline.specs.declared.telling.Telling.{Telling}
 use Rattle.babel_timeline.specs.declared.telling.Telling.TheVariants as tellings
 use Rattle.babel_timeline.specs.Accounts.{IsAccount, Said}
-use Rattle.babel_timeline.specs.RequestsTold.{requests_told}
 use Rattle.babel_timeline.specs.Rows.{AllLast, Rows}
 use Rattle.babel_timeline.specs.Telling.{AreAnswers, AskedFor, said_of}
 use Rattle.babel_dump.specs.CaptureRun.{IsOutcomeOf}
@@ -82,26 +81,6 @@ AreSaid events [] said = said ≡ []
 AreSaid events (one ∷ made) said =
     (here : List (Said Speaker)) × (later : List (Said Speaker)) × (said ≡ here ++ later)
     × Says events (time_of one.came) one.what here × AreSaid events made later
-
--- ---- what is requested
-
--- a sender at a place, as one who speaks
-abbrev pub speaker_at : Origin → Speaker
-speaker_at origin = record { sender = origin.sender; place = origin.place }
-
--- what a packet of a sender at a place, which came at this time, requests, if that is asked for
-abbrev pub requests_asked : Events → ℕ → Origin → (packet : List ℕ) → List (Telling Speaker)
-requests_asked events time origin packet = if events.requests
-    then requests_told events.limits.via_v6 (speaker_at origin) time packet else []
-
--- what a record's packet requests, where it has one, and a time
-abbrev pub requests_found : Events → Option ℕ → Found → List (Telling Speaker)
-requests_found events (Some time) (found place sender packet has_trailer) =
-    requests_asked events time (record { place = place; sender = sender }) packet
-requests_found events time what = []
-
-abbrev pub requests_made : Events → Made → List (Telling Speaker)
-requests_made events one = requests_found events (time_of one.came) one.what
 
 -- ---- in order
 
@@ -161,6 +140,10 @@ HaveToldSo events steps =
 
 -- ---- whose it is
 
+-- a sender at a place, as one who speaks
+abbrev pub speaker_at : Origin → Speaker
+speaker_at origin = record { sender = origin.sender; place = origin.place }
+
 -- there is a sender, and it is this one
 abbrev pub is_of : Speaker → Option Origin → Bool
 is_of speaker None = false
@@ -208,13 +191,11 @@ is_lost made speaker =
 abbrev pub unlost : List Made → List (Telling Speaker) → List (Telling Speaker)
 unlost made told = filter (λ one. not (is_lost made (speaker_of one))) told
 
--- of what records told, behind these, and of what they request, that of senders that were not lost
--- before
-abbrev pub written_in : Events → List Made → List Step → List (Telling Speaker)
-written_in events before [] = []
-written_in events before (step ∷ later) =
-    unlost before (step.told ++ requests_made events step.made)
-    ++ written_in events (before ++ step.made ∷ []) later
+-- of what records told, behind these, that of senders that were not lost before
+abbrev pub written_in : List Made → List Step → List (Telling Speaker)
+written_in before [] = []
+written_in before (step ∷ later) =
+    unlost before step.told ++ written_in (before ++ step.made ∷ []) later
 
 -- the text is the lines of what is told, each with a name for its interface
 pub record AreLines (events : Events) (told : List (Telling Speaker)) (text : List ℕ) : Type 0 where
@@ -237,8 +218,8 @@ moment_read events blocks gathering =
     gathering.report.timing.latest
 
 -- The octets are a capture, whose records told what they say, one after another; and then all that
--- ends by the moment that it was read to is told. Of it this is written, and after what a record told
--- what it requests, if that is asked for: of a sender nothing more once a datagram of it was left out that lacks something. The answer is of what was read.
+-- ends by the moment that it was read to is told. Of it this is written: of a sender nothing more
+-- once a datagram of it was left out that lacks something. The answer is of what was read.
 pub record TellsCapture (events : Events) (octets : List ℕ) (written : List (Telling Speaker))
     (answer : EventsOutcome) : Type 0 where
   pub gathering : Gathering
@@ -256,7 +237,7 @@ pub record TellsCapture (events : Events) (octets : List ℕ) (written : List (T
   pub all_last : gathering.report.timing.has_untimed ≡ false
       → IfSome (moment_read events is_read.is_read.blocks gathering)
       (λ moment. AllLast speaker_cmp events.expiry moment rows)
-  pub written_is : written ≡ written_in events [] steps ++ unlost (made_in steps) ended
+  pub written_is : written ≡ written_in [] steps ++ unlost (made_in steps) ended
   pub senders : map (λ heard. heard.origin) answer.senders.items ≡ keys_of gathering.senders
   pub heard : AllByRecursion (IsHeardSender events (made_in steps) gathering) answer.senders.items
   pub outcome_is : IsOutcomeOf answer.outcome (senders_status gathering.senders) gathering.report cut

@@ -50,7 +50,7 @@ pub record HasHeard (events : Events) (made : List Made) (written : List (Tellin
   pub are_made : made_in steps ≡ made
   pub each : (front back : List Step) → steps ≡ front ++ back → HaveToldSo events front
   pub have_told : HaveTold events None (made_in steps) (told_in steps) hearing.teller.timeline.rows
-  pub written_is : written ≡ written_in events [] steps
+  pub written_is : written ≡ written_in [] steps
   pub lost : (speaker : Speaker)
       → contains speaker_cmp hearing.lost speaker ≡ is_lost (made_in steps) speaker
   pub heard : (speaker : Speaker)

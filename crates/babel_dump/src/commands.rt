@@ -134,7 +134,6 @@ const AFTER_EVENTS: &str = after_help!(
     examples:
     "events x.pcap",
     "events --expiry 3.5 --from fe80::1 x.pcap",
-    "events --requests --from fe80::1 x.pcap",
     "events --to 10.1.2.3 --src 0.0.0.0 --json x.pcap";
     "0  done",
     "1  there are no Babel packets"

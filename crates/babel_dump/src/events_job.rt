@@ -28,8 +28,6 @@ pub struct Events {
     pub view: View,
     /// The addresses of which the answer is told in place of the rows: `--to`, `--src`.
     pub pair: Option<AddrPair>,
-    /// Whether it is told, too, what senders request: `--requests`.
-    pub requests: bool,
     pub format: Format,
     pub file: DumpFile,
     /// Whether no note comes after the lines: `--quiet`.

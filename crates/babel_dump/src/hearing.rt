@@ -7,7 +7,7 @@ ghost use Rattle.babel_capture.specs.Counts.{Made};
 ghost use Rattle.babel_capture.specs.Sinking.{IsTold, missed_said};
 ghost use Rattle.babel_timeline.specs.Hearing.{report_of};
 ghost use Rattle.babel_timeline.specs.declared.telling.Telling.{Telling as TellingSaid};
-ghost use Rattle.babel_dump.specs.EventsRun.{is_of, requests_asked, requests_made};
+ghost use Rattle.babel_dump.specs.EventsRun.{is_of};
 ghost use Rattle.babel_dump.specs.Followed.{EndsBy, HasHeard, HearsPacket, HearsRecord, Suits};
 ghost use Rattle.babel_dump.specs.Followed.{unlost_by};
 ghost use Rattle.babel_dump.specs.Speakers.{speaker_cmp};
@@ -21,7 +21,7 @@ use crate::speaker::Speaker;
 use babel_capture::{BabelPacket, Missed, Origin, Record, Said};
 use babel_prefix::Addr;
 use babel_table::Report;
-use babel_timeline::{Teller, Telling, tell_requests};
+use babel_timeline::{Teller, Telling};
 use babel_tlv::{Fault as DumpFault, Start};
 use std::alloc::{AllocError, Global};
 use std::collections::BTreeSet;
@@ -101,16 +101,13 @@ impl Hearing {
         ensures heard { OnOk result ((one : Made) → Suits events.now self.old.teller
             → IsTold one said.now
             → HearsRecord events.now one self.old.teller self.new.teller self.new.heard.items) }
-        ensures told { OnOk result ((one : Made) → IsTold one said.now → told.new.items
-            ≡ told.old.items ++ unlost_by self.old.lost
-            (self.new.heard.items ++ requests_made events.now one)) }
+        ensures told { OnOk result (told.new.items
+            ≡ told.old.items ++ unlost_by self.old.lost self.new.heard.items) }
     {
         self.heard.clear();
         let heard = self.hear(events, said);
         self.tell(told)?;
-        heard?;
-        self.request(events, said, told)?;
-        Ok(())
+        heard
     }
 
     /// Hears the record, and keeps what it tells.
@@ -175,45 +172,6 @@ impl Hearing {
             }
         }
         Ok(())
-    }
-
-    /// Adds what the record's packet requests, where it has one, and a time.
-    fn request(
-        &self,
-        events: &Events,
-        said: &Record<'_>,
-        told: &mut Vec<Telling<Speaker>>,
-    ) -> Result<(), AllocError>
-        ensures { OnOk result ((one : Made) → IsTold one said.now → told.new.items
-            ≡ told.old.items ++ unlost_by self.now.lost (requests_made events.now one)) }
-    {
-        let Some(time) = said.time else {
-            return Ok(());
-        };
-        let time = time.nanoseconds();
-        match &said.said {
-            Said::Packet(packet) => self.add_requests(events, time, packet, told),
-            _ => Ok(()),
-        }
-    }
-
-    /// Adds what a packet requests, if that is asked for and its sender is not lost.
-    fn add_requests(
-        &self,
-        events: &Events,
-        time: u128,
-        packet: &BabelPacket<'_>,
-        told: &mut Vec<Telling<Speaker>>,
-    ) -> Result<(), AllocError>
-        ensures { OnOk result (told.new.items ≡ told.old.items ++ unlost_by self.now.lost
-            (requests_asked events.now time packet.now.origin packet.now.octets.now)) }
-    {
-        let Origin { place, sender } = packet.origin;
-        let speaker = Speaker { sender, place };
-        if !events.requests || self.lost.contains(&speaker) {
-            return Ok(());
-        }
-        tell_requests(events.limits.via_v6(), speaker, time, packet.octets, told)
     }
 
     /// Tells no more of the sender whose datagram the record left out since it lacks something, if it

@@ -330,12 +330,6 @@ pub(crate) static READ: &[OptionRow] = &[
         ..SRC
     },
     OptionRow {
-        id: "requests",
-        help: "Also report the requests of each sender for routes",
-        commands: &["events"],
-        ..FLAG
-    },
-    OptionRow {
         help: "Reject a capture if any datagram is left out",
         commands: &OF_OCTETS,
         ..STRICT

@@ -1,9 +1,9 @@
 //! Lines of `events`, part by part, appended to a buffer that has room for them.
 ghost use Rattle.std.specs.Prelude.{◌≡◌, ◌+◌, ◌++◌, ◌≤◌, length};
 ghost use Rattle.babel_timeline.specs.Changes.{held_after};
-ghost use Rattle.babel_dump.specs.EventText.{after_text, answer_member, asked_json, event_end};
-ghost use Rattle.babel_dump.specs.EventText.{event_end_json, event_front, event_front_json};
-ghost use Rattle.babel_dump.specs.EventText.{held_from, interface_text, kind_verb, speaker_of};
+ghost use Rattle.babel_dump.specs.EventText.{after_text, asked_json, event_end, event_end_json};
+ghost use Rattle.babel_dump.specs.EventText.{event_front, event_front_json, held_from};
+ghost use Rattle.babel_dump.specs.EventText.{interface_text, key_text, kind_verb, speaker_of};
 ghost use Rattle.babel_dump.specs.EventText.{tells_place, time_of, told_json, told_text, verb};
 ghost use Rattle.babel_dump.specs.Slices.{HasRoom, TookRoom};
 
@@ -11,15 +11,14 @@ use crate::addr_pair::AddrPair;
 use crate::push::{
     push_announcement, push_answer, push_decimal, push_link, push_marked, push_octet, push_text,
 };
-use crate::push_addr::push_addr;
+use crate::push_addr::{push_addr, push_from, push_prefix};
 use crate::push_json::{push_addressed, push_answer_json, push_place_json};
-use crate::push_request::{push_key, push_request, push_request_json};
 use crate::push_time::{push_time_json, push_time_or};
 use crate::speaker::Speaker;
 use crate::spelling::Spelling;
 use babel_capture::{Place, Time};
 use babel_timeline::{ChangeKind, Telling};
-use babel_tlv::{Ann, Held, View};
+use babel_tlv::{Ann, Held, Key, View};
 
 /// Appends a line of text up to the name of the interface.
 pub(crate) fn push_event_front(
@@ -86,16 +85,17 @@ pub(crate) fn push_event_end_json(
     pair: Option<AddrPair>,
     told: &Telling<Speaker>,
 )
-    requires { HasRoom buffer.old 312 }
+    requires { HasRoom buffer.old 265 }
     ensures text { buffer.new.items
         ≡ buffer.old.items ++ event_end_json spelling view pair told.now }
-    ensures room { TookRoom buffer.old buffer.new 312 }
+    ensures room { TookRoom buffer.old buffer.new 265 }
 {
     push_text(buffer, r#","event":""#);
     push_text(buffer, verb(told));
     push_text(buffer, r#"","#);
     push_told_json(buffer, spelling, pair, told);
-    push_answer_member(buffer, spelling, view, told);
+    push_text(buffer, r#","answer":"#);
+    push_answer_json(buffer, spelling, view, held_from(told));
     push_text(buffer, "}");
     push_octet(buffer, b'\n');
 }
@@ -106,7 +106,7 @@ fn time_of(told: &Telling<Speaker>) -> u128
 {
     match told {
         Telling::Change(change) => change.time,
-        Telling::Answer { time, .. } | Telling::Request { time, .. } => *time,
+        Telling::Answer { time, .. } => *time,
     }
 }
 
@@ -116,7 +116,7 @@ pub(crate) fn speaker_of(told: &Telling<Speaker>) -> Speaker
 {
     match told {
         Telling::Change(change) => change.subject.sender,
-        Telling::Answer { sender, .. } | Telling::Request { sender, .. } => *sender,
+        Telling::Answer { sender, .. } => *sender,
     }
 }
 
@@ -127,7 +127,6 @@ fn held_from(told: &Telling<Speaker>) -> Option<Held>
     let answer = match told {
         Telling::Change(change) => held_after(change.kind),
         Telling::Answer { answer, .. } => *answer,
-        Telling::Request { .. } => None,
     };
     Some(Held::Route(answer?))
 }
@@ -150,7 +149,6 @@ fn verb(told: &Telling<Speaker>) -> &'static str
     match told {
         Telling::Change(change) => kind_verb(change.kind),
         Telling::Answer { .. } => "answers",
-        Telling::Request { .. } => "requests",
     }
 }
 
@@ -201,8 +199,18 @@ fn push_told(buffer: &mut Vec<u8>, spelling: Spelling, view: View, told: &Tellin
             push_text(buffer, " ");
             push_answer(buffer, spelling, view, held_from(told));
         }
-        Telling::Request { request, .. } => push_request(buffer, spelling, request),
     }
+}
+
+/// Appends a key.
+fn push_key(buffer: &mut Vec<u8>, spelling: Spelling, key: Key)
+    requires { HasRoom buffer.old 97 }
+    ensures text { buffer.new.items ≡ buffer.old.items ++ key_text spelling key }
+    ensures room { TookRoom buffer.old buffer.new 97 }
+{
+    push_text(buffer, " ");
+    push_prefix(buffer, spelling, key.dst());
+    push_from(buffer, spelling, key.src());
 }
 
 /// Appends what is held after a change, under a view, or nothing where nothing is.
@@ -224,9 +232,9 @@ fn push_told_json(
     pair: Option<AddrPair>,
     told: &Telling<Speaker>,
 )
-    requires { HasRoom buffer.old 163 }
+    requires { HasRoom buffer.old 118 }
     ensures text { buffer.new.items ≡ buffer.old.items ++ told_json spelling pair told.now }
-    ensures room { TookRoom buffer.old buffer.new 163 }
+    ensures room { TookRoom buffer.old buffer.new 118 }
 {
     match told {
         Telling::Change(change) => {
@@ -234,23 +242,6 @@ fn push_told_json(
             push_addressed(buffer, spelling, key.dst(), key.src());
         }
         Telling::Answer { .. } => push_asked(buffer, spelling, pair),
-        Telling::Request { request, .. } => push_request_json(buffer, spelling, request),
-    }
-}
-
-/// Appends what is held after it, or answered from then on: a member of an object. Of a request
-/// nothing.
-fn push_answer_member(buffer: &mut Vec<u8>, spelling: Spelling, view: View, told: &Telling<Speaker>)
-    requires { HasRoom buffer.old 124 }
-    ensures text { buffer.new.items ≡ buffer.old.items ++ answer_member spelling view told.now }
-    ensures room { TookRoom buffer.old buffer.new 124 }
-{
-    match told {
-        Telling::Change(_) | Telling::Answer { .. } => {
-            push_text(buffer, r#","answer":"#);
-            push_answer_json(buffer, spelling, view, held_from(told));
-        }
-        Telling::Request { .. } => {}
     }
 }
 

@@ -8,4 +8,3 @@ pub mod Telling
 pub mod BestAnswers
 pub mod Taking
 pub mod Hearing
-pub mod RequestsTold

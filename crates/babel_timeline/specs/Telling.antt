@@ -71,7 +71,6 @@ module _ {S : Type 0} (cmp : S → S → Ordering) where
   answer_after sender old (tellings.Change told) = old
   answer_after sender old (tellings.Answer time other answer) =
       if is_at (cmp sender) other then answer else old
-  answer_after sender old (tellings.Request time other request) = old
 
   abbrev pub answered : List (Telling S) → S → Option Announcement
   answered told sender = fold (answer_after sender) None told
@@ -87,7 +86,6 @@ module _ {S : Type 0} (cmp : S → S → Ordering) where
   abbrev pub AnswersAnew : List (Telling S) → Telling S → Type 0
   AnswersAnew before (tellings.Change told) = ⊥
   AnswersAnew before (tellings.Answer time sender answer) = answered before sender ≢ answer
-  AnswersAnew before (tellings.Request time sender request) = ⊥
 
   -- the tellings are answers, the last of each sender is what it answers, and none tells the same
   -- again

@@ -23,7 +23,6 @@
 //! - A packet changes its sender's report alone, which counts the TLVs of the packets heard of it
 //!   as that of a dump of these packets does. — `Teller::hear` · *counts* (`CountsPacket`);
 //!   `Teller::report`
-//! - What a packet requests is told, in the order of its TLVs. — `tell_requests`
 #![tactic(auto)]
 
 mod asked;
@@ -34,7 +33,6 @@ mod heard;
 mod interest;
 pub mod laws;
 mod queue;
-mod requests;
 mod row;
 mod sender;
 mod subject;
@@ -43,7 +41,6 @@ mod telling;
 mod timeline;
 
 pub use change::{Change, ChangeKind};
-pub use requests::tell_requests;
 pub use row::Row;
 pub use sender::Sender;
 pub use subject::Subject;

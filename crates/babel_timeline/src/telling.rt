@@ -1,5 +1,5 @@
 use crate::change::Change;
-use babel_tlv::{Ann, Request};
+use babel_tlv::Ann;
 
 /// What is told: a line of its own.
 #[derive(Clone, Copy)]
@@ -14,14 +14,5 @@ pub enum Telling<S> {
         sender: S,
         /// What the best match (RFC 9079, 4) announces now; `None` where there is none.
         answer: Option<Ann>,
-    },
-    /// A sender requests something: RFC 8966, 4.6.10, 4.6.11.
-    Request {
-        /// When, in nanoseconds since the start of 1970.
-        time: u128,
-        /// Who requests it.
-        sender: S,
-        /// What is requested.
-        request: Request,
     },
 }

@@ -21,4 +21,3 @@ pub mod EventKinds
 pub mod Views
 pub mod ViewsTell
 pub mod Reading
-pub mod Requests

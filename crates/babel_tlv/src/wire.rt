@@ -14,10 +14,6 @@ pub(crate) const PAD1: u8 = 0;
 pub(crate) const ROUTER_ID: u8 = 6;
 
 pub(crate) const NEXT_HOP: u8 = 7;
-/// Those of requests: RFC 8966, 4.6.10, 4.6.11.
-pub(crate) const ROUTE_REQUEST: u8 = 9;
-
-pub(crate) const SEQNO_REQUEST: u8 = 10;
 
 /// Address encodings: RFC 8966, 4.1.4.
 pub(crate) const AE_WILDCARD: u8 = 0;
