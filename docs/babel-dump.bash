@@ -98,7 +98,7 @@ _babel_dump_options() {
             --accept-cut --max-routes --max-octets --strict --ignore --routes --body --hex --help \
             ;;
         key) echo --from --interface --since --until --expiry --hold --v4-via-v6 --quiet \
-            --accept-cut --max-routes --max-octets --strict --ignore --routes --help ;;
+            --accept-cut --max-routes --max-octets --strict --ignore --routes --json --help ;;
         pairs) echo --from --interface --since --until --expiry --hold --v4-via-v6 --quiet \
             --accept-cut --max-routes --max-octets --within --match --source --id --strict \
             --ignore --routes --json --short --count --help ;;
@@ -107,7 +107,7 @@ _babel_dump_options() {
             --other-until --strict --ignore --json --short --routes --all --count --help ;;
         diff) echo --from --other-from --interface --other-interface --since --until --expiry \
             --hold --v4-via-v6 --quiet --accept-cut --max-routes --max-octets --other-since \
-            --other-until --strict --ignore --stat --color --short --help ;;
+            --other-until --strict --ignore --stat --color --json --short --help ;;
         senders) echo --since --until --strict --accept-cut --quiet --max-octets --json --short \
             --help ;;
         extract) echo --from --interface --hex --since --until --strict --accept-cut --quiet \

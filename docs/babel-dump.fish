@@ -96,8 +96,12 @@ __babel_dump_option 'compare diff' -l other-interface -x -a '(__babel_dump_place
     -d 'The same for OTHER, if it is a capture'
 __babel_dump_option 'extract' -l hex \
     -d 'Write the octets as lower-case hexadecimal digits on one line'
-__babel_dump_option 'show lookup normalise key pairs compare diff senders extract events' -l since -x \
+__babel_dump_option 'show lookup normalise key pairs compare diff' -l since -x \
     -d 'Skip what a capture has before TIME: a time with an offset, as 2026-11-25T13:30:22Z, seconds since 1970, as @1764077422.5, or seconds since the first record, as +90'
+__babel_dump_option 'senders extract' -l since -x \
+    -d 'Skip what a capture has before TIME: a time with an offset, as 2026-11-25T13:30:22Z, seconds since 1970, as @1764077422.5, or seconds since the first record, as +90'
+__babel_dump_option 'events' -l since -x \
+    -d 'Print what changed at TIME or later, having read what came before: a time with an offset, as 2026-11-25T13:30:22Z, seconds since 1970, as @1764077422.5, or seconds since the first record, as +90'
 __babel_dump_option 'show lookup normalise key pairs compare diff senders extract events' -l until -x \
     -d 'Skip what a capture has after TIME'
 __babel_dump_option 'show lookup normalise key pairs compare diff' -l expiry -x \
@@ -164,7 +168,7 @@ __babel_dump_option 'diff' -l stat \
     -d 'Print a last line: how many routes are gone, new, changed, and alike'
 __babel_dump_option 'diff' -l color -x -a 'auto always never' \
     -d 'When to colour routes'
-__babel_dump_option 'show lookup pairs compare senders' -l json \
+__babel_dump_option 'show lookup key pairs compare diff senders' -l json \
     -d 'Print one JSON object per line'
 __babel_dump_option 'show lookup pairs compare diff senders' -l short \
     -d 'Write addresses as RFC 5952 does, fe80::1, and leave out a source prefix of length 0'

@@ -109,7 +109,7 @@ class Same:
 
 @dataclass(frozen=True)
 class Differ:
-    """Of compare; prefixes are of --all and --routes."""
+    """Of compare, and of diff; addresses are of compare without --all and --routes."""
 
     same: Literal[False]
     destination: Union[Address, Prefix]
@@ -123,6 +123,37 @@ class Differences:
     """Of compare --count."""
 
     differences: int
+
+
+@dataclass(frozen=True)
+class Stat:
+    """Of diff --stat, after what differs."""
+
+    gone: int
+    new: int
+    changed: int
+    alike: int
+
+
+@dataclass(frozen=True)
+class FileKey:
+    """Of key with --from."""
+
+    key: str
+    file: str
+
+
+@dataclass(frozen=True)
+class SenderKey:
+    """Of key without --from."""
+
+    key: str
+    file: str
+    sender: Address
+    interface: int
+    link: Optional[int]
+    vlans: List[int]
+    name: Optional[str]
 
 
 @dataclass(frozen=True)
@@ -161,7 +192,7 @@ class Event:
 
 @dataclass(frozen=True)
 class Note:
-    """Of each command; the sender and its place are those of a note of events."""
+    """Of each command but key; the sender and its place are those of a note of events."""
 
     note: str
     members: Dict[str, Any]
@@ -169,7 +200,8 @@ class Note:
     other: bool
 
 
-KINDS = Row, Looked, Report, Summary, Counts, Same, Differ, Differences, Sender, Event
+KINDS = Row, Looked, Report, Summary, Counts, Same, Differ, Differences, Stat
+KINDS += FileKey, SenderKey, Sender, Event
 
 # What a note has besides.
 NOTES = {

@@ -31,7 +31,7 @@ use std::process::ExitCode;
 mod clock;
 mod timeline;
 
-use clock::{factor_of, seconds_text, Clock, Window};
+use clock::{factor_of, seconds_text, Clock, Moment, Window};
 use timeline::{Table, Timeline, View};
 
 const USUAL_OCTETS: u64 = 1 << 30;
@@ -459,6 +459,9 @@ impl Reader {
                 });
             };
             let start = *self.start.get_or_insert(time);
+            if let Sink::Timeline(told) = &mut self.found.sink {
+                told.begin(start);
+            }
             if !window.has(start, time) {
                 return Ok(());
             }
@@ -1235,18 +1238,23 @@ impl Words {
         sender.ok_or_else(|| Failure::Usage("no --from".to_string()))
     }
 
-    /// The records that are read, where a time is asked for.
-    fn window(&self) -> Result<Option<Window>, Failure> {
-        let moment = |option: &str| match self.options.get(option) {
-            None => Ok(None),
-            Some(word) => match clock::moment_of(word) {
-                Some(moment) => Ok(Some(moment)),
-                None => Err(Failure::Usage(format!("not a time: {word}"))),
-            },
+    fn moment(&self, option: &str) -> Result<Option<Moment>, Failure> {
+        let Some(word) = self.options.get(option) else {
+            return Ok(None);
         };
-        let (since, until) = (moment("since")?, moment("until")?);
+        match clock::moment_of(word) {
+            Some(moment) => Ok(Some(moment)),
+            None => Err(Failure::Usage(format!("not a time: {word}"))),
+        }
+    }
+
+    /// The records that are read, where a time is asked for; of `events` from the first on.
+    fn window(&self) -> Result<Option<Window>, Failure> {
+        let (since, until) = (self.moment("since")?, self.moment("until")?);
+        if self.command == "events" {
+            return Ok(Some(Window { since: None, until }));
+        }
         let is_asked = since.is_some() || until.is_some() || self.options.contains_key("expiry");
-        let is_asked = is_asked || self.command == "events";
         Ok(is_asked.then_some(Window { since, until }))
     }
 
@@ -1478,6 +1486,7 @@ fn events(words: &Words) -> Result<u8, Failure> {
         words.has("v4-via-v6"),
         words.has("json"),
         words.max_routes()?,
+        words.moment("since")?,
     );
     let mut reader = words.reader(words.wanted()?, u64::MAX, Sink::Timeline(told))?;
     let read = words.read_into(&mut reader);

@@ -34,6 +34,7 @@ impl Clock {
 }
 
 /// A moment: by itself, or from the capture's first record.
+#[derive(Clone, Copy)]
 pub struct Moment {
     nanoseconds: i128,
     from_start: bool,

@@ -22,7 +22,7 @@ import itertools
 import pathlib
 import re
 import sys
-from dataclasses import dataclass
+from dataclasses import dataclass, replace
 
 sys.path.append(str(pathlib.Path(__file__).resolve().parent.parent / "tests"))
 import capture_reader as reader  # noqa: E402
@@ -350,10 +350,24 @@ class Timeline:
     def __init__(self, factor, ignored, pair, most):
         self.factor, self.ignored, self.pair, self.most = factor, ignored, pair, most
         self.rows, self.events, self.answers, self.lost = {}, [], {}, {}
+        # From when on it is told, and what was answered before that, until it has come.
+        self.since, self.early = None, {}
 
     def add(self, event):
-        if event.origin not in self.lost:
+        if self.since is not None and event.time < self.since:
+            if event.what == "answers" and self.early is not None:
+                self.early[event.origin] = event
+        elif event.origin not in self.lost:
             self.events.append(event)
+
+    def open(self, moment):
+        """Once it has come, what was answered just before it."""
+        if self.since is None or self.early is None or moment < self.since:
+            return
+        early = [self.early[origin] for origin in sorted(self.early, key=by_sender)]
+        kept = [each for each in early if each.held and each.origin not in self.lost]
+        self.events = [replace(each, time=self.since) for each in kept] + self.events
+        self.early = None
 
     def tell(self, time, origin, what, key, route=None):
         if not self.pair:
@@ -435,11 +449,19 @@ def sender_of(origin):
     return (None, ipaddress.IPv4Address, ipaddress.IPv6Address)[origin[1] // 2 - 1](origin[2])
 
 
+class FromFirst(reader.Window):
+    """The records of some time, also those before the one moment."""
+
+    def has(self, start, time):
+        return self.until is None or time <= self.until.at(start)
+
+
 def window_of(options):
     """The records that are read, where a time is asked for."""
     window = reader.window_of(options.since, options.until)
-    asks = options.expiry is not None or options.command == "events"
-    return reader.Window() if window is None and asks else window
+    if options.command == "events":
+        return FromFirst(*((window.since, window.until) if window else ()))
+    return reader.Window() if window is None and options.expiry is not None else window
 
 
 def end_of(found, window):
@@ -512,6 +534,8 @@ def events(octets, options):
     pair = options.to and list(map(ipaddress.ip_address, pair_of(options)))
     factor = options.expiry and factor_of(options.expiry)
     told = Timeline(factor, (options.ignore or "").split(","), pair, options.max_routes)
+    if window.since and found.records:
+        told.since = window.since.at(found.start)
     try:
         play(found, told, options)
         if fault:
@@ -520,6 +544,7 @@ def events(octets, options):
             raise Fault(f"no packets from {str_of(ipaddress.ip_address(options.sender))}")
         if found.records:
             told.expire(end_of(found, window))
+            told.open(end_of(found, window))
     except Fault as cause:
         return Answer(3, lines_of(told, found, options), (*told.lost.values(), str(cause)))
     status, none = (0, ()) if found.packets else (1, ("no Babel packets",))
@@ -548,10 +573,12 @@ def play(found, told, options):
                     if word:
                         told.take(time, origin, at, word)
             except Fault as fault:
+                told.open(time)
                 if options.sender or options.follows_all:
                     raise
                 raise Fault(f"{sender_text(origin, found.names)}: {fault}") from fault
             before[origin] = start + len(packet)
+        told.open(time)
         if place in missed:
             origin, number, reason, _ = missed[place]
             note = f"{sender_text(origin, found.names)}: datagram left out at packet {number}: "

@@ -9,8 +9,10 @@ use std::collections::{BTreeMap, HashMap};
 use std::hash::Hash;
 use std::io::{self, Write};
 
-use crate::clock;
-use crate::{place_json, place_text, u16_at, Addr, Failure, Fault, Origin, Seed, INFINITY, UPDATE};
+use crate::clock::{self, Moment};
+use crate::{
+    place_json, place_text, u16_at, Addr, Failure, Fault, Origin, Place, Seed, INFINITY, UPDATE,
+};
 
 const ROUTER_ID: u8 = 6;
 const NEXT_HOP: u8 = 7;
@@ -961,6 +963,8 @@ struct Sender {
     /// The rows of the pair that is asked for, by their lengths; and the answer that was told.
     matching: BTreeMap<(u8, u8), u32>,
     told: Option<Seen>,
+    /// The answer just before the moment from which on it is told, until it has come.
+    early: Option<Seen>,
 }
 
 /// The rows of all senders, and when each expires; what is told of them.
@@ -978,6 +982,10 @@ pub struct Timeline {
     current: usize,
     heap: Vec<(i128, u32)>,
     out: Out,
+    /// The moment from which on it is told, and when that is.
+    since: Option<Moment>,
+    from: i128,
+    has_come: bool,
 }
 
 impl Timeline {
@@ -988,6 +996,7 @@ impl Timeline {
         via_v6: bool,
         json: bool,
         most: usize,
+        since: Option<Moment>,
     ) -> Timeline {
         Timeline {
             factor,
@@ -1003,6 +1012,16 @@ impl Timeline {
             current: 0,
             heap: Vec::new(),
             out: Out::new(),
+            since,
+            from: i128::MIN,
+            has_come: since.is_none(),
+        }
+    }
+
+    /// A moment counts from the first record of the capture, which came then.
+    pub fn begin(&mut self, start: i128) {
+        if let Some(since) = self.since.take() {
+            self.from = since.at(start);
         }
     }
 
@@ -1047,6 +1066,7 @@ impl Timeline {
                     next: NONE,
                     matching: BTreeMap::new(),
                     told: None,
+                    early: None,
                 });
             }
             self.current = number as usize;
@@ -1261,8 +1281,33 @@ impl Timeline {
         }
     }
 
-    /// Tells all that has expired at this moment.
+    /// Tells all that has expired at this moment; once that comes from which on it is told, the
+    /// answers just before it, too.
     pub fn expire(&mut self, moment: i128) {
+        if !self.has_come && self.from <= moment {
+            self.expire_all(self.from - 1);
+            self.has_come = true;
+            self.tell_early();
+        }
+        self.expire_all(moment);
+    }
+
+    fn tell_early(&mut self) {
+        let mut early: Vec<u32> = (0..self.senders.len() as u32).collect();
+        early.sort_unstable_by_key(|sender| self.origin_of(*sender));
+        for sender in early {
+            if let Some(seen) = self.senders[sender as usize].early {
+                self.put_answer(self.from, sender, Some(seen));
+            }
+        }
+    }
+
+    fn origin_of(&self, sender: u32) -> (Addr, Place) {
+        let origin = self.senders[sender as usize].origin;
+        (origin.sender, origin.place)
+    }
+
+    fn expire_all(&mut self, moment: i128) {
         let mut expired: Vec<u32> = Vec::new();
         while let Some(&(time, number)) = self.heap.first() {
             if time > moment {
@@ -1303,14 +1348,10 @@ impl Timeline {
     }
 
     fn tell_expired(&mut self, time: i128, expired: &mut Vec<u32>) {
-        let origin_of = |sender: u32| {
-            let origin = self.senders[sender as usize].origin;
-            (origin.sender, origin.place)
-        };
         if expired.len() > 1 {
             expired.sort_unstable_by_key(|number| {
                 let sender = self.rows.list[*number as usize].key.sender;
-                (self.rows.order(*number), origin_of(sender))
+                (self.rows.order(*number), self.origin_of(sender))
             });
         }
         let mut senders: Vec<u32> = Vec::new();
@@ -1320,7 +1361,7 @@ impl Timeline {
                     .iter()
                     .map(|number| self.rows.list[*number as usize].key.sender),
             );
-            senders.sort_unstable_by_key(|sender| origin_of(*sender));
+            senders.sort_unstable_by_key(|sender| self.origin_of(*sender));
             senders.dedup();
         }
         for number in expired.drain(..) {
@@ -1344,7 +1385,7 @@ impl Timeline {
     }
 
     fn tell(&mut self, time: i128, number: u32, what: &str) {
-        if self.pair.is_some() {
+        if self.pair.is_some() || time < self.from {
             return;
         }
         let row = self.rows.list[number as usize];
@@ -1379,7 +1420,9 @@ impl Timeline {
 
     /// Tells the answer for the pair, if it is another one than before.
     fn tell_answer(&mut self, time: i128, sender: u32) {
-        let Some((to, src)) = self.pair else { return };
+        if self.pair.is_none() {
+            return;
+        }
         let best = self.senders[sender as usize].matching.last_key_value();
         let seen = best.map(|(_, number)| {
             let row = &self.rows.list[*number as usize];
@@ -1390,6 +1433,15 @@ impl Timeline {
             return;
         }
         self.senders[sender as usize].told = seen;
+        if time >= self.from {
+            self.put_answer(time, sender, seen);
+        } else if !self.has_come {
+            self.senders[sender as usize].early = seen;
+        }
+    }
+
+    fn put_answer(&mut self, time: i128, sender: u32, seen: Option<Seen>) {
+        let Some((to, src)) = self.pair else { return };
         self.begin_line(time, sender, "answers");
         if self.json {
             self.out.put(b"\",\"destination\":\"");

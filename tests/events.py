@@ -50,7 +50,7 @@ UPDATES = 60
 START = bytes.fromhex("060a0000 0200000000000001 07060100 c0000201")
 WILDCARD = bytes.fromhex("080a0000 0000 0064 0001 ffff")
 CHANGES = {"announces": False, "changes": True, "retracts": True, "expires": True}
-OPTIONS = [], ["--v4-via-v6"], ["--ignore", "seqno,metric"], ["--since", "+6.5"]
+OPTIONS = [], ["--v4-via-v6"], ["--ignore", "seqno,metric"]
 
 
 def run(program, words, capture):
@@ -202,13 +202,20 @@ def rows_text(rows):
     return [f"{key} {what}" for key, what in rows.items()]
 
 
+def is_in_order(found, moment):
+    """Whether each record before a moment comes before those of then and later."""
+    early = [time < moment for _, time in found.records]
+    return early == sorted(early, reverse=True)
+
+
 def named(origin):
     sender, place = origin
     return ["--from", sender, "--interface", reader.place_asked(place)]
 
 
-def check_answers(program, words, capture, origin, times, pair, moments):
-    """The answer at each moment is the last that the events up to then tell."""
+def check_answers(program, words, capture, origin, times, pair, moments, opening):
+    """The answer at each moment is the last that the events up to then tell; from some of them on
+    it is told, too."""
     asked = [*words, *named(origin), "--to", pair[0], "--src", pair[1]]
     events, problem = events_of(program, asked, capture)
     if problem:
@@ -226,6 +233,7 @@ def check_answers(program, words, capture, origin, times, pair, moments):
         wanted = at(states, reader.time_text(moment), "none")
         if lines != [wanted]:
             yield f"lookup {' '.join(asked)} until {moment}: {lines} {errors} in place of {wanted}"
+    yield from check_since(program, asked, capture, events, opening)
 
 
 def check_until(program, words, capture, events, moments):
@@ -239,12 +247,26 @@ def check_until(program, words, capture, events, moments):
             yield f"events {' '.join(asked)}: {problem} {given} in place of {wanted}"
 
 
+def check_since(program, words, capture, events, moments):
+    """From a moment on there are the events of then and later, and before them the answer of one
+    sender just before it."""
+    for moment in moments:
+        asked, since = [*words, "--since", time_word(moment)], reader.time_text(moment)
+        given, problem = events_of(program, asked, capture)
+        given.sort(key=lambda event: event["time"])
+        early = [event for event in events if event["time"] < since and event["event"] == "answers"]
+        wanted = [{**event, "time": since} for event in early[-1:] if event["answer"]]
+        wanted += [event for event in events if event["time"] >= since]
+        if problem or given != wanted:
+            yield f"events {' '.join(asked)}: {problem} {given} in place of {wanted}"
+
+
 def problems_of(program, capture, factor, options, most, pool):
     """What is wrong with the events of a capture; nothing where it is left out."""
     rng = random.Random(SEED)
     words = options + ([] if factor is None else ["--expiry", factor])
     octets = capture.read_bytes()
-    window = reader.window_of(options[1] if "--since" in options else None, None) or reader.Window()
+    window = reader.Window()
     found = find(octets, window)
     origins = dict(origins_of(found))
     if not found.records or any(sorted(times) != times for times in origins.values()):
@@ -255,7 +277,8 @@ def problems_of(program, capture, factor, options, most, pool):
     if is_early(found, events):
         return None
     events.sort(key=lambda event: event["time"])
-    jobs = [check_until(program, words, capture, events, moments_of(found, events, rng, most // 4))]
+    few = moments_of(found, events, rng, most // 4)
+    jobs = [check(program, words, capture, events, few) for check in (check_until, check_since)]
     for origin, times in origins.items():
         if is_refused(octets, window, origin):
             continue
@@ -266,7 +289,8 @@ def problems_of(program, capture, factor, options, most, pool):
         for key in rng.sample(keys, min(PAIRS, len(keys))) if "--ignore" not in words else []:
             pair = [prefix.split("/")[0] for prefix in key]
             some = times_asked[:: max(len(times_asked) // 10, 1)]
-            jobs.append(check_answers(program, words, capture, origin, times, pair, some))
+            told = [moment for moment in some if is_in_order(found, moment)]
+            jobs.append(check_answers(program, words, capture, origin, times, pair, some, told))
     return sum(pool.map(list, jobs), [])
 
 

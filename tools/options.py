@@ -86,10 +86,10 @@ def value(tokens, constants):
     return token
 
 
-def table(name):
-    """The rows of a file of the source: those of its lists, which are its statics."""
+def table(name, constants):
+    """The rows of a file of the source: those of its lists, which are its statics. Its constants
+    are added to those that it may name."""
     text = (SOURCE / f"{name}.rt").read_text()
-    constants = {}
     for found in CONSTANT.finditer(text):
         tokens = TOKEN.findall(text, found.end())
         constants[found[1]] = [token for token in tokens if not token.startswith("//")]
@@ -113,8 +113,9 @@ class Row:
         return re.split(r"; | \[", self.help)[0]
 
 
-COMMANDS = {each["name"]: each["about"] for each in table("commands")}
-ROWS = [Row(each) for each in table("options")]
+CONSTANTS = {}
+COMMANDS = {each["name"]: each["about"] for each in table("commands", CONSTANTS)}
+ROWS = [Row(each) for each in table("options", CONSTANTS)]
 OPTIONS = [row for row in ROWS if not row.is_argument]
 # The options, each once; of these, that no word follows.
 NAMES = list(dict.fromkeys(f"--{row.id}" for row in OPTIONS))

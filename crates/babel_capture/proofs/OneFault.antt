@@ -10,12 +10,12 @@ use Rattle.babel_capture.specs.declared.tallies.Origin.{Origin}
 use Rattle.babel_capture.specs.declared.wanted.Wanted.{Wanted}
 use Rattle.babel_capture.specs.Blocks.{AreBlocks, BeginsBlock, BlockAt, IsBlock, IsPartial, Sighting, context_behind, header_of, octets_of, sight_in, sightings_behind, sightings_in, sightings_of}
 use Rattle.babel_capture.specs.Blocks.{start}
-use Rattle.babel_capture.specs.Capture.{CaptureFault, EndsShort, IsShortBy}
+use Rattle.babel_capture.specs.Capture.{CaptureFault, EndsShort, IsReadToCut, IsShortBy}
 use Rattle.babel_capture.specs.Contents.{Content, block_said, context_after, describes, file, holds, nothing, section, skips}
 use Rattle.babel_capture.specs.Context.{Before}
 use Rattle.babel_capture.specs.Counts.{Made}
 use Rattle.babel_capture.specs.Findings.{Found, found, left, passed, refused, untold}
-use Rattle.babel_capture.specs.Gathering.{AreMade, AreTaken, IsRefused, IsTaken, RefusesFound}
+use Rattle.babel_capture.specs.Gathering.{AreMade, AreTaken, Gathering, IsRefused, IsTaken, RefusesFound}
 use Rattle.babel_capture.specs.Lengths.{block_len, header_len}
 use Rattle.babel_capture.specs.OneFault.{CutIsTheFault, FaultIsOne, ReadHasNoFault}
 use Rattle.babel_capture.specs.Reading.{BlockFails, HeaderFails, Stops, StopsAt}
@@ -421,20 +421,25 @@ fault_is_one limit wanted octets one other (inr short) (inr short_too) =
     short_one (context_behind (start limit) short.blocks) (length (octets_of short.blocks)) short.rest one other short.short
     (short_here limit wanted octets (ends_of limit wanted octets one short) other short_too)
 
+abbrev read_ends : (limit : Extent) (octets : List ℕ) (gathering : Gathering) (cut : Option ℕ) → IsReadToCut limit octets gathering cut → Ends limit gathering.wanted octets
+read_ends limit octets gathering cut is = record {
+  blocks = is.is_read.blocks;
+  rest = is.rest;
+  made = is.is_read.gathered.made;
+  whole = is.whole ∙ ap (λ (t : List ℕ). t ++ is.rest) is.is_read.whole;
+  are_blocks = is.is_read.are_blocks;
+  taken = is.is_read.gathered.taken;
+  partial = subst (λ (n : ℕ). IsPartial (context_behind (start limit) is.is_read.blocks) n is.rest) (ap length is.is_read.whole) is.partial;
+}
+
+-- what is a capture up to a cut is not refused before
+pub none_stops_to_cut : (limit : Extent) (octets : List ℕ) (gathering : Gathering) (cut : Option ℕ) (fault : Fault) → IsReadToCut limit octets gathering cut
+    → Stops limit gathering.wanted octets fault → ⊥
+none_stops_to_cut limit octets gathering cut fault is = none_stops limit gathering.wanted octets fault (read_ends limit octets gathering cut is)
+
 pub cut_is_the_fault : CutIsTheFault
 cut_is_the_fault limit octets gathering cut is fault = by
   where
-    ends : Ends limit gathering.wanted octets
-    ends = record {
-      blocks = is.is_read.blocks;
-      rest = is.rest;
-      made = is.is_read.gathered.made;
-      whole = is.whole ∙ ap (λ (t : List ℕ). t ++ is.rest) is.is_read.whole;
-      are_blocks = is.is_read.are_blocks;
-      taken = is.is_read.gathered.taken;
-      partial = subst (λ (n : ℕ). IsPartial (context_behind (start limit) is.is_read.blocks) n is.rest) (ap length is.is_read.whole) is.partial;
-    }
-
     place : IsShortBy (context_behind (start limit) is.is_read.blocks) (length (octets_of is.is_read.blocks)) is.rest fault
         → ((is.rest ≡ []) × (cut ≡ None)) ⊎ ((is.rest ≢ []) × (cut ≡ Some (length is.read))) → (at : ℕ) × (cut ≡ Some at) × (fault ≡ faults.CutShort at)
     place (inl (not, told)) where_cut = absurd (not is.is_read.started)
@@ -442,8 +447,8 @@ cut_is_the_fault limit octets gathering cut is fault = by
     place (inr (started, some, told)) (inr (some_too, at)) = (length is.read, at, told ∙ ap (λ (t : List ℕ). faults.CutShort (length t)) (sym is.is_read.whole))
 
     by : CaptureFault limit gathering.wanted octets fault → (at : ℕ) × (cut ≡ Some at) × (fault ≡ faults.CutShort at)
-    by (inl stops) = absurd (none_stops limit gathering.wanted octets fault ends stops)
-    by (inr short) = place (short_here limit gathering.wanted octets ends fault short) is.where_cut
+    by (inl stops) = absurd (none_stops_to_cut limit octets gathering cut fault is stops)
+    by (inr short) = place (short_here limit gathering.wanted octets (read_ends limit octets gathering cut is) fault short) is.where_cut
 
 pub read_has_no_fault : ReadHasNoFault
 read_has_no_fault limit octets gathering is fault failed =

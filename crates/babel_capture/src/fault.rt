@@ -1,8 +1,9 @@
 use std::alloc::AllocError;
+use std::fmt;
 use thiserror::Error;
 
 /// Why a capture is refused. Offsets `at` count octets from the capture's first octet.
-#[derive(Clone, Copy, Debug, PartialEq, Eq, Error)]
+#[derive(Clone, Copy, PartialEq, Eq, Error)]
 pub enum Fault {
     /// The octets are no capture: their magic number is none of pcap or pcapng, or they end within
     /// their first block.
@@ -60,6 +61,12 @@ pub enum Fault {
     /// An allocation was refused, or the octets of one sender are 2^64 or more.
     #[error("out of memory")]
     Memory,
+}
+
+impl fmt::Debug for Fault {
+    fn fmt<W: fmt::Write>(&self, out: &mut fmt::Formatter<W>) -> fmt::Result {
+        fmt::Display::fmt(self, out)
+    }
 }
 
 impl From<AllocError> for Fault {

@@ -77,7 +77,7 @@ none_left : (read : Read) (fault : InputFault) → LeavesNoneOut read.gathering.
 none_left read fault none (datagram, is, first) = let never : None ≡ Some datagram = sym (none_is_first_left_out read.gathering.report none) ∙ first in absurd cc
 
 pub capture_one : (reading : CaptureReading) (wanted : Wanted) (octets : List ℕ) → IsOne (CaptureComes reading wanted octets)
-capture_one reading wanted octets = then_one (always_one _ (read_one reading wanted octets)) (λ read. checked_one read reading.strict (none_left read) (left_one read))
+capture_one reading wanted octets = then_one (always_one (read_one reading wanted octets)) (λ read. checked_one read reading.strict (none_left read) (left_one read))
 
 -- what a reader gave of it
 abbrev pub read_of : {reader : CaptureInput} {gathering : Gathering} {cut : Option ℕ} → GaveCapture reader gathering cut → Read

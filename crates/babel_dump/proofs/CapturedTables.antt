@@ -1,28 +1,34 @@
 -- What is read of a capture for the dump of a sender in it.
-use Rattle.std.proofs.Common.{◌≡◌, ◌≢◌, refl, sym, ap, subst, ◌∙◌, ℕ, Bool, true, false, if◌then◌else◌, List, [], append-nil, Option, None, Some, IfSome, inl, inr}
+use Rattle.std.proofs.Common.{◌≡◌, ◌≢◌, arith, refl, sym, ap, subst, ◌∙◌, ℕ, Bool, true, false, if◌then◌else◌, List, [], append-nil, length, Option, None, Some, IfSome, inl, inr}
 use Rattle.std.specs.Prelude.{◌⊎◌, Result, Ok, Err, OnOk}
 use Rattle.std.specs.Option.{is_some}
 use Rattle.std.specs.Result.{IsErrAnd, IsOkAnd}
 use Rattle.babel_capture.specs.Blocks.{context_behind, sightings_of, start}
-use Rattle.babel_capture.specs.Capture.{HasRead, IsReadToCut, State, moment_read}
+use Rattle.babel_capture.specs.Capture.{EndsShort, HasRead, IsReadToCut, State, moment_read}
 use Rattle.babel_capture.specs.Context.{Before}
 use Rattle.babel_capture.specs.Counts.{Made}
-use Rattle.babel_capture.specs.Reading.{HasTaken}
+use Rattle.babel_capture.specs.Gathering.{Gathering}
+use Rattle.babel_capture.specs.Reading.{HasTaken, Stops}
+use Rattle.babel_capture.specs.Tallies.{Senders, senders_of}
 use Rattle.babel_capture.specs.Window.{Extent}
+use Rattle.babel_capture.specs.declared.fault.Fault.{Fault as CaptureFault}
+use Rattle.babel_capture.specs.declared.fault.Fault.TheVariants as capture_faults
 use Rattle.babel_capture.specs.declared.wanted.Wanted.{Wanted}
+use Rattle.babel_capture.proofs.OneFault.{cut_is_the_fault, none_stops_to_cut}
+use Rattle.babel_capture.proofs.StreamLaws.{stops-more}
 use Rattle.babel_tlv.specs.declared.fault.Fault.{Fault}
 use Rattle.babel_tlv.specs.declared.fault.Fault.TheVariants as faults
 use Rattle.babel_table.specs.DumpFault.{DumpFault}
 use Rattle.babel_table.specs.Feeding.{HasHeard, HasReadTo}
 use Rattle.babel_table.specs.Moments.{dump_of}
-use Rattle.babel_dump.specs.CaptureGiven.{CaptureInput, GaveCapture, IsFedWhole, Took, TookSome, capture_from, extent_of, made_in, moment_in}
+use Rattle.babel_dump.specs.CaptureGiven.{CaptureInput, GaveCapture, IsAccepted, IsFaultOfCapture, IsFedWhole, Took, TookSome, capture_from, extent_of, made_in, moment_in}
 use Rattle.babel_dump.specs.CaptureRun.{FeedCause}
-use Rattle.babel_dump.specs.Fed.{AreNotes, AreWhole, EndsRefused, EndsWith, FeedsOn, IsEnded, IsFed, IsFedSo}
-use Rattle.babel_dump.specs.Given.{Input, IsFaultOfGiven, IsFaultOfInput, capture_reading_of, capture_with, expired, wanted_by}
+use Rattle.babel_dump.specs.Fed.{AreNotes, AreWhole, EndsRefused, EndsWith, FeedsOn, IsEnded, IsFed, IsFedSo, IsToldAfter}
+use Rattle.babel_dump.specs.Given.{Input, IsAtOnePlace, IsFaultOfGiven, IsFaultOfInput, capture_reading_of, capture_with, expired, wanted_by}
 use Rattle.babel_dump.specs.LeftOut.{first_left_out}
 use Rattle.babel_dump.specs.Packets.{packets_made}
 use Rattle.babel_dump.specs.Parts.{Gathered}
-use Rattle.babel_dump.specs.Run.{Called, InputCause, calls_of, capture_calls, stream_calls}
+use Rattle.babel_dump.specs.Run.{Called, InputCause, calls_of, capture_calls, input_status, stream_calls}
 use Rattle.babel_dump.specs.declared.capture_reading.CaptureReading.{CaptureReading}
 use Rattle.babel_dump.specs.declared.capture_notes.CaptureNotes.{CaptureNotes}
 use Rattle.babel_dump.specs.declared.input.Fed.{Fed}
@@ -31,6 +37,7 @@ use Rattle.babel_dump.specs.declared.input_fault.InputFault.TheVariants as input
 use Rattle.babel_dump.specs.declared.packet_feeder.PacketFeeder.{PacketFeeder}
 use Rattle.babel_dump.proofs.CaptureFeeding.{IsReadFrom}
 use Rattle.babel_dump.proofs.CaptureReads.{given_fault, moment_by}
+use Rattle.babel_dump.proofs.CaptureSteps.{all_of, begins}
 use Rattle.babel_dump.proofs.FedTables.{captured_fault}
 use Rattle.babel_dump.proofs.WholePackets.{whole_made}
 use Rattle.babel_dump.proofs.FollowLaws.{same_made}
@@ -57,6 +64,10 @@ pub record HasTakenAll (reader : Input) (packets : PacketFeeder) (made : List Ma
   pub sender : packets.feeder.sender ≡ reader.reading.sender
   pub factor : IfSome reader.reading.expiry (λ factor. packets.feeder.factor ≡ factor)
 
+-- all that the reader had is no capture, or one in which the sender is at one place
+abbrev pub IsAtOne : Input → Type 0
+IsAtOne reader = (octets : List ℕ) → reader.old.left ≡ Some octets → IsAtOnePlace reader.reading octets
+
 module _ (reader : Input) (first now : PacketFeeder) (for : IsFor reader first) where
   heard_made : (made : List Made) → Took FeedsOn first now made → AreWhole (packets_made made) → HasTakenAll reader now made
   heard_made made took whole =
@@ -71,8 +82,8 @@ module _ (reader : Input) (first now : PacketFeeder) (for : IsFor reader first) 
 
   -- it has a fault
   pub dump_fault : TookSome FeedsOn first now (capture_with reader) → reader.reading.is_capture ≡ true → (fault : Fault) → now.feeder.fault ≡ Some fault → fault ≢ faults.Memory
-      → IsFaultOfGiven reader fault
-  dump_fault some capture fault is not_memory =
+      → IsAtOne reader → IsFaultOfGiven reader fault
+  dump_fault some capture fault is not_memory at_one =
       let all = heard_made some.made some.took (whole_made (wanted_by reader.reading) (sightings_of some.begins.blocks) some.made some.begins.are_made) in
       let fed = dump_of (packets_made some.made) in
       let failed = subst (λ (f : Option Fault). HasReadTo now.feeder f fed) is all.heard.read in
@@ -81,7 +92,7 @@ module _ (reader : Input) (first now : PacketFeeder) (for : IsFor reader first) 
         | inr (lasting, is_fault) ↦ subst (λ (octets : List ℕ). DumpFault now.feeder.limits now.feeder.mode now.feeder.sender octets fault) (append-nil fed) (is_fault [])
       ] in
       let told : DumpFault reader.reading.limits reader.reading.mode reader.reading.sender fed fault = rw (← all.limits, ← all.mode, ← all.sender) refused in
-      subst (λ (k : Bool). IsFaultOfInput k reader fault) (sym capture) (captured_fault reader some.given some.made fault some.gave some.begins told)
+      subst (λ (k : Bool). IsFaultOfInput k reader fault) (sym capture) (captured_fault reader some.given some.made fault some.gave some.begins told at_one)
 
 -- ---- why there is no dump
 
@@ -95,6 +106,37 @@ refused_cause reader Refuses capture input_faults.NoUpdates cause = absurd cause
 refused_cause reader Refuses capture (input_faults.SeveralInterfaces interfaces) cause = absurd cause
 refused_cause reader Refuses capture (input_faults.NoPackets absence) cause = absurd cause
 refused_cause reader Refuses capture input_faults.Read cause = cause
+
+-- a capture that is refused is none that can be read
+not_too_soon : (accept_cut : Bool) (cut : Option ℕ) (fault : CaptureFault) (at : ℕ) → IsAccepted accept_cut cut → (accept_cut ≡ true → fault ≡ capture_faults.NotCapture)
+    → cut ≡ Some at → fault ≡ capture_faults.CutShort at → ⊥
+not_too_soon false cut fault at accepted soon is short = absurd (let never : None ≡ Some at = sym (accepted refl) ∙ is in cc)
+not_too_soon true cut fault at accepted soon is short = absurd (let never : capture_faults.NotCapture ≡ capture_faults.CutShort at = sym (soon refl) ∙ short in cc)
+
+not_read : (reader : Input) (fault : CaptureFault) → IsFaultOfCapture (capture_with reader) fault → (octets : List ℕ) → reader.old.left ≡ Some octets
+    → (gathering : Gathering) (cut : Option ℕ) → IsReadToCut (extent_of (capture_reading_of reader.reading)) octets gathering cut → gathering.wanted ≡ wanted_by reader.reading
+    → IsAccepted reader.reading.accept_cut cut → ⊥
+not_read reader fault is octets has gathering cut read wanted accepted =
+    let extent : Extent = extent_of (capture_reading_of reader.reading) in
+    elim is.refused [
+      | inl stops ↦
+          let more = begins reader.old.left reader.new.left octets is.given has is.gave in
+          let all : Stops extent (wanted_by reader.reading) octets fault = rw more.1 (stops-more extent (wanted_by reader.reading) is.given more.0 fault stops) in
+          none_stops_to_cut extent octets gathering cut fault read (subst (λ (w : Wanted). Stops extent w octets fault) (sym wanted) all)
+      | inr soon ↦
+          let whole = all_of reader.old.left reader.new.left octets is.given has soon.all.gave soon.all.all in
+          let short : EndsShort extent gathering.wanted octets fault =
+          subst (λ (w : Wanted). EndsShort extent w octets fault) (sym wanted) (subst (λ (o : List ℕ). EndsShort extent (wanted_by reader.reading) o fault) whole soon.short) in
+          let at = cut_is_the_fault extent octets gathering cut read fault (inr short) in
+          not_too_soon reader.reading.accept_cut cut fault at.0 accepted soon.not_accepted at.1 at.2
+    ]
+
+refused_at_one : (reader : Input) (refusal : InputFault) → FeedCause (capture_with reader) refusal → input_status refusal ≡ 3 → IsAtOne reader
+refused_at_one reader (input_faults.Capture fault) cause status = λ octets has gathering cut read wanted accepted.
+    absurd (not_read reader fault (cause (λ memory. let never : 5 ≡ 3 = subst (λ (f : CaptureFault). input_status (input_faults.Capture f) ≡ 3) memory status in omega arith))
+    octets has gathering cut read wanted accepted)
+refused_at_one reader input_faults.Read cause status = absurd (let never : 4 ≡ 3 = status in omega arith)
+refused_at_one reader refusal cause status = absurd cause
 
 -- what was read of it
 module _ (reader : Input) (first now : PacketFeeder) (f : State) (from : IsReadFrom f (capture_reading_of reader.reading) (wanted_by reader.reading))
@@ -127,6 +169,7 @@ module _ (reader : Input) (first now : PacketFeeder) (f : State) (from : IsReadF
           gathering = f.progress.gathering;
           cut = there.cut;
           gave = record { given = gave there.cut there.ended; strict = there.strict };
+          one_wanted = refl;
           several = there.not_one.0;
           are = there.not_one.1;
         },
@@ -223,12 +266,25 @@ module _ (reader : Input) (first now : PacketFeeder) (f : State) where
       → Gathered {T = Fed} (calls_of reader) (InputCause reader (IsFaultOfGiven reader)) (IsFed reader) (Err fault)
   answered_err fed fault is cause = record { made = tt; cause = cause; called = called_so fed (Err fault) is tt }
 
+  -- a fault of the packets is told only of a sender at one place
+  told_at_one : (fed : Result (Unit {0}) InputFault) → FedFrom reader first now f fed → IsToldAfter fed f → IsAtOne reader
+  told_at_one (Ok done) is told = λ octets has gathering cut read wanted accepted.
+      let all = is.gathered.made in
+      let whole = all_of reader.old.left reader.new.left octets all.given has all.gave.gave all.gave.all in
+      let again : IsReadToCut f.limit all.given gathering cut =
+      subst (λ (e : Extent). IsReadToCut e all.given gathering cut) (sym is.from.limit)
+      (subst (λ (o : List ℕ). IsReadToCut (extent_of (capture_reading_of reader.reading)) o gathering cut) (sym whole) read) in
+      let same = same_made f.limit all.given f.progress f.pending gathering cut (wanted ∙ sym is.from.wanted) all.taken again in
+      ap (λ (s : Senders). length s) (again.is_read.gathered.senders ∙ ap senders_of same.1 ∙ sym all.taken.leads.gathered.senders) ∙ told all.given all.fed
+  told_at_one (Err refusal) is told = refused_at_one reader refusal is.gathered.cause told
+
   -- the packets have a fault, or the capture is refused
   why_refused : (fed : Result (Unit {0}) InputFault) (fault : Fault) (result : InputFault) → FedFrom reader first now f fed → now.feeder.fault ≡ Some fault
-      → (result ≡ input_faults.Dump fault) ⊎ (IsErrAnd fed (λ refusal. result ≡ refusal))
+      → ((result ≡ input_faults.Dump fault) × (fault ≢ faults.Memory → IsToldAfter fed f)) ⊎ (IsErrAnd fed (λ refusal. result ≡ refusal))
       ⊎ (IsOkAnd fed (λ _. (octets : List ℕ) → HasRead f octets → EndsRefused reader.reading f octets result)) → InputCause reader (IsFaultOfGiven reader) result
-  why_refused fed fault result is kept (inl dump) =
-      subst (InputCause reader (IsFaultOfGiven reader)) (sym dump) (λ not_memory. dump_fault reader first now is.for is.some is.capture fault kept not_memory)
+  why_refused fed fault result is kept (inl (dump, told)) =
+      subst (InputCause reader (IsFaultOfGiven reader)) (sym dump)
+      (λ not_memory. dump_fault reader first now is.for is.some is.capture fault kept not_memory (told_at_one fed is (told not_memory)))
   why_refused (Err refusal) fault result is kept (inr (inl same)) =
       subst (InputCause reader (IsFaultOfGiven reader)) (sym same) (refused_cause reader (IsFaultOfGiven reader) is.capture refusal is.gathered.cause)
   why_refused (Ok done) fault result is kept (inr (inl none)) = absurd none
@@ -237,7 +293,7 @@ module _ (reader : Input) (first now : PacketFeeder) (f : State) where
   why_refused (Err refusal) fault result is kept (inr (inr none)) = absurd none
 
   pub refused : (fed : Result (Unit {0}) InputFault) (fault : Fault) (result : InputFault) → FedFrom reader first now f fed → now.feeder.fault ≡ Some fault
-      → (result ≡ input_faults.Dump fault) ⊎ (IsErrAnd fed (λ refusal. result ≡ refusal))
+      → ((result ≡ input_faults.Dump fault) × (fault ≢ faults.Memory → IsToldAfter fed f)) ⊎ (IsErrAnd fed (λ refusal. result ≡ refusal))
       ⊎ (IsOkAnd fed (λ _. (octets : List ℕ) → HasRead f octets → EndsRefused reader.reading f octets result))
       → Gathered {T = Fed} (calls_of reader) (InputCause reader (IsFaultOfGiven reader)) (IsFed reader) (Err result)
   refused fed fault result is kept why = answered_err fed result is (why_refused fed fault result is kept why)

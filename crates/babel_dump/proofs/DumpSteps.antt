@@ -1,4 +1,4 @@
--- What comes of the octets of a dump, or of a capture that has it, and of a text of pairs: one thing, or alike faults.
+-- What comes of the octets of a dump, or of a capture that has it, and of a text of pairs: one thing, or one fault.
 use Rattle.std.proofs.Common.{◌≡◌, ◌≢◌, ◌≤◌, ◌<◌, ◌⊎◌, refl, ℕ, Bool, true, false, List, ◌++◌, length, length-append, append_assoc, Option, None, Some, Result, Ok, Err}
 use Rattle.std.proofs.Common.{arith, ap, sym, ◌∙◌, inl, inr, subst}
 use Rattle.babel_capture.specs.Blocks.{IsPartial, context_behind, octets_of, sightings_of, start}
@@ -8,17 +8,17 @@ use Rattle.babel_dump.proofs.AskedLaws.{first_wrong_one, not_wrong}
 use Rattle.babel_dump.proofs.CaptureBegins.{dump_made, either_begins, whole_begins}
 use Rattle.babel_dump.proofs.CaptureSteps.{all_of, begins, is_read_of, IsReadOf, Read, read_of, read_one}
 use Rattle.babel_dump.proofs.OneMoment.{table_at_is_one}
-use Rattle.babel_dump.proofs.Steps.{Checked, checked_one, IsAlike, IsOne, Then, then_one}
+use Rattle.babel_dump.proofs.Steps.{Checked, checked_one, IsOne, Then, then_one}
 use Rattle.babel_dump.proofs.StrictLaws.{not_whole_one, whole_or_not}
 use Rattle.babel_dump.specs.AskedPairs.{AskFor, IsFirstWrong, lines_of}
-use Rattle.babel_dump.specs.CaptureGiven.{BeginsWith, extent_of}
+use Rattle.babel_dump.specs.CaptureGiven.{BeginsWith, extent_of, IsAccepted}
 use Rattle.babel_dump.specs.Command.{IsFaultWith, IsOfMemory}
 use Rattle.babel_dump.specs.Each.{GavePairsOf, RefusesPairs}
 use Rattle.babel_dump.specs.Given.{capture_reading_of, capture_with, Dump, expired, GaveAll, GaveDump, GaveTable, GaveUnread, Input, IsDump, IsFaultInCapture, IsFaultOfGiven, IsFaultOfInput}
 use Rattle.babel_dump.specs.Given.{IsOfWhole, IsTableRead, wanted_by}
 use Rattle.babel_dump.specs.LeftOut.{first_left_out}
 use Rattle.babel_dump.specs.Octets.{HasTable}
-use Rattle.babel_dump.specs.OneOutcome.{IsFaultOfOctets, IsNotAtOnePlace, IsOfDump, IsOfOctets}
+use Rattle.babel_dump.specs.OneOutcome.{IsFaultOfOctets, IsOfDump, IsOfOctets}
 use Rattle.babel_dump.specs.Packets.{packets_made}
 use Rattle.babel_dump.specs.Run.{InputCause}
 use Rattle.babel_dump.specs.Strict.{IsNotReadWhole, IsReadWhole}
@@ -107,6 +107,7 @@ pub record IsSourceIn (reading : Reading) (octets : List ℕ) (source : Source) 
 pub record IsLeftOutOf (reading : Reading) (octets : List ℕ) (datagram : LeftOutDatagram) : Type 0 where
   pub read : Read
   pub is_read : IsReadOf (capture_reading_of reading) (wanted_by reading) octets read
+  pub accepted : IsAccepted reading.accept_cut read.cut
   pub not_one : length read.gathering.senders ≢ 1
   pub first : first_left_out read.gathering.report ≡ Some datagram
 
@@ -116,14 +117,6 @@ SourceComes true reading octets (Ok source) = IsSourceIn reading octets source
 SourceComes is_capture reading octets (Err (input_faults.Dump fault)) = IsFaultOfOctets is_capture reading octets fault
 SourceComes true reading octets (Err (input_faults.LeftOut datagram)) = IsLeftOutOf reading octets datagram
 SourceComes is_capture reading octets (Err fault) = ⊥
-
--- two faults are one, or that of the dump and that a datagram was left out
-abbrev pub Differ : Reading → List ℕ → InputFault → InputFault → Type 0
-Differ reading octets (input_faults.Dump fault) (input_faults.LeftOut datagram) = IsNotAtOnePlace reading octets
-Differ reading octets fault too = ⊥
-
-abbrev pub Alike : Reading → List ℕ → InputFault → InputFault → Type 0
-Alike reading octets fault too = (fault ≡ too) ⊎ (Differ reading octets fault too ⊎ Differ reading octets too fault)
 
 one_source : (one two : Source) → one.left_out ≡ two.left_out → one.table ≡ two.table → one ≡ two
 one_source one two left_out table =
@@ -147,57 +140,43 @@ source_same true reading octets one two is is_too =
 source_fault : (is_capture : Bool) (reading : Reading) (octets : List ℕ) (source : Source) (fault : InputFault) → SourceComes is_capture reading octets (Ok source)
     → SourceComes is_capture reading octets (Err fault) → ⊥
 source_fault false reading octets source (input_faults.Dump fault) is has = is.0.accepted fault has
-source_fault true reading octets source (input_faults.Dump fault) is has = no_fault_in reading octets is.read is.is_read is.accepted fault has
+source_fault true reading octets source (input_faults.Dump fault) is has = no_fault_in reading octets is.read is.is_read is.accepted fault has.0
 source_fault true reading octets source (input_faults.LeftOut datagram) is left =
     left.not_one (ap (λ (r : Read). length r.gathering.senders) (read_one _ _ octets left.read is.read left.is_read is.is_read) ∙ is.one_place)
 source_fault is_capture reading octets source fault is never = never
 
-not_at_one : (reading : Reading) (octets : List ℕ) (datagram : LeftOutDatagram) → reading.is_capture ≡ true → IsLeftOutOf reading octets datagram → IsNotAtOnePlace reading octets
-not_at_one reading octets datagram is_capture left = record {
-  is_capture = is_capture;
-  gathering = left.read.gathering;
-  cut = left.read.cut;
-  is_read = left.is_read.is_read;
-  wanted_is = left.is_read.wanted_is;
-  not_one = left.not_one;
-}
+-- a fault of the dump is none of a sender who is not at one place
+not_both : (reading : Reading) (octets : List ℕ) (fault : Fault) (datagram : LeftOutDatagram) → IsFaultOfOctets true reading octets fault → IsLeftOutOf reading octets datagram → ⊥
+not_both reading octets fault datagram has left = left.not_one (has.1 left.read.gathering left.read.cut left.is_read.is_read left.is_read.wanted_is left.accepted)
 
-dump_alike : (is_capture : Bool) (reading : Reading) (octets : List ℕ) (own : Fault) (too : InputFault) → reading.is_capture ≡ is_capture → IsFaultOfOctets is_capture reading octets own
-    → SourceComes is_capture reading octets (Err too) → Alike reading octets (input_faults.Dump own) too
-dump_alike false reading octets own (input_faults.Dump fault) is_so has has_too = inl (ap (λ (f : Fault). input_faults.Dump f) (fault_is_one _ _ _ octets own fault has has_too))
-dump_alike true reading octets own (input_faults.Dump fault) is_so has has_too = inl (ap (λ (f : Fault). input_faults.Dump f) (fault_in_one reading octets own fault has has_too))
-dump_alike true reading octets own (input_faults.LeftOut datagram) is_so has left = inr (inl (not_at_one reading octets datagram is_so left))
-dump_alike is_capture reading octets own too is_so has never = absurd never
-
-left_alike : (reading : Reading) (octets : List ℕ) (datagram : LeftOutDatagram) (too : InputFault) → reading.is_capture ≡ true → IsLeftOutOf reading octets datagram
-    → SourceComes true reading octets (Err too) → Alike reading octets (input_faults.LeftOut datagram) too
-left_alike reading octets datagram (input_faults.Dump fault) is_so left has = inr (inr (not_at_one reading octets datagram is_so left))
-left_alike reading octets datagram (input_faults.LeftOut other) is_so left left_too =
+faults_one : (is_capture : Bool) (reading : Reading) (octets : List ℕ) (fault too : InputFault) → SourceComes is_capture reading octets (Err fault)
+    → SourceComes is_capture reading octets (Err too) → fault ≡ too
+faults_one false reading octets (input_faults.Dump own) (input_faults.Dump fault) has has_too = ap (λ (f : Fault). input_faults.Dump f) (fault_is_one _ _ _ octets own fault has has_too)
+faults_one true reading octets (input_faults.Dump own) (input_faults.Dump fault) has has_too = ap (λ (f : Fault). input_faults.Dump f) (fault_in_one reading octets own fault has.0 has_too.0)
+faults_one true reading octets (input_faults.Dump own) (input_faults.LeftOut datagram) has left = absurd (not_both reading octets own datagram has left)
+faults_one true reading octets (input_faults.LeftOut datagram) (input_faults.Dump own) left has = absurd (not_both reading octets own datagram has left)
+faults_one true reading octets (input_faults.LeftOut datagram) (input_faults.LeftOut other) left left_too =
     let same : Some datagram ≡ Some other =
     sym left.first ∙ ap (λ (r : Read). first_left_out r.gathering.report) (read_one _ _ octets left.read left_too.read left.is_read left_too.is_read) ∙ left_too.first in
-    inl (cc)
-left_alike reading octets datagram too is_so left never = absurd never
+    cc
+faults_one is_capture reading octets (input_faults.Dump own) too has never = absurd never
+faults_one true reading octets (input_faults.LeftOut datagram) too left never = absurd never
+faults_one is_capture reading octets fault too never comes = absurd never
 
-faults_alike : (is_capture : Bool) (reading : Reading) (octets : List ℕ) (fault too : InputFault) → reading.is_capture ≡ is_capture → SourceComes is_capture reading octets (Err fault)
-    → SourceComes is_capture reading octets (Err too) → Alike reading octets fault too
-faults_alike is_capture reading octets (input_faults.Dump own) too is_so has comes = dump_alike is_capture reading octets own too is_so has comes
-faults_alike true reading octets (input_faults.LeftOut datagram) too is_so left comes = left_alike reading octets datagram too is_so left comes
-faults_alike is_capture reading octets fault too is_so never comes = absurd never
-
-source_one : (is_capture : Bool) (reading : Reading) (octets : List ℕ) → reading.is_capture ≡ is_capture → IsAlike (Alike reading octets) (SourceComes is_capture reading octets)
-source_one is_capture reading octets is_so (Ok one) (Ok two) is is_too = source_same is_capture reading octets one two is is_too
-source_one is_capture reading octets is_so (Ok one) (Err fault) is comes = source_fault is_capture reading octets one fault is comes
-source_one is_capture reading octets is_so (Err fault) (Ok two) comes is = source_fault is_capture reading octets two fault is comes
-source_one is_capture reading octets is_so (Err fault) (Err too) comes comes_too = faults_alike is_capture reading octets fault too is_so comes comes_too
+source_one : (is_capture : Bool) (reading : Reading) (octets : List ℕ) → IsOne (SourceComes is_capture reading octets)
+source_one is_capture reading octets (Ok one) (Ok two) is is_too = source_same is_capture reading octets one two is is_too
+source_one is_capture reading octets (Ok one) (Err fault) is comes = source_fault is_capture reading octets one fault is comes
+source_one is_capture reading octets (Err fault) (Ok two) comes is = source_fault is_capture reading octets two fault is comes
+source_one is_capture reading octets (Err fault) (Err too) comes comes_too = faults_one is_capture reading octets fault too comes comes_too
 
 -- and of one that is read strictly nothing was left unread
 abbrev pub DumpComes : Reading → List ℕ → Result Routes InputFault → Type 0
 DumpComes reading octets = Then (SourceComes reading.is_capture reading octets)
     (λ source. Checked source.table reading.strict (IsReadWhole source.left_out source.table.report) (IsNotReadWhole source.left_out source.table.report))
 
-pub dump_one : (reading : Reading) (octets : List ℕ) → IsAlike (Alike reading octets) (DumpComes reading octets)
-dump_one reading octets = then_one (source_one reading.is_capture reading octets refl) (λ source. checked_one source.table reading.strict (whole_or_not source.left_out source.table.report)
-    (λ fault too is is_too. inl (not_whole_one source.left_out source.table.report fault too is is_too)))
+pub dump_one : (reading : Reading) (octets : List ℕ) → IsOne (DumpComes reading octets)
+dump_one reading octets = then_one (source_one reading.is_capture reading octets) (λ source. checked_one source.table reading.strict (whole_or_not source.left_out source.table.report)
+    (not_whole_one source.left_out source.table.report))
 
 -- ---- what a reader gave as a dump
 
@@ -237,19 +216,21 @@ module _ (reader : Input) (octets : List ℕ) (has : reader.old.left ≡ Some oc
   ]
   fault_of_all true fault is =
       let more = begins reader.old.left reader.new.left octets is.given has is.gave in
-      let own = is.is_fault in
-      record {
-        made = own.made;
-        begins = record {
-          blocks = own.begins.blocks;
-          rest = own.begins.rest ++ more.0;
-          whole = more.1 ∙ ap (λ (front : List ℕ). front ++ more.0) own.begins.whole ∙ append_assoc (octets_of own.begins.blocks) own.begins.rest more.0;
-          are_blocks = own.begins.are_blocks;
-          are_made = own.begins.are_made;
-        };
-        refused = own.refused;
-        not_whole = own.not_whole;
-      }
+      let own = is.is_fault in (
+        record {
+          made = own.made;
+          begins = record {
+            blocks = own.begins.blocks;
+            rest = own.begins.rest ++ more.0;
+            whole = more.1 ∙ ap (λ (front : List ℕ). front ++ more.0) own.begins.whole ∙ append_assoc (octets_of own.begins.blocks) own.begins.rest more.0;
+            are_blocks = own.begins.are_blocks;
+            are_made = own.begins.are_made;
+          };
+          refused = own.refused;
+          not_whole = own.not_whole;
+        },
+        is.at_one octets has,
+      )
 
   -- it comes of the octets
   comes_itself : (fault : InputFault) → SourceComes reader.reading.is_capture reader.reading octets (Err fault) → DumpComes reader.reading octets (Err fault)
@@ -272,7 +253,7 @@ module _ (reader : Input) (octets : List ℕ) (has : reader.old.left ≡ Some oc
   own_cause Cause (input_faults.LeftOut datagram) is (inl unread) = inl (unread_comes (input_faults.LeftOut datagram) unread)
   own_cause Cause (input_faults.LeftOut datagram) is (inr (is_capture, (gave, not_one))) =
       inl (left_comes datagram is_capture
-      (record { read = read_of gave.given; is_read = is_read_of (capture_with reader) octets gave.gathering gave.cut has gave.given; not_one = not_one; first = gave.first }))
+      (record { read = read_of gave.given; is_read = is_read_of (capture_with reader) octets gave.gathering gave.cut has gave.given; accepted = gave.given.accepted; not_one = not_one; first = gave.first }))
   own_cause Cause input_faults.NoUpdates is (inl unread) = inl (unread_comes input_faults.NoUpdates unread)
   own_cause Cause input_faults.NoUpdates is (inr (is_capture, never)) = absurd never
   own_cause Cause (input_faults.SeveralInterfaces interfaces) is cause = absurd is

@@ -29,6 +29,13 @@ pub under : {T E : Type 0} (A B : Type 0) (r : Result T E) → (A → OnOk r B) 
 under A B (Ok t) f = f
 under A B (Err e) f = tt
 
+pub both_ok : {T E : Type 0} (P Q : Type 0) (r : Result T E) → OnOk r P → OnOk r Q → OnOk r (P × Q)
+both_ok P Q (Ok t) p q = (p, q)
+both_ok P Q (Err e) p q = tt
+
+pub same_rows : (P : Rows Speaker → Type 0) (old new : Teller Speaker) → new ≡ old → P old.timeline.rows → P new.timeline.rows
+same_rows P old new same p = subst (λ (t : Teller Speaker). P t.timeline.rows) (sym same) p
+
 pub suits_still : (old new : Teller Speaker) (events : Events) → (new.timeline.factor ≡ old.timeline.factor) × (new.interest ≡ old.interest) → Suits events old → Suits events new
 suits_still old new events same suits = record {
   factor = same.0 ∙ suits.factor;

@@ -42,8 +42,8 @@ not_pairs fault framing is = subst IsOfFraming is framing
 not_framing : (is_capture : Bool) (reading : Reading) (octets : List ℕ) (fault : Fault) → ArePackets octets → IsFaultOfOctets is_capture reading octets fault → ¬ IsOfFraming fault
 not_framing false reading octets fault are has = dump_framed reading.limits reading.mode reading.sender octets are fault has
 not_framing true reading octets fault are has =
-    let whole = whole_made (wanted_by reading) (sightings_of has.begins.blocks) has.made has.begins.are_made in
-    dump_framed reading.limits reading.mode reading.sender (dump_of (packets_made has.made)) (whole_dump (packets_made has.made) whole) fault has.refused
+    let whole = whole_made (wanted_by reading) (sightings_of has.0.begins.blocks) has.0.made has.0.begins.are_made in
+    dump_framed reading.limits reading.mode reading.sender (dump_of (packets_made has.0.made)) (whole_dump (packets_made has.0.made) whole) fault has.0.refused
 
 pub extracted_is_framed : ExtractedIsFramed
 extracted_is_framed job side octets other before after fault done ran framing =

@@ -1,7 +1,8 @@
 -- What a feeder holds of what was read has the table, or the fault, of that.
 use Rattle.std.specs.Prelude.{if◌then◌else◌, Result, Ok, Err, OnOk}
-use Rattle.std.proofs.Common.{◌≡◌, ◌≢◌, refl, sym, ap, subst, ◌∙◌, ℕ, Bool, true, false, List, ◌++◌, Option, None, Some, IfSome}
+use Rattle.std.proofs.Common.{◌≡◌, ◌≢◌, refl, sym, ap, subst, ◌∙◌, ℕ, Bool, true, false, List, ◌++◌, length, Option, None, Some, IfSome}
 use Rattle.babel_prefix.specs.Address.{Address}
+use Rattle.babel_capture.proofs.OneCapture.{cut_capture_is_one}
 use Rattle.babel_capture.specs.Blocks.{sightings_of}
 use Rattle.babel_capture.specs.Counts.{Made}
 use Rattle.babel_dump.specs.Packets.{packets_made}
@@ -17,11 +18,11 @@ use Rattle.babel_table.specs.Moments.{IsTableAt, dump_of}
 use Rattle.babel_table.specs.Rows.{Routes}
 use Rattle.babel_table.specs.TableOf.{IsTableOf}
 use Rattle.babel_table.specs.declared.answer.Answer.{Answer}
-use Rattle.babel_dump.specs.CaptureGiven.{BeginsWith, CaptureInput, GaveCapture, made_in, moment_in}
+use Rattle.babel_dump.specs.CaptureGiven.{BeginsWith, CaptureInput, GaveCapture, extent_of, made_in, moment_in}
 use Rattle.babel_dump.specs.Device.{Gave}
 use Rattle.babel_dump.specs.ExtractLaws.{IsOfFraming}
 use Rattle.babel_dump.specs.Fed.{IsFed, IsFedSo}
-use Rattle.babel_dump.specs.Given.{Dump, GaveDump, GaveTable, Input, IsDump, IsFaultOfCaptured, IsFaultOfGiven, IsFaultOfInput, IsFaultOfStream, IsOfWhole, IsTableRead, capture_reading_of, capture_with, expired, wanted_by}
+use Rattle.babel_dump.specs.Given.{Dump, GaveDump, GaveTable, Input, IsAtOnePlace, IsDump, IsFaultOfCaptured, IsFaultOfGiven, IsFaultOfInput, IsFaultOfStream, IsOfWhole, IsTableRead, capture_reading_of, capture_with, expired, wanted_by}
 use Rattle.babel_dump.specs.Parts.{Gathered, GaveAnswer, IsFedAll}
 use Rattle.babel_dump.specs.Run.{Called, InputCause, calls_of, capture_calls, stream_calls}
 use Rattle.babel_dump.specs.Strict.{IsNotReadWhole, IsReadWhole}
@@ -31,6 +32,7 @@ use Rattle.babel_dump.specs.declared.input_fault.InputFault.{InputFault}
 use Rattle.babel_dump.specs.declared.left_out.LeftOutDatagram.{LeftOutDatagram}
 use Rattle.babel_dump.specs.declared.reading.Reading.{Reading}
 use Rattle.babel_dump.proofs.WholePackets.{dump_framed, whole_dump, whole_made}
+use Rattle.babel_dump.proofs.CaptureSteps.{is_read_of}
 use Rattle.babel_dump.proofs.Feeders.{not_pairs}
 use Rattle.babel_dump.proofs.StrictLaws.{unread_cause}
 
@@ -172,8 +174,9 @@ framing_of faults.Memory whole not_pairs = absurd whole
 -- that of packets which are whole
 pub captured_fault : (reader : Input) (given : List ℕ) (made : List Made) (fault : Fault) → Gave reader.old reader.new given
     → BeginsWith (capture_reading_of reader.reading) (wanted_by reader.reading) given made
-    → DumpFault reader.reading.limits reader.reading.mode reader.reading.sender (dump_of (packets_made made)) fault → IsFaultOfCaptured reader fault
-captured_fault reader given made fault gave begins is_fault =
+    → DumpFault reader.reading.limits reader.reading.mode reader.reading.sender (dump_of (packets_made made)) fault
+    → ((octets : List ℕ) → reader.old.left ≡ Some octets → IsAtOnePlace reader.reading octets) → IsFaultOfCaptured reader fault
+captured_fault reader given made fault gave begins is_fault at_one =
     let packets = packets_made made in
     let whole = whole_made (wanted_by reader.reading) (sightings_of begins.blocks) made begins.are_made in
     record {
@@ -186,7 +189,16 @@ captured_fault reader given made fault gave begins is_fault =
         not_whole = λ of_whole. dump_framed reader.reading.limits reader.reading.mode reader.reading.sender (dump_of packets) (whole_dump packets whole) fault is_fault
             (framing_of fault of_whole (not_pairs reader (dump_of packets) fault is_fault));
       };
+      at_one = at_one;
     }
+
+-- a capture that has the dump has no other reading
+at_one_in : (reader : Input) (gathering : Gathering) (cut : Option ℕ) → GaveCapture (capture_with reader) gathering cut → length gathering.senders ≡ 1
+    → (octets : List ℕ) → reader.old.left ≡ Some octets → IsAtOnePlace reader.reading octets
+at_one_in reader gathering cut gave one octets has again cut_too is wanted accepted =
+    let same = cut_capture_is_one (extent_of (capture_reading_of reader.reading)) octets again gathering cut_too cut is (is_read_of (capture_with reader) octets gathering cut has gave).is_read
+    (wanted ∙ sym gave.wanted) in
+    ap (λ (g : Gathering). length g.senders) same.0 ∙ one
 
 begins_with : (reader : CaptureInput) (gathering : Gathering) (cut : Option ℕ) (gave : GaveCapture reader gathering cut) → BeginsWith reader.reading reader.wanted gave.octets (made_in gave)
 begins_with reader gathering cut gave =
@@ -205,6 +217,7 @@ fault_so reader fed fault false is is_fault =
     record { given = is.octets; gave = is.gave.gave; refused = is_fault; whole = λ _. is.gave; not_pairs = not_pairs reader is.octets fault is_fault }
 fault_so reader fed fault true is is_fault =
     captured_fault reader is.gave.octets (made_in is.gave) fault is.gave.gave.gave (begins_with (capture_with reader) is.gathering is.cut is.gave) is_fault
+    (at_one_in reader is.gathering is.cut is.gave is.one_place)
 
 so_limited : (fed : Fed) (reading : Reading) (octets : List ℕ) (fault : Fault) → fed.feeder.limits ≡ reading.limits → fed.feeder.mode ≡ reading.mode → fed.feeder.sender ≡ reading.sender
     → DumpFault fed.feeder.limits fed.feeder.mode fed.feeder.sender octets fault → DumpFault reading.limits reading.mode reading.sender octets fault

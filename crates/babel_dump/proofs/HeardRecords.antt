@@ -19,6 +19,7 @@ use Rattle.std.proofs.lemmas.List.Folds.{list_any-append}
 use Rattle.babel_prefix.proofs.Insertion.{equal_of, lookup-insert}
 use Rattle.babel_capture.specs.declared.missed.Missed.{Missed}
 use Rattle.babel_capture.specs.declared.tallies.Origin.{Origin}
+use Rattle.babel_capture.specs.declared.window.Moment.{Moment}
 use Rattle.babel_capture.specs.Counts.{Made}
 use Rattle.babel_capture.specs.Findings.{missed_in}
 use Rattle.babel_capture.specs.Findings.{octets_found, origin_found}
@@ -34,14 +35,16 @@ use Rattle.babel_timeline.specs.declared.teller.Teller.{Teller}
 use Rattle.babel_timeline.specs.declared.telling.Telling.{Telling}
 use Rattle.babel_timeline.specs.Telling.{TellsEnds}
 use Rattle.babel_dump.specs.EventText.{speaker_of}
-use Rattle.babel_dump.specs.EventsRun.{AreTlvsOf, HaveTold, HaveToldSo, Step, asked_by, is_heard, is_lost, is_of, made_in, packets_heard, speaker_at, told_in, unlost, written_in}
-use Rattle.babel_dump.specs.Followed.{HasHeard, HearsPacket, HearsRecord, IsHeardOf, Suits, unlost_by}
+use Rattle.babel_dump.specs.EventsRun.{AreTlvsOf, HaveTold, HaveToldSo, OpensRightly, Step, asked_by, first_time, have_come, is_heard, is_lost, is_of, made_in, packets_heard, since_in, speaker_at, told_from, told_in, unlost, written_in}
+use Rattle.babel_dump.specs.Followed.{HasHeard, HearsPacket, HearsRecord, IsHeardOf, Suits, TellsFrom, TellsNext, unlost_by}
 use Rattle.babel_dump.specs.Speakers.{speaker_cmp, speaker_exact}
 use Rattle.babel_dump.specs.declared.events_job.Events.{Events}
 use Rattle.babel_dump.specs.declared.hearing.Hearing.{Hearing}
 use Rattle.babel_dump.specs.declared.speaker.Speaker.{Speaker}
 use Rattle.babel_dump.proofs.EventsFollowed.{suits_still}
 use Rattle.babel_dump.proofs.EventsRuns.{Tellings, told_of_no_packet, told_of_none, told_of_packet, told_untimed}
+use Rattle.babel_dump.specs.declared.since.Since.{Since}
+use Rattle.babel_dump.proofs.SinceLaws.{AwaitsAfter, awaits_begun, awaits_none, awaits_on, quiet_more}
 use Rattle.babel_dump.proofs.SpeakerLaws.{speaker_total}
 
 abbrev start_by : Events → Speaker → Start
@@ -201,8 +204,8 @@ module _ (events : Events) where
 
   -- nothing was heard
   pub has_heard_none : (hearing : Hearing) → Suits events hearing.teller → hearing.teller.timeline.rows ≡ [] → hearing.lost.keys ≡ [] → hearing.teller.heard.entries ≡ []
-      → HasHeard events [] [] hearing
-  has_heard_none hearing suits rows lost heard =
+      → hearing.since.moment ≡ None → hearing.since.has_come ≡ false → hearing.since.answers.entries ≡ [] → HasHeard events [] [] hearing
+  has_heard_none hearing suits rows lost heard moment come answers =
       let have : HaveTold events None [] [] hearing.teller.timeline.rows = subst (HaveTold events None [] []) (sym rows) (told_of_none events) in
       record {
         suits = suits;
@@ -211,6 +214,9 @@ module _ (events : Events) where
         each = λ front back split. told_so front [] (no_front front back split) (hearing.teller.timeline.rows, have);
         have_told = have;
         written_is = refl;
+        opens = λ front back step split. absurd (no_step front step back split);
+        awaits = awaits_none events.since hearing.since moment come answers;
+        quiet = λ none. refl;
         lost = λ speaker. ap (list_any (is_at (speaker_cmp speaker))) lost;
         heard = none_heard hearing.teller.heard.entries heard;
       }
@@ -219,36 +225,53 @@ module _ (events : Events) where
       no_front [] back split = refl
       no_front (step ∷ front) back split = absurd (let bad : [] ≡ step ∷ (front ++ back) = split in cc)
 
-  written_more : (before : List Made) (steps : List Step) (step : Step) → written_in before (steps ++ step ∷ []) ≡ written_in before steps ++ unlost (before ++ made_in steps) step.told
-  written_more before [] step = append-nil (unlost before step.told) ∙ ap (λ (m : List Made). unlost m step.told) (sym (append-nil before))
-  written_more before (first ∷ steps) step =
-      ap (λ (t : Tellings). unlost before first.told ++ t) (written_more (before ++ first.made ∷ []) steps step
-      ∙ ap (λ (m : List Made). written_in (before ++ first.made ∷ []) steps ++ unlost m step.told) (append_assoc before (first.made ∷ []) (made_in steps)))
-      ∙ sym (append_assoc (unlost before first.told) (written_in (before ++ first.made ∷ []) steps) (unlost (before ++ made_in (first ∷ steps)) step.told))
+      no_step : (front : List Step) (step : Step) (back : List Step) → [] ≡ front ++ step ∷ back → ⊥
+      no_step [] step back split = let bad : [] ≡ step ∷ back = split in cc
+      no_step (first ∷ front) step back split = let bad : [] ≡ first ∷ (front ++ step ∷ back) = split in cc
+
+  written_more : (since : Option Moment) (before : List Made) (steps : List Step) (step : Step) → written_in since before (steps ++ step ∷ [])
+      ≡ written_in since before steps ++ unlost (before ++ made_in steps) (step.opening ++ told_from (since_in since ((before ++ made_in steps) ++ step.made ∷ [])) step.told)
+  written_more since before [] step =
+      let here : List Made → Tellings = λ made. unlost made (step.opening ++ told_from (since_in since (made ++ step.made ∷ [])) step.told) in
+      append-nil (here before) ∙ ap here (sym (append-nil before))
+  written_more since before (first ∷ steps) step =
+      let here : List Made → Tellings = λ made. unlost made (step.opening ++ told_from (since_in since (made ++ step.made ∷ [])) step.told) in
+      let made = before ++ first.made ∷ [] in
+      let one : Tellings = unlost before (first.opening ++ told_from (since_in since made) first.told) in
+      ap (λ (t : Tellings). one ++ t) (written_more since made steps step
+      ∙ ap (λ (m : List Made). written_in since made steps ++ here m) (append_assoc before (first.made ∷ []) (made_in steps)))
+      ∙ sym (append_assoc one (written_in since made steps) (here (before ++ made_in (first ∷ steps))))
 
   pub unlost_is : (made : List Made) (written : Tellings) (old : Hearing) (was : HasHeard events made written old) (told : Tellings) → unlost_by old.lost told ≡ unlost (made_in was.steps) told
   unlost_is made written old was told = ap (λ (p : Speaker → Bool). filter (λ t. not (p (speaker_of t))) told) (fun_ext was.lost)
 
   module _ (made : List Made) (written : Tellings) (one : Made) (old new : Hearing) (was : HasHeard events made written old) where
     -- a record more was heard
-    pub has_heard_more : (told : Tellings) → HearsRecord events one old.teller new.teller told
+    pub has_heard_more : (told : Tellings) → HearsRecord events one old.teller new.teller told → (time_of one.came ≡ None → told ≡ []) → (printed : Tellings)
+        → (let since = since_in events.since (made_in was.steps ++ one ∷ []) in TellsFrom since (have_come since (made_in was.steps)) (time_of one.came) (told_in was.steps) told new.since printed)
         → ((speaker : Speaker) → contains speaker_cmp new.lost speaker
         ≡ contains speaker_cmp old.lost speaker || is_of speaker (option_map (λ (m : Missed). m.origin) (missed_in one.what)))
-        → HasHeard events (made ++ one ∷ []) (written ++ unlost_by old.lost told) new
-    has_heard_more told hears lost = record {
+        → HasHeard events (made ++ one ∷ []) (written ++ unlost_by old.lost printed) new
+    has_heard_more told hears untimed printed from lost = record {
       suits = hears.suits;
       steps = steps;
       are_made = made_is ∙ ap (λ (m : List Made). m ++ one ∷ []) was.are_made;
       each = each;
       have_told = have;
-      written_is = ap (λ (t : Tellings). t ++ unlost_by old.lost told) was.written_is ∙ ap (λ (t : Tellings). written_in [] was.steps ++ t) (unlost_is made written old was told)
-          ∙ sym (written_more [] was.steps step);
+      written_is = ap (λ (t : Tellings). t ++ unlost_by old.lost printed) was.written_is
+          ∙ ap (λ (t : Tellings). written_in events.since [] was.steps ++ t) (unlost_is made written old was printed ∙ ap (unlost (made_in was.steps)) from.told_is)
+          ∙ sym (written_more events.since [] was.steps step);
+      opens = opens;
+      awaits = subst (λ (m : List Made). AwaitsAfter events.since m (told_in steps) new.since) (sym made_is)
+          (subst (λ (t : Tellings). AwaitsAfter events.since (made_in was.steps ++ one ∷ []) t new.since) (sym told_is)
+          (awaits_on (since_in events.since (made_in was.steps ++ one ∷ [])) (made_in was.steps) one (told_in was.steps ++ told) new.since from.awaits));
+      quiet = λ none. told_is ∙ quiet_more (made_in was.steps) one (told_in was.steps) told was.quiet untimed (ap first_time (sym made_is) ∙ none);
       lost = λ speaker. lost speaker ∙ ap (λ (b : Bool). b || missed speaker) (was.lost speaker) ∙ sym (lost_here speaker) ∙ ap (λ (m : List Made). is_lost m speaker) (sym made_is);
       heard = λ speaker. subst (λ (m : List Made). IsHeardOf events m new.teller.heard.entries speaker) (sym made_is) (hears.heard (made_in was.steps) speaker (was.heard speaker));
     }
       where
         step : Step
-        step = record { made = one; told = told }
+        step = record { made = one; told = told; opening = from.opening }
 
         steps : List Step
         steps = was.steps ++ step ∷ []
@@ -271,6 +294,13 @@ module _ (events : Events) where
             by : ((front ≡ was.steps) × (here ≡ step)) ⊎ IsInner was.steps step front here later → HaveToldSo events front
             by (inl (all, last)) = told_so front was.steps all (was.each was.steps [] (sym (append-nil was.steps)))
             by (inr inner) = was.each front (here ∷ inner.rest) inner.whole
+
+        opens : (front back : List Step) (here : Step) → steps ≡ front ++ here ∷ back → OpensRightly events front here
+        opens front back here split = by (snoc_split was.steps step front here back split)
+          where
+            by : ((front ≡ was.steps) × (here ≡ step)) ⊎ IsInner was.steps step front here back → OpensRightly events front here
+            by (inl (all, last)) = subst (λ (f : List Step). OpensRightly events f here) (sym all) (subst (OpensRightly events was.steps) (sym last) from.opens)
+            by (inr inner) = was.opens front inner.rest here inner.whole
 
         missed : Speaker → Bool
         missed speaker = is_of speaker (option_map (λ (m : Missed). m.origin) (missed_in one.what))
@@ -315,15 +345,21 @@ module _ (events : Events) where
       }
 
   -- a record was heard, and then a sender is lost, if a datagram of it is missed there
-  pub heard_and_lost : (made : List Made) (one : Made) (before told told_too : Tellings) (old mid new : Hearing) → mid.lost ≡ old.lost → new.teller ≡ mid.teller
-      → (missed : Option Missed) → missed ≡ missed_in one.what
-      → (Suits events old.teller → HearsRecord events one old.teller mid.teller mid.heard.items)
-      → told_too ≡ told ++ unlost_by old.lost mid.heard.items
+  pub heard_and_lost : (made : List Made) (one : Made) (before told told_too : Tellings) (old mid new : Hearing) → mid.lost ≡ old.lost → (new.teller ≡ mid.teller) × (new.since ≡ mid.since)
+      → (missed : Option Missed) → missed ≡ missed_in one.what → (came : Option ℕ) → came ≡ time_of one.came
+      → (Suits events old.teller → HearsRecord events one old.teller mid.teller mid.heard.items) → (came ≡ None → mid.heard.items ≡ [])
+      → TellsNext events.since came old.since mid.heard.items mid.since mid.printed.items → told_too ≡ told ++ unlost_by old.lost mid.printed.items
       → ((speaker : Speaker) → contains speaker_cmp new.lost speaker ≡ contains speaker_cmp mid.lost speaker || is_of speaker (option_map (λ (m : Missed). m.origin) missed))
       → HasHeard events made (before ++ told) old → HasHeard events (made ++ one ∷ []) (before ++ told_too) new
-  heard_and_lost made one before told told_too old mid new lost teller missed is hears told_is lose was =
-      subst (λ (t : Tellings). HasHeard events (made ++ one ∷ []) t new) (append_assoc before told (unlost_by old.lost mid.heard.items) ∙ ap (λ (t : Tellings). before ++ t) (sym told_is))
+  heard_and_lost made one before told told_too old mid new lost same missed is came time hears untimed from told_is lose was =
+      let printed : Tellings = mid.printed.items in
+      let since = since_in events.since (made_in was.steps ++ one ∷ []) in
+      let begun = awaits_begun events.since (made_in was.steps) one came time (told_in was.steps) old.since was.quiet was.awaits in
+      let tells = from since (have_come since (made_in was.steps)) (told_in was.steps) begun in
+      subst (λ (t : Tellings). HasHeard events (made ++ one ∷ []) t new) (append_assoc before told (unlost_by old.lost printed) ∙ ap (λ (t : Tellings). before ++ t) (sym told_is))
       (has_heard_more made (before ++ told) one old new was mid.heard.items
-      (subst (λ (t : Teller Speaker). HearsRecord events one old.teller t mid.heard.items) (sym teller) (hears was.suits))
+      (subst (λ (t : Teller Speaker). HearsRecord events one old.teller t mid.heard.items) (sym same.0) (hears was.suits)) (λ none. untimed (time ∙ none)) printed
+      (subst (λ (k : Since). TellsFrom since (have_come since (made_in was.steps)) (time_of one.came) (told_in was.steps) mid.heard.items k printed) (sym same.1)
+      (subst (λ (t : Option ℕ). TellsFrom since (have_come since (made_in was.steps)) t (told_in was.steps) mid.heard.items mid.since printed) time tells))
       (λ speaker. lose speaker ∙ ap (λ (l : BTreeSet Speaker). contains speaker_cmp l speaker || is_of speaker (option_map (λ (m : Missed). m.origin) missed)) lost
       ∙ ap (λ (m : Option Missed). contains speaker_cmp old.lost speaker || is_of speaker (option_map (λ (m : Missed). m.origin) m)) is))

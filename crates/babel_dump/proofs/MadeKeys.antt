@@ -13,7 +13,7 @@ use Rattle.std.proofs.lemmas.List.{map-append}
 use Rattle.std.proofs.lemmas.List.Sums.{fold-append}
 use Rattle.std.proofs.lemmas.Map.Entries.{lookup_head, lookup_tail}
 use Rattle.babel_capture.specs.Counts.{Made}
-use Rattle.babel_capture.specs.Gathering.{Gathering}
+use Rattle.babel_capture.specs.Gathering.{Gathering, name_of}
 use Rattle.babel_capture.specs.Tallies.{origin_cmp}
 use Rattle.babel_capture.specs.declared.tallies.Origin.{Origin}
 use Rattle.babel_capture.specs.contracts.tallies.OriginOrd.TheImpl.{ghosts}
@@ -83,12 +83,13 @@ module _ (keys : SenderKeys) (records : List Made) (entries : Entries) (own : Ar
   are_fed (entry ∷ some) (here, later) = (fed_by entry (is_asked keys.place entry.0) refl here, are_fed some later)
 
 -- the key of one, or why it has none
-pub found_so : (keys : SenderKeys) (moment : Option ℕ) (origin : Origin) (table : SenderTable) (key : Result MadeKey InputFault)
-    → IfOk key (λ k. (records : List Made) → AreWhole (packets_made records) → IsFedIn keys records (origin, table) → IsSenderKey keys records moment origin k)
+pub found_so : (keys : SenderKeys) (moment : Option ℕ) (gathering : Gathering) (origin : Origin) (table : SenderTable) (key : Result MadeKey InputFault)
+    → IfOk key (λ k. (records : List Made) → AreWhole (packets_made records) → IsFedIn keys records (origin, table)
+    → IsSenderKey keys records moment origin (name_of gathering origin.place.interface) k)
     → IfErr key (λ f. (records : List Made) → AreWhole (packets_made records) → IsFedIn keys records (origin, table) → NoSenderKey keys records moment origin f)
-    → (records : List Made) → AreWhole (packets_made records) → IsFedIn keys records (origin, table) → IsFound keys records moment (record { origin = origin; key = key })
-found_so keys moment origin table (Ok key) ok err = ok
-found_so keys moment origin table (Err fault) ok err = err
+    → (records : List Made) → AreWhole (packets_made records) → IsFedIn keys records (origin, table) → IsFound keys records moment gathering (record { origin = origin; key = key })
+found_so keys moment gathering origin table (Ok key) ok err = ok
+found_so keys moment gathering origin table (Err fault) ok err = err
 
 -- ---- one after another
 
@@ -96,7 +97,7 @@ found_so keys moment origin table (Err fault) ok err = err
 pub record Making (keys : SenderKeys) (moment : Option ℕ) (gathering : Gathering) (entries left : Entries) (made : MadeKeys) : Type 0 where
   pub found : List FoundKey
   pub of_each : map (λ one. one.origin) found ++ keys_of left ≡ keys_of entries
-  pub are_found : (records : List Made) → AreWhole (packets_made records) → AreOwn keys records entries → AllByRecursion (IsFound keys records moment) found
+  pub are_found : (records : List Made) → AreWhole (packets_made records) → AreOwn keys records entries → AllByRecursion (IsFound keys records moment gathering) found
   pub fed : (records : List Made) → AreOwn keys records entries → AllByRecursion (IsFedIn keys records) left
   pub told : TellsKeys keys gathering found made
 
@@ -113,7 +114,7 @@ module _ (keys : SenderKeys) (moment : Option ℕ) (gathering : Gathering) (entr
 
   pub making_more : (origin : Origin) (table : SenderTable) (left : Entries) (key : Result MadeKey InputFault) (old new : MadeKeys)
       → Making keys moment gathering entries ((origin, table) ∷ left) old
-      → ((records : List Made) → AreWhole (packets_made records) → IsFedIn keys records (origin, table) → IsFound keys records moment (record { origin = origin; key = key }))
+      → ((records : List Made) → AreWhole (packets_made records) → IsFedIn keys records (origin, table) → IsFound keys records moment gathering (record { origin = origin; key = key }))
       → ((found : List FoundKey) → TellsKeys keys gathering found old → TellsKeys keys gathering (found ++ record { origin = origin; key = key } ∷ []) new)
       → Making keys moment gathering entries left new
   making_more origin table left key old new was is_found tells =
@@ -124,7 +125,7 @@ module _ (keys : SenderKeys) (moment : Option ℕ) (gathering : Gathering) (entr
       record {
         found = was.found ++ one ∷ [];
         of_each = cc;
-        are_found = λ records whole own. all_more (IsFound keys records moment) was.found one (was.are_found records whole own) (is_found records whole (was.fed records own).0);
+        are_found = λ records whole own. all_more (IsFound keys records moment gathering) was.found one (was.are_found records whole own) (is_found records whole (was.fed records own).0);
         fed = λ records own. (was.fed records own).1;
         told = tells was.found was.told;
       }

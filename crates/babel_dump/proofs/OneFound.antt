@@ -14,10 +14,10 @@ use Rattle.babel_dump.proofs.Steps.{IsOne}
 use Rattle.babel_dump.specs.AnySource.{any_source}
 use Rattle.babel_dump.specs.AskedPairs.{asking, lines_of}
 use Rattle.babel_dump.specs.Command.{IsOfMany, IsOutcomeOfAnswers}
-use Rattle.babel_dump.specs.DiffText.{diff_text, head_lines}
+use Rattle.babel_dump.specs.DiffText.{diff_in, head_lines}
 use Rattle.babel_dump.specs.Filter.{kept_pairs_in}
 use Rattle.babel_dump.specs.InFormat.{answer_line_in, differences_or_count_in, listed_in, verdict_in}
-use Rattle.babel_dump.specs.KeyText.{key_line}
+use Rattle.babel_dump.specs.KeyText.{file_in, key_in}
 use Rattle.babel_dump.specs.RunText.{answer_in, differences_status, form_text, lookup_status, verdict_status}
 use Rattle.babel_dump.specs.TextParts.{lacks_route}
 use Rattle.babel_dump.specs.declared.addr_pair.AddrPair.{AddrPair}
@@ -99,7 +99,7 @@ found_one (tasks.AnySource dst) format quiet file reading table it too is is_too
     said (is.text_is ∙ sym is_too.text_is)
     (is.outcome_is ∙ ap (λ (source : Option Address). record { status = status; reports = reports.AnySource table.report source }) same ∙ sym is_too.outcome_is)
 found_one (tasks.Normalise form view body hex) format quiet file reading table it too is is_too = writes_one form reading view body table (form_text hex) it too is is_too
-found_one (tasks.Key form view) format quiet file reading table it too is is_too = writes_one form reading view 1024 table (λ octets. key_line octets file) it too is is_too
+found_one (tasks.Key form view) format quiet file reading table it too is is_too = writes_one form reading view 1024 table (λ octets. key_in format octets (file_in format file)) it too is is_too
 found_one (tasks.Pairs forms.Answers view filter count) format quiet file reading table it too is is_too =
     tells_one _ _ _ _ it too (ap (kept_pairs_in format view filter count table.rows) (boxes_same _ _ _ _ refl is.is_canon.boxes is_too.is_canon.boxes)) is.tells is_too.tells
 found_one (tasks.Pairs forms.Routes view filter count) format quiet file reading table it too is is_too = tells_one _ _ _ _ it too refl is is_too
@@ -191,7 +191,7 @@ compared_one (comparisons.Compare forms.Answers listeds.Count) format view file 
 compared_one (comparisons.Compare forms.Routes listed) format view file other_file reading other_reading table other it too is is_too =
     rows_one (λ rows. listed_in format view listed) table other it too is is_too
 compared_one (comparisons.Diff style) format view file other_file reading other_reading table other it too is is_too =
-    rows_one (diff_text style view (head_lines style.spelling file other_file reading other_reading)) table other it too is is_too
+    rows_one (diff_in format style view (head_lines style.spelling file other_file reading other_reading)) table other it too is is_too
 
 few_differences : (limits : Bounds) (view : View) (count : Bool) (format : Format) (table other : Routes) (text : List ℕ) (outcome : Outcome)
     → ListsDifferences limits view count format table other text outcome → HasManyDifferences limits table other → ⊥

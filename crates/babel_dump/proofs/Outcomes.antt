@@ -1,22 +1,19 @@
 -- What a job's run answers and writes is settled by the octets of its readers.
-use Rattle.std.proofs.Common.{◌≡◌, ◌≢◌, ◌⊎◌, refl, ℕ, List, ◌++◌, take, Option, None, Some, Result, Ok, Err, inl, inr, subst, ap, sym, ◌∙◌}
-use Rattle.babel_dump.proofs.CaptureBegins.{dump_made}
+use Rattle.std.proofs.Common.{◌≡◌, ◌≢◌, refl, ℕ, List, ◌++◌, take, Option, None, Some, Result, Ok, Err, inl, inr, subst, ap, sym, ◌∙◌}
 use Rattle.babel_dump.proofs.CaptureSteps.{capture_fault, capture_one, CaptureComes, gathering_comes, Read, read_of}
-use Rattle.babel_dump.proofs.DumpSteps.{Alike, asked_by, Differ, dump_fault, dump_one, DumpComes, not_of_octets, pairs_fault, pairs_one, PairsCome, SourceComes, table_comes, table_fault}
-use Rattle.babel_dump.proofs.Steps.{alike_one, Always, always_one, At, at_one, IsAlike, Then, then_one}
-use Rattle.babel_dump.specs.CaptureText.{dump_status, dump_text, senders_in, senders_status}
+use Rattle.babel_dump.proofs.DumpSteps.{asked_by, dump_fault, dump_one, DumpComes, not_of_octets, pairs_fault, pairs_one, PairsCome, SourceComes, table_comes, table_fault}
+use Rattle.babel_dump.proofs.Steps.{Always, always_one, At, at_one, IsOne, Then, then_one}
+use Rattle.babel_dump.specs.CaptureRun.{capture_text, wanted_of}
+use Rattle.babel_dump.specs.CaptureText.{senders_status}
 use Rattle.babel_dump.specs.Command.{InTurn}
 use Rattle.babel_dump.specs.Files.{name_of, reading_of}
 use Rattle.babel_dump.specs.Given.{IsFaultOfGiven, dump_of, Input, Reads}
 use Rattle.babel_dump.specs.JobRun.{capture_of, CauseBy, SaysBy}
-use Rattle.babel_dump.specs.OneOutcome.{FaultIsOfAll, FaultIsOne, IsFaultOfOctets, IsOfDump, IsOfOctets, MayDiffer, NothingWritten, octets_at, OutcomeIsOne, OutcomeOrFault, RanOver, WrittenIsPrefix}
+use Rattle.babel_dump.specs.OneOutcome.{FaultIsOfAll, FaultIsOne, IsFaultOfOctets, IsOfDump, IsOfOctets, NothingWritten, octets_at, OutcomeIsOne, OutcomeOrFault, RanOver, WrittenIsPrefix}
 use Rattle.babel_dump.specs.Run.{InputCause, OfFirst, UnlessWrite}
-use Rattle.babel_dump.specs.Tasks.{CaptureTaskCause, CaptureTaskSays, wanted_of}
-use Rattle.babel_dump.specs.declared.capture_reading.CaptureReading.{CaptureReading}
 use Rattle.babel_dump.specs.declared.format.Format.{Format}
 use Rattle.babel_dump.specs.declared.input_fault.InputFault.TheVariants as input_faults
 use Rattle.babel_dump.specs.declared.input_fault.InputFault.{InputFault}
-use Rattle.babel_dump.specs.declared.job.CaptureTask.TheVariants as capture_tasks
 use Rattle.babel_dump.specs.declared.job.CaptureTask.{CaptureTask}
 use Rattle.babel_dump.specs.declared.job.Job.{Job}
 use Rattle.babel_dump.specs.declared.job.Work.TheVariants as works
@@ -38,33 +35,11 @@ use Rattle.babel_dump.proofs.OneFound.{comparison_one, ComparisonGives, each_one
 -- ---- what is said of a capture
 
 abbrev pub CaptureOf : CaptureTask → Format → Read → Said → Type 0
-CaptureOf capture_tasks.Senders format read it =
+CaptureOf task format read it =
     it ≡ record {
-      text = senders_in format read.gathering;
+      text = capture_text task format read.gathering read.made;
       outcome = record { status = senders_status read.gathering.senders; reports = reports.Capture read.gathering.report read.cut };
     }
-CaptureOf (capture_tasks.Extract sender place hex) format read it =
-    it ≡ record {
-      text = dump_text hex (dump_made read.made);
-      outcome = record { status = dump_status (dump_made read.made); reports = reports.Capture read.gathering.report read.cut };
-    }
-
-capture_said : (task : CaptureTask) (format : Format) (read : Read) (it too : Said) → CaptureOf task format read it → CaptureOf task format read too → it ≡ too
-capture_said capture_tasks.Senders format read it too is is_too = is ∙ sym is_too
-capture_said (capture_tasks.Extract sender place hex) format read it too is is_too = is ∙ sym is_too
-
-capture_says : (task : CaptureTask) (format : Format) (reading : CaptureReading) (reader : Reads) (octets text : List ℕ) (outcome : Outcome) → reader.old.left ≡ Some octets
-    → CaptureTaskSays task format (capture_of reader reading task) text outcome
-    → (read : Read) × CaptureComes reading (wanted_of task) octets (Ok read) × CaptureOf task format read (record { text = text; outcome = outcome })
-capture_says capture_tasks.Senders format reading reader octets text outcome has says =
-    (read_of says.gave.given, gathering_comes (capture_of reader reading capture_tasks.Senders) octets _ _ has says.gave, said says.text_is says.outcome_is)
-capture_says (capture_tasks.Extract sender place hex) format reading reader octets text outcome has says =
-    (read_of says.gave.given, gathering_comes (capture_of reader reading (capture_tasks.Extract sender place hex)) octets _ _ has says.gave, said says.text_is says.outcome_is)
-
-capture_cause : (task : CaptureTask) (reading : CaptureReading) (reader : Reads) (octets : List ℕ) (fault : InputFault) → reader.old.left ≡ Some octets
-    → IsOfDump fault → CaptureTaskCause task (capture_of reader reading task) fault → CaptureComes reading (wanted_of task) octets (Err fault)
-capture_cause capture_tasks.Senders reading reader octets = capture_fault (capture_of reader reading capture_tasks.Senders) octets _
-capture_cause (capture_tasks.Extract sender place hex) reading reader octets = capture_fault (capture_of reader reading (capture_tasks.Extract sender place hex)) octets _
 
 -- ---- what comes of a job's work
 
@@ -84,55 +59,18 @@ Comes (works.Two first second view task) job contents other =
 Comes (works.Capture reading file task) job contents other =
     Then (At sides.First (CaptureComes reading (wanted_of task) contents)) (λ read. Always (CaptureOf task job.format read))
 
--- two faults of it are one, or may differ
-abbrev pub AlikeOf : Work → (contents other : List ℕ) → RunFault → RunFault → Type 0
-AlikeOf work contents other fault too = (fault ≡ too) ⊎ (MayDiffer work contents other fault too ⊎ MayDiffer work contents other too fault)
-
-one_alike : (work : Work) (contents other : List ℕ) (fault too : RunFault) → fault ≡ too → AlikeOf work contents other fault too
-one_alike work contents other fault too same = inl same
-
--- those of the dump on a side
-module _ (work : Work) (contents other : List ℕ) (side : Side) (reading : Reading) (is_read : reading_of side work ≡ Some reading) where
-  may_differ : (fault too : InputFault) → Differ reading (octets_at side contents other) fault too
-      → MayDiffer work contents other (run_faults.Input side fault) (run_faults.Input side too)
-  may_differ (input_faults.Dump own) (input_faults.LeftOut datagram) differ = record {
-    side = side;
-    reading = reading;
-    is_read = is_read;
-    not_at_one = differ;
-    own = own;
-    datagram = datagram;
-    fault_is = refl;
-    fault_too_is = refl;
-  }
-  may_differ fault too never = absurd never
-
-  alike_at : (fault too : InputFault) → Alike reading (octets_at side contents other) fault too → AlikeOf work contents other (run_faults.Input side fault) (run_faults.Input side too)
-  alike_at fault too (inl same) = inl (ap (λ (f : InputFault). run_faults.Input side f) same)
-  alike_at fault too (inr (inl differ)) = inr (inl (may_differ fault too differ))
-  alike_at fault too (inr (inr differ)) = inr (inr (may_differ too fault differ))
-
-  dump_at_one : IsAlike (AlikeOf work contents other) (At side (DumpComes reading (octets_at side contents other)))
-  dump_at_one = at_one _ side alike_at (dump_one reading (octets_at side contents other))
-
--- it is one, or alike faults
-comes_one : (work : Work) (job : Job) (contents other : List ℕ) → IsAlike (AlikeOf work contents other) (Comes work job contents other)
+-- it is one thing, or one fault
+comes_one : (work : Work) (job : Job) (contents other : List ℕ) → IsOne (Comes work job contents other)
 comes_one (works.Dump source task) job contents other =
-    let work = works.Dump source task in
-    then_one (dump_at_one work contents other sides.First source.reading refl)
-    (λ table. alike_one (one_alike work contents other) (task_one task job.format job.quiet (name_of source.file) source.reading table))
+    then_one (at_one sides.First (dump_one source.reading contents)) (task_one task job.format job.quiet (name_of source.file) source.reading)
 comes_one (works.Each source pairs) job contents other =
-    let work = works.Each source pairs in
-    then_one (alike_one (one_alike work contents other) (pairs_one source.reading other)) (λ is. then_one (dump_at_one work contents other sides.First source.reading refl)
-    (λ table. always_one _ (each_one job.format source.reading other table)))
+    then_one (pairs_one source.reading other)
+    (λ is. then_one (at_one sides.First (dump_one source.reading contents)) (λ table. always_one (each_one job.format source.reading other table)))
 comes_one (works.Two first second view task) job contents other =
-    let work = works.Two first second view task in
-    then_one (dump_at_one work contents other sides.First first.reading refl) (λ table. then_one (dump_at_one work contents other sides.Other second.reading refl)
-    (λ second_table. alike_one (one_alike work contents other)
-    (comparison_one task job.format view (name_of first.file) (name_of second.file) first.reading second.reading table second_table)))
+    then_one (at_one sides.First (dump_one first.reading contents)) (λ table. then_one (at_one sides.Other (dump_one second.reading other))
+    (comparison_one task job.format view (name_of first.file) (name_of second.file) first.reading second.reading table))
 comes_one (works.Capture reading file task) job contents other =
-    then_one (at_one _ sides.First (λ fault too same. inl (ap (λ (f : InputFault). run_faults.Input sides.First f) same)) (capture_one reading (wanted_of task) contents))
-    (λ read. always_one _ (capture_said task job.format read))
+    then_one (at_one sides.First (capture_one reading (wanted_of task) contents)) (λ read. always_one (λ it too is is_too. is ∙ sym is_too))
 
 -- what a job says of octets comes of them
 says_comes : (work : Work) (job : Job) (reader second : Reads) (contents other text : List ℕ) (outcome : Outcome) → reader.old.left ≡ Some contents
@@ -148,7 +86,8 @@ says_comes (works.Two first another view task) job reader second contents other 
   table_comes (dump_of reader first.reading) contents has says.table says.gave,
   inl (says.other_table, table_comes (dump_of second another.reading) other other_has says.other_table says.other_gave, says.holds),
 )
-says_comes (works.Capture reading file task) job reader second contents other text outcome has other_has says = inl (capture_says task job.format reading reader contents text outcome has says)
+says_comes (works.Capture reading file task) job reader second contents other text outcome has other_has says =
+    inl (read_of says.gave.given, gathering_comes (capture_of reader reading task) contents _ _ has says.gave, said says.text_is says.outcome_is)
 
 -- and so do its faults
 at_first : (Cause : InputFault → Type 0) (Holds : RunFault → Type 0) (fault : RunFault)
@@ -198,7 +137,7 @@ cause_comes (works.Two first another view task) job reader second untouched cont
 ]
 cause_comes (works.Capture reading file task) job reader second untouched contents other fault has other_has is cause =
     at_first _ (λ g. Comes (works.Capture reading file task) job contents other (Err g)) fault
-    (λ f is cause. inr (run_faults.Input sides.First f, (f, refl, capture_cause task reading reader contents f has is cause), refl)) is cause
+    (λ f is cause. inr (run_faults.Input sides.First f, (f, refl, capture_fault (capture_of reader reading task) contents _ f has is cause), refl)) is cause
 
 -- ---- the laws
 

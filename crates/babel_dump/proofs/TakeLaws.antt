@@ -1,6 +1,6 @@
 -- How far a capture is followed with more of it, and what it gives at its end.
 use Rattle.std.proofs.Common.{◌≡◌, ℕ, List, [], ◌++◌, map, refl, sym, ap, subst, ◌∙◌, append_assoc, append-nil, Option, None, Some}
-use Rattle.std.specs.Prelude.{Bool, true, false, IfSome, if◌then◌else◌, Result, Ok, Err, OnOk}
+use Rattle.std.specs.Prelude.{Bool, true, false, not, ◌&&◌, IfSome, if◌then◌else◌, Result, Ok, Err, OnOk}
 use Rattle.std.specs.declared.cmp.Ordering.{Ordering}
 use Rattle.babel_capture.specs.declared.fault.Fault.{Fault}
 use Rattle.babel_capture.specs.Blocks.{context_behind, start}
@@ -17,8 +17,8 @@ use Rattle.babel_timeline.specs.declared.telling.Telling.{Telling}
 use Rattle.babel_timeline.specs.Rows.{AllLast, Rows}
 use Rattle.babel_dump.specs.CaptureRun.{IsOutcomeOf}
 use Rattle.babel_dump.specs.CaptureText.{senders_status}
-use Rattle.babel_dump.specs.EventsRun.{HaveTold, Step, WroteLines, followed_by, followed_extent, made_in, moment_read, told_in, unlost, written_in}
-use Rattle.babel_dump.specs.Followed.{Ends, EndsAt, EndsBy, Follows, HasHeard, IsFollowed, Suits, unlost_by}
+use Rattle.babel_dump.specs.EventsRun.{HaveTold, Opens, OpensBy, Step, WroteLines, followed_by, followed_extent, have_come, made_in, moment_read, since_in, told_from, told_in, unlost, written_in}
+use Rattle.babel_dump.specs.Followed.{Ends, EndsAt, EndsBy, Follows, HasHeard, IsFollowed, Suits, TellsFrom, unlost_by}
 use Rattle.babel_dump.specs.HeardSenders.{heard_told, sender_heard}
 use Rattle.babel_dump.specs.Run.{Output}
 use Rattle.babel_dump.specs.Speakers.{speaker_cmp}
@@ -108,7 +108,18 @@ record HasEnded (events : Events) (made : List Made) (moment : Option ℕ) (step
   rows : Rows Speaker
   have_told : HaveTold events moment made (told_in steps ++ ended) rows
   all_last : IfSome moment (λ m. AllLast speaker_cmp events.expiry m rows)
-  written_is : written ≡ written_in [] steps ++ unlost (made_in steps) ended
+  opening : Tellings
+  opens : OpensBy (since_in events.since (made_in steps)) moment (made_in steps) (told_in steps ++ ended) opening
+  written_is : written ≡ written_in events.since [] steps ++ unlost (made_in steps) (opening ++ told_from (since_in events.since (made_in steps)) ended)
+
+-- a moment does not come where there is no time
+never_opens : (since : Option ℕ) (made : List Made) (told : Tellings) → OpensBy since None made told []
+never_opens None made told = refl
+never_opens (Some moment) made told = by (have_come (Some moment) made)
+  where
+    by : (b : Bool) → Opens (Some moment) (not b && false) told []
+    by true = refl
+    by false = refl
 
 ended_by_then : (events : Events) (made : List Made) (told : Tellings) (moment : Option ℕ) (old new : Followed) → EndsAt events moment old new
     → (was : HasHeard events made (told ++ old.follower.told.items) old.follower.hearing) → HasEnded events (made_in was.steps) moment was.steps (told ++ new.follower.told.items)
@@ -117,17 +128,28 @@ ended_by_then events made told None old new same was = record {
   rows = old.follower.hearing.teller.timeline.rows;
   have_told = subst (λ (t : Tellings). HaveTold events None (made_in was.steps) t old.follower.hearing.teller.timeline.rows) (sym (append-nil (told_in was.steps))) was.have_told;
   all_last = tt;
-  written_is = ap (λ (f : Follower). told ++ f.told.items) same ∙ was.written_is ∙ sym (append-nil (written_in [] was.steps));
+  opening = [];
+  opens = never_opens (since_in events.since (made_in was.steps)) (made_in was.steps) (told_in was.steps ++ []);
+  written_is = ap (λ (f : Follower). told ++ f.told.items) same ∙ was.written_is ∙ sym (append-nil (written_in events.since [] was.steps));
 }
 ended_by_then events made told (Some moment) old new ends was = record {
   ended = ends.ended;
   rows = new.follower.hearing.teller.timeline.rows;
   have_told = told_until events (made_in was.steps) moment old.follower.hearing.teller.timeline.rows new.follower.hearing.teller.timeline.rows (told_in was.steps) ends.ended ends.tells was.have_told;
   all_last = ends.last;
-  written_is = ap (λ (t : Tellings). told ++ t) ends.written ∙ sym (append_assoc told old.follower.told.items (unlost_by old.follower.hearing.lost ends.ended))
-      ∙ ap (λ (t : Tellings). t ++ unlost_by old.follower.hearing.lost ends.ended) was.written_is
-      ∙ ap (λ (t : Tellings). written_in [] was.steps ++ t) (unlost_is events made (told ++ old.follower.told.items) old.follower.hearing was ends.ended);
+  opening = from.opening;
+  opens = from.opens;
+  written_is = ap (λ (t : Tellings). told ++ t) ends.written ∙ sym (append_assoc told old.follower.told.items (unlost_by old.follower.hearing.lost ends.printed))
+      ∙ ap (λ (t : Tellings). t ++ unlost_by old.follower.hearing.lost ends.printed) was.written_is
+      ∙ ap (λ (t : Tellings). written_in events.since [] was.steps ++ t)
+      (unlost_is events made (told ++ old.follower.told.items) old.follower.hearing was ends.printed ∙ ap (unlost (made_in was.steps)) from.told_is);
 }
+  where
+    since : Option ℕ
+    since = since_in events.since (made_in was.steps)
+
+    from : TellsFrom since (have_come since (made_in was.steps)) (Some moment) (told_in was.steps) ends.ended new.follower.hearing.since ends.printed
+    from = ends.from since (have_come since (made_in was.steps)) (told_in was.steps) was.awaits
 
 -- the moment is none where a record has no time
 when_timed : (untimed : Bool) (moment : Option ℕ) → untimed ≡ false → (if untimed then None else moment) ≡ moment
@@ -188,6 +210,9 @@ ending events fed told writer old new status cut answer is read accepted ends wr
             rows = done.rows;
             have_told = known untimed moment (told_in was.steps ++ done.ended) done.rows done.have_told;
             all_last = λ timed. subst (λ (m : Option ℕ). IfSome m (λ t. AllLast speaker_cmp events.expiry t done.rows)) (when_timed untimed moment timed) done.all_last;
+            opening = done.opening;
+            opens_last = done.opens;
+            opens = was.opens;
             written_is = done.written_is;
             senders = heard.0;
             heard = heard.1;
@@ -209,7 +234,7 @@ last_so cmp order events teller suits moment rows last =
     subst (λ (f : Option ℕ). AllLast speaker_cmp f moment rows) suits.factor (subst (λ (k : Speaker → Speaker → Ordering). AllLast k teller.timeline.factor moment rows) order last)
 
 pub ends_by : {T E : Type 0} (result : Result T E) (events : Events) (moment : Option ℕ) (time : ℕ) → moment ≡ Some time → (old new : Followed)
-    → OnOk result (EndsBy events time old.follower.hearing.teller.timeline.rows new.follower.hearing.teller.timeline.rows old.follower.hearing.lost old.follower.told.items new.follower.told.items)
+    → OnOk result (EndsBy events time old.follower.hearing new.follower.hearing old.follower.told.items new.follower.told.items)
     → OnOk result (EndsAt events moment old new)
 ends_by (Ok done) events moment time is old new ends = subst (λ (m : Option ℕ). EndsAt events m old new) (sym is) ends
 ends_by (Err fault) events moment time is old new ends = tt

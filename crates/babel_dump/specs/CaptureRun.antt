@@ -1,15 +1,18 @@
 -- What the commands over captures promise, by what their devices say. No RFC speaks of runs: these
 -- are this project's own.
-use Rattle.std.specs.Prelude.{ℕ, Bool, false, ◌≡◌, ◌≢◌, ◌<◌, ◌≤◌, List, ◌++◌, length}
-use Rattle.std.specs.Prelude.{Option}
+use Rattle.std.specs.Prelude.{ℕ, false, true, ◌≡◌, ◌≢◌, ◌<◌, ◌≤◌, List, ◌++◌, length}
+use Rattle.std.specs.Prelude.{Option, Some}
+use Rattle.std.specs.Option.{is_some}
 use Rattle.babel_capture.specs.Counts.{Counts, Made}
+use Rattle.babel_capture.specs.Findings.{everyone}
 use Rattle.babel_capture.specs.Gathering.{Gathering}
 use Rattle.babel_capture.specs.declared.fault.Fault.TheVariants as capture_faults
+use Rattle.babel_capture.specs.declared.wanted.Wanted.{Wanted}
 use Rattle.babel_tlv.specs.declared.fault.Fault.TheVariants as faults
 use Rattle.babel_table.specs.Moments.{dump_of}
-use Rattle.babel_dump.specs.CaptureGiven.{CaptureInput, GaveCapture, GaveLeftOut, GaveSound}
+use Rattle.babel_dump.specs.CaptureGiven.{CaptureInput, GaveLeftOut, GaveSound}
 use Rattle.babel_dump.specs.CaptureGiven.{IsFaultOfCapture, made_in}
-use Rattle.babel_dump.specs.CaptureText.{dump_status, dump_text, places_of}
+use Rattle.babel_dump.specs.CaptureText.{dump_text, places_of}
 use Rattle.babel_dump.specs.CaptureText.{senders_in, senders_status}
 use Rattle.babel_dump.specs.Packets.{packets_made}
 use Rattle.babel_dump.specs.declared.extract.PacketCopy.{PacketCopy}
@@ -17,6 +20,8 @@ use Rattle.babel_dump.specs.declared.format.Format.{Format}
 use Rattle.babel_dump.specs.declared.input_fault.InputFault.{InputFault}
 use Rattle.babel_dump.specs.declared.input_fault.InputFault.TheVariants as input_faults
 use Rattle.babel_dump.specs.declared.interfaces.Interfaces.{Interfaces}
+use Rattle.babel_dump.specs.declared.job.CaptureTask.{CaptureTask}
+use Rattle.babel_dump.specs.declared.job.CaptureTask.TheVariants as capture_tasks
 use Rattle.babel_dump.specs.declared.outcome.Outcome.{Outcome}
 use Rattle.babel_dump.specs.declared.outcome.Reports.TheVariants as reports
 
@@ -45,40 +50,42 @@ abbrev pub IsOutcomeOf : Outcome → ℕ → Counts → Option ℕ → Type 0
 IsOutcomeOf outcome status report cut =
     outcome ≡ record { status = status; reports = reports.Capture report cut }
 
--- `senders`: a line for each sender of the capture at each place
-pub record ListsSenders (reader : CaptureInput) (format : Format) (text : List ℕ)
-    (outcome : Outcome) : Type 0 where
-  pub gathering : Gathering
-  pub cut : Option ℕ
-  pub gave : GaveSound reader gathering cut
-  pub text_is : text ≡ senders_in format gathering
-  pub outcome_is : IsOutcomeOf outcome (senders_status gathering.senders) gathering.report cut
-
--- the packets of a capture, end to end
-abbrev pub dump_in : {reader : CaptureInput} {gathering : Gathering} {cut : Option ℕ}
-    → GaveCapture reader gathering cut → List ℕ
-dump_in gave = dump_of (packets_made (made_in gave))
-
 -- what was copied is what was there and the octets of the packets that were made besides, unless
 -- memory ran out
 abbrev pub Copies : PacketCopy → PacketCopy → List Made → Type 0
 Copies first now made = now.has_failed ≡ false → (first.has_failed ≡ false)
     × (now.octets.items ≡ first.octets.items ++ dump_of (packets_made made))
 
--- `extract`: the dump of the wanted sender, who sent at one place at most
-pub record Extracts (reader : CaptureInput) (hex : Bool) (text : List ℕ) (outcome : Outcome) :
-    Type 0 where
-  pub gathering : Gathering
-  pub cut : Option ℕ
-  pub gave : GaveSound reader gathering cut
-  pub one_place : length gathering.senders ≤ 1
-  pub text_is : text ≡ dump_text hex (dump_in gave.given)
-  pub outcome_is : IsOutcomeOf outcome (dump_status (dump_in gave.given)) gathering.report cut
-
--- the wanted sender sent at several places, which are these
+-- the one sender that is wanted sent at several places, which are these
 pub record IsOnSeveral (reader : CaptureInput) (interfaces : Interfaces) : Type 0 where
   pub gathering : Gathering
   pub cut : Option ℕ
   pub gave : GaveSound reader gathering cut
+  pub one_wanted : is_some reader.wanted.sender ≡ true
   pub several : 2 ≤ length gathering.senders
   pub are : interfaces.0.items ≡ places_of gathering.senders
+
+-- ---- tasks
+
+-- whose datagrams are wanted
+abbrev pub wanted_of : CaptureTask → Wanted
+wanted_of capture_tasks.Senders = everyone
+wanted_of (capture_tasks.Extract sender place hex) =
+    record { sender = Some sender; place = place }
+
+-- the text, by what is gathered of a capture, and made of each of its packets: a line for each
+-- sender at each place; the packets, end to end
+abbrev pub capture_text : CaptureTask → Format → Gathering → List Made → List ℕ
+capture_text capture_tasks.Senders format gathering made = senders_in format gathering
+capture_text (capture_tasks.Extract sender place hex) format gathering made =
+    dump_text hex (dump_of (packets_made made))
+
+-- so it says, with status 1 if no packets were found; where one sender is wanted, it sent at one place at most
+pub record SaysOfCapture (task : CaptureTask) (format : Format) (reader : CaptureInput)
+    (text : List ℕ) (outcome : Outcome) : Type 0 where
+  pub gathering : Gathering
+  pub cut : Option ℕ
+  pub gave : GaveSound reader gathering cut
+  pub one_place : is_some reader.wanted.sender ≡ true → length gathering.senders ≤ 1
+  pub text_is : text ≡ capture_text task format gathering (made_in gave.given)
+  pub outcome_is : IsOutcomeOf outcome (senders_status gathering.senders) gathering.report cut

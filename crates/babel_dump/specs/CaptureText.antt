@@ -172,8 +172,3 @@ places_of senders = map (λ sender. sender.0.place) senders
 abbrev pub dump_text : (hex : Bool) → List ℕ → List ℕ
 dump_text hex [] = []
 dump_text hex (octet ∷ octets) = form_text hex (octet ∷ octets)
-
--- 1 where there are no packets
-abbrev pub dump_status : List ℕ → ℕ
-dump_status [] = 1
-dump_status (octet ∷ octets) = 0

@@ -1,5 +1,5 @@
--- The text of `diff`, as people read changes: this project's own. The escapes that colour are those
--- of ECMA-48, 8.3.117.
+-- What `diff` writes: text as people read changes, or JSON. These are this project's own. The
+-- escapes that colour are those of ECMA-48, 8.3.117.
 use Rattle.std.specs.Prelude.{ℕ, Bool, if◌then◌else◌, ◌-◌, List, [], ◌∷◌, ◌++◌, codes}
 use Rattle.std.specs.Prelude.{length, filter, is_none, Option, None, Some}
 use Rattle.std.specs.List.{flat_map}
@@ -10,9 +10,12 @@ use Rattle.babel_tlv.specs.declared.view.View.{View}
 use Rattle.babel_tlv.specs.Route.{RouteKey}
 use Rattle.babel_canon.specs.declared.every_difference.Difference.{Difference}
 use Rattle.babel_dump.specs.CaptureText.{link_text, vlans_text}
+use Rattle.babel_dump.specs.InFormat.{difference_in, in_format}
 use Rattle.babel_dump.specs.KeyText.{file_text}
 use Rattle.babel_dump.specs.RunText.{newline, pair_text}
 use Rattle.babel_dump.specs.Spelling.{address_text}
+use Rattle.babel_dump.specs.declared.format.Format.{Format}
+use Rattle.babel_dump.specs.declared.format.Format.TheVariants as formats
 use Rattle.babel_dump.specs.declared.job.DiffStyle.{DiffStyle}
 use Rattle.babel_dump.specs.declared.reading.Reading.{Reading}
 use Rattle.babel_dump.specs.declared.run_fault.Side.{Side}
@@ -68,18 +71,39 @@ stat_text gone new changed alike =
     decimal gone ++ codes " gone, " ++ decimal new ++ codes " new, "
     ++ decimal changed ++ codes " changed, " ++ decimal alike ++ codes " alike" ++ newline
 
+-- `{"gone":N,"new":N,"changed":N,"alike":N}`
+abbrev pub stat_json : (gone new changed alike : ℕ) → List ℕ
+stat_json gone new changed alike =
+    codes "{\"gone\":" ++ decimal gone ++ codes ",\"new\":" ++ decimal new
+    ++ codes ",\"changed\":" ++ decimal changed ++ codes ",\"alike\":" ++ decimal alike ++ codes "}"
+    ++ newline
+
 -- the keys that the other dump lacks, those that the first lacks, the others of which there is a
 -- difference, and the others of the first, which has so many rows
-abbrev pub stat_line : (rows : ℕ) → List Difference → List ℕ
-stat_line rows differences =
+abbrev pub stat_in : Format → (rows : ℕ) → List Difference → List ℕ
+stat_in format rows differences =
     let gone = length (filter (λ d. is_none d.right) differences) in
     let new = length (filter (λ d. is_none d.left) differences) in
     let changed = length differences - gone - new in
-    stat_text gone new changed (rows - gone - changed)
+    let alike = rows - gone - changed in
+    in_format format (stat_text gone new changed alike) (stat_json gone new changed alike)
+
+-- how many there are, if that is asked for
+abbrev pub stat_after : Format → (stat : Bool) → (rows : ℕ) → List Difference → List ℕ
+stat_after format stat rows differences = if stat then stat_in format rows differences else []
 
 -- nothing where there is no difference
 abbrev pub diff_text : DiffStyle → View → (heads : List ℕ) → (rows : ℕ) → List Difference → List ℕ
 diff_text style view heads rows [] = []
 diff_text style view heads rows differences =
     heads ++ flat_map (change_text style view) differences
-    ++ (if style.stat then stat_line rows differences else [])
+    ++ stat_after (formats.Text style.spelling) style.stat rows differences
+
+-- as JSON an object for each difference, and the numbers also where there is none
+abbrev pub diff_in :
+    Format → DiffStyle → View → (heads : List ℕ) → (rows : ℕ) → List Difference → List ℕ
+diff_in (formats.Text spelling) style view heads rows differences =
+    diff_text style view heads rows differences
+diff_in (formats.Json spelling) style view heads rows differences =
+    flat_map (difference_in (formats.Json spelling) view) differences
+    ++ stat_after (formats.Json spelling) style.stat rows differences

@@ -1,12 +1,14 @@
 -- What `events` tells of a capture, and what it promises: this project's own. Who does not use the
 -- command needs none of this page.
-use Rattle.std.specs.Prelude.{ℕ, ◌≡◌, ◌+◌, ◌≤◌, ◌^◌, Bool, false, not, ◌&&◌, List, [], ◌∷◌, ◌++◌}
-use Rattle.std.specs.Prelude.{Option, None, Some, IfSome, length, map}
+use Rattle.std.specs.Prelude.{ℕ, ◌≡◌, ◌+◌, ◌≤◌, ◌^◌, Bool, true, false, not, ◌&&◌, List, []}
+use Rattle.std.specs.Prelude.{◌∷◌, ◌++◌}
+use Rattle.std.specs.Prelude.{Option, None, Some, IfSome, length, map, nat_le, if◌then◌else◌}
 use Rattle.std.specs.BTreeMap.{is_at}
 use Rattle.std.specs.Io.KnownBytes.{Appends}
 use Rattle.std.specs.List.{AllByRecursion, filter, flat_map, list_any}
-use Rattle.std.specs.Map.{keys_of}
-use Rattle.std.specs.Option.{is_some, option_map}
+use Rattle.std.specs.List.Sorted.{IsStrictlySortedBy}
+use Rattle.std.specs.Map.{keys_of, lookup}
+use Rattle.std.specs.Option.{is_some, option_map, option_or}
 use Rattle.babel_prefix.specs.Address.{Address}
 use Rattle.babel_capture.specs.declared.missed.Missed.{Missed}
 use Rattle.babel_capture.specs.declared.place.Place.{Place}
@@ -18,23 +20,26 @@ use Rattle.babel_capture.specs.Counts.{Made}
 use Rattle.babel_capture.specs.Findings.{Found, found, missed_in, octets_found, origin_found}
 use Rattle.babel_capture.specs.Gathering.{Gathering, name_of}
 use Rattle.babel_capture.specs.Times.{time_of}
-use Rattle.babel_capture.specs.Window.{Extent, moment_up_to}
+use Rattle.babel_capture.specs.Window.{Extent, moment_from, moment_up_to}
+use Rattle.babel_capture.specs.declared.window.Moment.{Moment}
 use Rattle.babel_tlv.specs.Context.{first_context}
 use Rattle.babel_tlv.specs.Framing.{ArePlaced, TlvAt, packet_octets}
+use Rattle.babel_tlv.specs.Route.{Announcement}
 use Rattle.babel_tlv.specs.Says.{sayings}
 use Rattle.babel_table.specs.Counts.{counts_of}
 use Rattle.babel_table.specs.Counts.{Counts as Report}
-use Rattle.babel_table.specs.Moments.{told_from}
+use Rattle.babel_table.specs.Moments.{told_from as said_from}
 use Rattle.babel_timeline.specs.declared.change.Change.{Change}
 use Rattle.babel_timeline.specs.declared.telling.Telling.{Telling}
 use Rattle.babel_timeline.specs.declared.telling.Telling.TheVariants as tellings
 use Rattle.babel_timeline.specs.Accounts.{IsAccount, Said}
 use Rattle.babel_timeline.specs.Rows.{AllLast, Rows}
-use Rattle.babel_timeline.specs.Telling.{AreAnswers, AskedFor, said_of}
+use Rattle.babel_timeline.specs.Telling.{AreAnswers, AskedFor, answered, said_of}
 use Rattle.babel_dump.specs.CaptureRun.{IsOutcomeOf}
 use Rattle.babel_dump.specs.CaptureText.{senders_status}
 use Rattle.babel_dump.specs.Device.{GaveOctets, InputState}
 use Rattle.babel_dump.specs.EventText.{event_in, speaker_of}
+use Rattle.babel_dump.specs.EventText.{time_of as time_told}
 use Rattle.babel_dump.specs.Run.{Output}
 use Rattle.babel_dump.specs.declared.addr_pair.AddrPair.{AddrPair}
 use Rattle.babel_dump.specs.declared.events_job.Events.{Events}
@@ -66,7 +71,7 @@ pub record IsSaid (events : Events) (time : ℕ) (place : Place) (sender : Addre
   pub whole : packet ≡ packet_octets tlvs ++ rest
   pub placed : ArePlaced (at + 4) tlvs
   pub is : said ≡ said_of (asked_by events) events.view (record { sender = sender; place = place })
-      (told_from time
+      (said_from time
       (first_context (record { sender = sender; via_v6 = events.limits.via_v6 })) tlvs)
 
 -- what a record of a capture says: what its packet does, where it has one, and a time
@@ -122,10 +127,11 @@ pub record HaveTold (events : Events) (until : Option ℕ) (made : List Made)
   pub account : AreInOrder made → IsAccountOf events until made said changes rows
   pub are_told : AreTold (asked_by events) changes rows told
 
--- a record, and what it told
+-- a record, what it told, and what was answered just before the moment, where that came with it
 pub record Step : Type 0 where
   pub made : Made
   pub told : List (Telling Speaker)
+  pub opening : List (Telling Speaker)
 
 abbrev pub made_in : List Step → List Made
 made_in steps = map (λ step. step.made) steps
@@ -137,6 +143,70 @@ told_in steps = flat_map (λ step. step.told) steps
 abbrev pub HaveToldSo : Events → List Step → Type 0
 HaveToldSo events steps =
     (rows : Rows Speaker) × HaveTold events None (made_in steps) (told_in steps) rows
+
+-- ---- from a moment on
+
+-- when the first of these records came that has a time
+abbrev pub first_time : List Made → Option ℕ
+first_time [] = None
+first_time (one ∷ made) = option_or (time_of one.came) (first_time made)
+
+-- the moment, of a capture whose first record came then, or that has these records
+abbrev pub since_at : Option Moment → Option ℕ → Option ℕ
+since_at None first = None
+since_at (Some since) first = option_map (λ time. moment_from time since) first
+
+abbrev pub since_in : Option Moment → List Made → Option ℕ
+since_in since made = since_at since (first_time made)
+
+-- a time is of the moment or later, where there is one
+abbrev pub is_from : Option ℕ → ℕ → Bool
+is_from None time = true
+is_from (Some since) time = nat_le since time
+
+-- what is told of the moment or later, and what is told before it
+abbrev pub told_from : Option ℕ → List (Telling Speaker) → List (Telling Speaker)
+told_from since told = filter (λ one. is_from since (time_told one)) told
+
+abbrev pub told_early : Option ℕ → List (Telling Speaker) → List (Telling Speaker)
+told_early since told = filter (λ one. not (is_from since (time_told one))) told
+
+-- there is a moment, and it has come by this time, or with one of these records
+abbrev pub has_come : (since time : Option ℕ) → Bool
+has_come (Some since) (Some time) = nat_le since time
+has_come since time = false
+
+abbrev pub have_come : Option ℕ → List Made → Bool
+have_come since made = list_any (λ one. has_come since (time_of one.came)) made
+
+-- what a sender answers, told at a time
+abbrev pub answer_told : ℕ → Speaker × Announcement → Telling Speaker
+answer_told time answer = tellings.Answer time answer.0 (Some answer.1)
+
+-- each sender's last answer before the moment, if that is a route, told at it: by sender
+pub record AreJustBefore (since : ℕ) (told opening : List (Telling Speaker)) : Type 0 where
+  pub answers : List (Speaker × Announcement)
+  pub rising : IsStrictlySortedBy speaker_cmp (keys_of answers)
+  pub last : (speaker : Speaker) → lookup (is_at (speaker_cmp speaker)) answers
+      ≡ answered speaker_cmp (told_early (Some since) told) speaker
+  pub are : opening ≡ map (answer_told since) answers
+
+-- where the moment came, the answers just before it are told
+abbrev pub Opens : Option ℕ → (come : Bool) → (told opening : List (Telling Speaker)) → Type 0
+Opens (Some since) true told opening = AreJustBefore since told opening
+Opens since come told opening = opening ≡ []
+
+-- where it came by this time and not before, of these records and of what they told
+abbrev pub OpensBy : Option ℕ → (time : Option ℕ) → List Made
+    → (told opening : List (Telling Speaker)) → Type 0
+OpensBy since time before told opening =
+    Opens since (not (have_come since before) && has_come since time) told opening
+
+-- after these records, the moment came with this one if it did
+abbrev pub OpensRightly : Events → List Step → Step → Type 0
+OpensRightly events before step =
+    OpensBy (since_in events.since (made_in before ++ step.made ∷ [])) (time_of step.made.came)
+    (made_in before) (told_in before ++ step.told) step.opening
 
 -- ---- whose it is
 
@@ -191,11 +261,13 @@ is_lost made speaker =
 abbrev pub unlost : List Made → List (Telling Speaker) → List (Telling Speaker)
 unlost made told = filter (λ one. not (is_lost made (speaker_of one))) told
 
--- of what records told, behind these, that of senders that were not lost before
-abbrev pub written_in : List Made → List Step → List (Telling Speaker)
-written_in before [] = []
-written_in before (step ∷ later) =
-    unlost before step.told ++ written_in (before ++ step.made ∷ []) later
+-- of what records told, behind these, that from the moment on of senders that were not lost before
+abbrev pub written_in : Option Moment → List Made → List Step → List (Telling Speaker)
+written_in since before [] = []
+written_in since before (step ∷ later) =
+    let made = before ++ step.made ∷ [] in
+    unlost before (step.opening ++ told_from (since_in since made) step.told)
+    ++ written_in since made later
 
 -- the text is the lines of what is told, each with a name for its interface
 pub record AreLines (events : Events) (told : List (Telling Speaker)) (text : List ℕ) : Type 0 where
@@ -218,8 +290,9 @@ moment_read events blocks gathering =
     gathering.report.timing.latest
 
 -- The octets are a capture, whose records told what they say, one after another; and then all that
--- ends by the moment that it was read to is told. Of it this is written: of a sender nothing more
--- once a datagram of it was left out that lacks something. The answer is of what was read.
+-- ends by the moment that it was read to is told. Of it this is written: what is told of the moment
+-- or later that is asked for, behind the answers just before it; of a sender nothing more once a
+-- datagram of it was left out that lacks something. The answer is of what was read.
 pub record TellsCapture (events : Events) (octets : List ℕ) (written : List (Telling Speaker))
     (answer : EventsOutcome) : Type 0 where
   pub gathering : Gathering
@@ -230,6 +303,8 @@ pub record TellsCapture (events : Events) (octets : List ℕ) (written : List (T
   pub steps : List Step
   pub are_made : made_in steps ≡ is_read.is_read.gathered.made
   pub each : (front back : List Step) → steps ≡ front ++ back → HaveToldSo events front
+  pub opens : (front back : List Step) (step : Step) → steps ≡ front ++ step ∷ back
+      → OpensRightly events front step
   pub ended : List (Telling Speaker)
   pub rows : Rows Speaker
   pub have_told : HaveTold events (moment_read events is_read.is_read.blocks gathering)
@@ -237,7 +312,13 @@ pub record TellsCapture (events : Events) (octets : List ℕ) (written : List (T
   pub all_last : gathering.report.timing.has_untimed ≡ false
       → IfSome (moment_read events is_read.is_read.blocks gathering)
       (λ moment. AllLast speaker_cmp events.expiry moment rows)
-  pub written_is : written ≡ written_in [] steps ++ unlost (made_in steps) ended
+  pub opening : List (Telling Speaker)
+  pub opens_last : OpensBy (since_in events.since (made_in steps))
+      (if gathering.report.timing.has_untimed then None
+      else moment_read events is_read.is_read.blocks gathering)
+      (made_in steps) (told_in steps ++ ended) opening
+  pub written_is : written ≡ written_in events.since [] steps
+      ++ unlost (made_in steps) (opening ++ told_from (since_in events.since (made_in steps)) ended)
   pub senders : map (λ heard. heard.origin) answer.senders.items ≡ keys_of gathering.senders
   pub heard : AllByRecursion (IsHeardSender events (made_in steps) gathering) answer.senders.items
   pub outcome_is : IsOutcomeOf answer.outcome (senders_status gathering.senders) gathering.report cut

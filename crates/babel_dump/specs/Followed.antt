@@ -1,15 +1,20 @@
 -- How far a capture was followed, and what was heard of its senders.
-use Rattle.std.specs.Prelude.{ℕ, ◌≡◌, not, List, [], ◌∷◌, ◌++◌, Option, None, Some}
+use Rattle.std.specs.Prelude.{ℕ, ◌≡◌, Bool, false, not, ◌&&◌, ◌||◌, List, [], ◌∷◌, ◌++◌}
+use Rattle.std.specs.Prelude.{Option, None, Some}
 use Rattle.std.specs.Prelude.{length}
+use Rattle.std.specs.BTreeMap.{is_at}
 use Rattle.std.specs.BTreeSet.{BTreeSet, contains}
 use Rattle.std.specs.List.{filter, flat_map}
+use Rattle.std.specs.Map.{lookup}
+use Rattle.std.specs.Option.{option_or}
 use Rattle.babel_capture.specs.Counts.{Made}
 use Rattle.babel_capture.specs.Gathering.{Gathering, name_of}
 use Rattle.babel_capture.specs.Reading.{HasTaken}
 use Rattle.babel_capture.specs.declared.tallies.Origin.{Origin}
+use Rattle.babel_capture.specs.declared.window.Moment.{Moment}
 use Rattle.babel_timeline.specs.Hearing.{CountsPacket, octets_heard, report_of}
-use Rattle.babel_timeline.specs.Rows.{AllLast, Rows}
-use Rattle.babel_timeline.specs.Telling.{Tells, TellsEnds}
+use Rattle.babel_timeline.specs.Rows.{AllLast}
+use Rattle.babel_timeline.specs.Telling.{Tells, TellsEnds, answered}
 use Rattle.babel_timeline.specs.Accounts.{Said}
 use Rattle.babel_timeline.specs.declared.heard.Heard.{Heard}
 use Rattle.babel_timeline.specs.declared.teller.Teller.{Teller}
@@ -19,13 +24,17 @@ use Rattle.babel_dump.specs.EventText.{event_in, speaker_of}
 use Rattle.babel_dump.specs.EventsRun.{HaveTold, HaveToldSo, IsReportOf, IsSaid, Step}
 use Rattle.babel_dump.specs.EventsRun.{TellsCapture, WroteLines, asked_by, followed_by}
 use Rattle.babel_dump.specs.EventsRun.{followed_extent, is_lost, made_in, packets_heard}
-use Rattle.babel_dump.specs.EventsRun.{speaker_at, told_in, written_in}
+use Rattle.babel_dump.specs.EventsRun.{Opens, OpensRightly, first_time, has_come, have_come}
+use Rattle.babel_dump.specs.EventsRun.{since_at, since_in, speaker_at, told_early, told_from}
+use Rattle.babel_dump.specs.EventsRun.{told_in}
+use Rattle.babel_dump.specs.EventsRun.{written_in}
 use Rattle.babel_dump.specs.Run.{Output}
 use Rattle.babel_dump.specs.Speakers.{speaker_cmp}
 use Rattle.babel_dump.specs.declared.events.Followed.{Followed}
 use Rattle.babel_dump.specs.declared.events_job.Events.{Events}
 use Rattle.babel_dump.specs.declared.follower.Follower.{Follower}
 use Rattle.babel_dump.specs.declared.hearing.Hearing.{Hearing}
+use Rattle.babel_dump.specs.declared.since.Since.{Since}
 use Rattle.babel_dump.specs.declared.events_outcome.EventsOutcome.{EventsOutcome}
 use Rattle.babel_dump.specs.declared.speaker.Speaker.{Speaker}
 
@@ -42,6 +51,51 @@ pub record IsHeardOf (events : Events) (made : List Made) (heard : List (Speaker
   pub octets : octets_heard speaker_cmp heard speaker
       ≡ length (flat_map (λ packet. packet) (packets_heard speaker made))
 
+-- what senders answered last, of what was told, is kept
+abbrev pub HasAnswers : List (Telling Speaker) → Since → Type 0
+HasAnswers told kept = (speaker : Speaker)
+    → lookup (is_at (speaker_cmp speaker)) kept.answers.entries ≡ answered speaker_cmp told speaker
+
+-- The moment is this one, if one is known. Until it has come, what was answered before it is kept.
+pub record Awaits (since : Option ℕ) (come : Bool) (told : List (Telling Speaker)) (kept : Since)
+    : Type 0 where
+  pub moment : kept.moment ≡ since
+  pub has_come : kept.has_come ≡ come
+  pub answers : come ≡ false → HasAnswers (told_early since told) kept
+
+-- The moment may come by this time. What was answered before it is kept until then, and is told
+-- where it comes.
+abbrev pub ComesBy : (since : ℕ) → (time : Option ℕ) → (old : Since)
+    → (heard : List (Telling Speaker)) → (new : Since) → (told : List (Telling Speaker)) → Type 0
+ComesBy since time old heard new told =
+    (come : Bool) (earlier : List (Telling Speaker)) → Awaits (Some since) come earlier old
+    → Awaits (Some since) (come || has_come (Some since) time) (earlier ++ heard) new
+    × Opens (Some since) (not come && has_come (Some since) time) (earlier ++ heard) told
+
+-- of what is told up to a time, behind what was told before, this is told from the moment on
+pub record TellsFrom (since : Option ℕ) (come : Bool) (time : Option ℕ)
+    (earlier heard : List (Telling Speaker)) (kept : Since) (told : List (Telling Speaker))
+    : Type 0 where
+  pub opening : List (Telling Speaker)
+  pub opens : Opens since (not come && has_come since time) (earlier ++ heard) opening
+  pub awaits : Awaits since (come || has_come since time) (earlier ++ heard) kept
+  pub told_is : told ≡ opening ++ told_from since heard
+
+-- the same, whatever was told before
+abbrev pub TellsThen : (time : Option ℕ) → (old : Since) → (heard : List (Telling Speaker))
+    → (new : Since) → (told : List (Telling Speaker)) → Type 0
+TellsThen time old heard new told =
+    (since : Option ℕ) (come : Bool) (earlier : List (Telling Speaker))
+    → Awaits since come earlier old → TellsFrom since come time earlier heard new told
+
+-- the same of a record that came then, from which a moment may count
+abbrev pub TellsNext : Option Moment → (came : Option ℕ) → (old : Since)
+    → (heard : List (Telling Speaker)) → (new : Since) → (told : List (Telling Speaker)) → Type 0
+TellsNext asked came old heard new told =
+    (since : Option ℕ) (come : Bool) (earlier : List (Telling Speaker))
+    → Awaits since come earlier (record old { moment = option_or old.moment (since_at asked came) })
+    → TellsFrom since come came earlier heard new told
+
 -- the records were heard, one after another, and this is to be written of what they told
 pub record HasHeard (events : Events) (made : List Made) (written : List (Telling Speaker))
     (hearing : Hearing) : Type 0 where
@@ -50,7 +104,13 @@ pub record HasHeard (events : Events) (made : List Made) (written : List (Tellin
   pub are_made : made_in steps ≡ made
   pub each : (front back : List Step) → steps ≡ front ++ back → HaveToldSo events front
   pub have_told : HaveTold events None (made_in steps) (told_in steps) hearing.teller.timeline.rows
-  pub written_is : written ≡ written_in [] steps
+  pub written_is : written ≡ written_in events.since [] steps
+  pub opens : (front back : List Step) (step : Step) → steps ≡ front ++ step ∷ back
+      → OpensRightly events front step
+  pub awaits : Awaits (since_in events.since (made_in steps))
+      (have_come (since_in events.since (made_in steps)) (made_in steps)) (told_in steps)
+      hearing.since
+  pub quiet : first_time (made_in steps) ≡ None → told_in steps ≡ []
   pub lost : (speaker : Speaker)
       → contains speaker_cmp hearing.lost speaker ≡ is_lost (made_in steps) speaker
   pub heard : (speaker : Speaker)
@@ -101,20 +161,23 @@ pub record HasFollowed (events : Events) (old new : InputState) (writer : Output
   pub gave : GaveOctets old new octets
   pub goes : Goes events octets [] writer followed
 
--- what has ended by this moment is told, and is to be written where its sender is not lost
-pub record EndsBy (events : Events) (moment : ℕ) (rows after : Rows Speaker)
-    (lost : BTreeSet Speaker) (old new : List (Telling Speaker)) : Type 0 where
+-- What has ended by this moment is told. Of it this is to be written: that from the moment on of
+-- senders that are not lost.
+pub record EndsBy (events : Events) (moment : ℕ) (old new : Hearing)
+    (before told : List (Telling Speaker)) : Type 0 where
   pub ended : List (Telling Speaker)
-  pub tells : TellsEnds speaker_cmp events.expiry (asked_by events) moment rows after [] ended
-  pub last : AllLast speaker_cmp events.expiry moment after
-  pub written : new ≡ old ++ unlost_by lost ended
+  pub tells : TellsEnds speaker_cmp events.expiry (asked_by events) moment old.teller.timeline.rows
+      new.teller.timeline.rows [] ended
+  pub last : AllLast speaker_cmp events.expiry moment new.teller.timeline.rows
+  pub printed : List (Telling Speaker)
+  pub from : TellsThen (Some moment) old.since ended new.since printed
+  pub written : told ≡ before ++ unlost_by old.lost printed
 
 -- the same where there is a moment, and nothing where there is none
 abbrev pub EndsAt : Events → Option ℕ → (old new : Followed) → Type 0
 EndsAt events None old new = new.follower ≡ old.follower
 EndsAt events (Some moment) old new =
-    EndsBy events moment old.follower.hearing.teller.timeline.rows
-    new.follower.hearing.teller.timeline.rows old.follower.hearing.lost old.follower.told.items
+    EndsBy events moment old.follower.hearing new.follower.hearing old.follower.told.items
     new.follower.told.items
 
 -- These octets are all of a capture that was followed so far. The writer took the lines of what is

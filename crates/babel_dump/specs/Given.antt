@@ -2,6 +2,7 @@
 use Rattle.std.specs.Prelude.{ℕ, ◌≡◌, ◌≢◌, ◌^◌, max, Bool, false, true, List, length}
 use Rattle.std.specs.Prelude.{Option, None, Some}
 use Rattle.babel_prefix.specs.Address.{Address}
+use Rattle.babel_capture.specs.Capture.{IsReadToCut}
 use Rattle.babel_capture.specs.Counts.{Made}
 use Rattle.babel_capture.specs.Gathering.{Gathering}
 use Rattle.babel_capture.specs.declared.wanted.Wanted.{Wanted}
@@ -16,7 +17,7 @@ use Rattle.babel_table.specs.TableOf.{IsTableOf}
 use Rattle.babel_table.specs.DumpFault.{DumpFault, HasNoFault}
 use Rattle.babel_table.specs.Rows.{Routes}
 use Rattle.babel_dump.specs.CaptureGiven.{BeginsWith, CaptureInput, GaveCapture, capture_from}
-use Rattle.babel_dump.specs.CaptureGiven.{made_in, moment_in}
+use Rattle.babel_dump.specs.CaptureGiven.{IsAccepted, extent_of, made_in, moment_in}
 use Rattle.babel_dump.specs.Device.{Gave, GaveOctets, InputState}
 use Rattle.babel_dump.specs.LeftOut.{first_left_out}
 use Rattle.babel_dump.specs.Packets.{packets_made}
@@ -183,11 +184,21 @@ pub record IsFaultInCapture (reading : Reading) (octets : List ℕ) (fault : Fau
       (dump_heard (packets_made made)) fault
   pub not_whole : ¬ IsOfWhole fault
 
--- it is that of the octets that the reader gave
+-- where the octets are a capture, the sender is at one place in it
+abbrev pub IsAtOnePlace : Reading → List ℕ → Type 0
+IsAtOnePlace reading octets =
+    (gathering : Gathering) (cut : Option ℕ)
+    → IsReadToCut (extent_of (capture_reading_of reading)) octets gathering cut
+    → gathering.wanted ≡ wanted_by reading → IsAccepted reading.accept_cut cut
+    → length gathering.senders ≡ 1
+
+-- it is that of the octets that the reader gave; and of all that it had this holds
 pub record IsFaultOfCaptured (reader : Input) (fault : Fault) : Type 0 where
   pub given : List ℕ
   pub gave : Gave reader.old reader.new given
   pub is_fault : IsFaultInCapture reader.reading given fault
+  pub at_one : (octets : List ℕ) → reader.old.left ≡ Some octets
+      → IsAtOnePlace reader.reading octets
 
 abbrev pub IsFaultOfInput : (is_capture : Bool) → Input → Fault → Type 0
 IsFaultOfInput false = IsFaultOfStream

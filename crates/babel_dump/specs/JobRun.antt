@@ -1,13 +1,13 @@
 -- What the run of a job promises, by the kinds of work: this project's own.
 use Rattle.std.specs.Prelude.{ℕ, List, Option, None, Some, Result}
 use Rattle.babel_dump.specs.CaptureGiven.{CaptureInput, capture_from}
+use Rattle.babel_dump.specs.CaptureRun.{CaptureCause, IsOnSeveral, SaysOfCapture, wanted_of}
 use Rattle.babel_dump.specs.Each.{EachCause, LooksUpAsked}
 use Rattle.babel_dump.specs.Files.{name_of}
 use Rattle.babel_dump.specs.Given.{Reads, dump_of}
 use Rattle.babel_dump.specs.Run.{Called, Calls, InputCause, OfFirst, Output, Ran, calls_of, capture_calls}
 use Rattle.babel_dump.specs.Run.{stream_calls}
-use Rattle.babel_dump.specs.Tasks.{CaptureTaskCause, CaptureTaskSays, ComparisonCause}
-use Rattle.babel_dump.specs.Tasks.{ComparisonSays, IsFaultOf, TaskSays, wanted_of}
+use Rattle.babel_dump.specs.Tasks.{ComparisonCause, ComparisonSays, IsFaultOf, TaskSays}
 use Rattle.babel_dump.specs.declared.capture_reading.CaptureReading.{CaptureReading}
 use Rattle.babel_dump.specs.declared.job.CaptureTask.{CaptureTask}
 use Rattle.babel_dump.specs.declared.job.Job.{Job}
@@ -29,7 +29,7 @@ SaysBy (works.Two first second view task) job reader other =
     ComparisonSays task job.format view (name_of first.file) (name_of second.file)
     (dump_of reader first.reading) (dump_of other second.reading)
 SaysBy (works.Capture reading file task) job reader other =
-    CaptureTaskSays task job.format (capture_of reader reading task)
+    SaysOfCapture task job.format (capture_of reader reading task)
 
 -- why it says nothing; `untouched` says that the other reader is as it was
 abbrev pub CauseBy : Work → (reader other : Reads) → (untouched : Type 0) → RunFault → Type 0
@@ -42,7 +42,8 @@ CauseBy (works.Two first second view task) reader other untouched =
     ComparisonCause task view (dump_of reader first.reading)
     (dump_of other second.reading) untouched
 CauseBy (works.Capture reading file task) reader other untouched =
-    OfFirst (CaptureTaskCause task (capture_of reader reading task))
+    let capture = capture_of reader reading task in
+    OfFirst (CaptureCause capture (IsOnSeveral capture))
 
 -- how often it may call its first reader, and the other where it reads that too
 abbrev pub first_calls : Work → Reads → Calls

@@ -19,9 +19,11 @@ pub record FoundKey : Type 0 where
   pub origin : Origin
   pub key : Result MadeKey InputFault
 
-abbrev pub IsFound : SenderKeys → List Made → (moment : Option ℕ) → FoundKey → Type 0
-IsFound keys made moment found =
-    MatchResult found.key (IsSenderKey keys made moment found.origin)
+abbrev pub IsFound :
+    SenderKeys → List Made → (moment : Option ℕ) → Gathering → FoundKey → Type 0
+IsFound keys made moment gathering found =
+    MatchResult found.key
+    (IsSenderKey keys made moment found.origin (name_of gathering found.origin.place.interface))
     (NoSenderKey keys made moment found.origin)
 
 -- its line, the rows of its table, and what was read for it
@@ -68,5 +70,5 @@ pub record AreKeys (keys : SenderKeys) (records : List Made) (moment : Option �
     (gathering : Gathering) (senders : List Origin) (made : MadeKeys) : Type 0 where
   pub found : List FoundKey
   pub of_each : map (λ one. one.origin) found ≡ senders
-  pub are_found : AllByRecursion (IsFound keys records moment) found
+  pub are_found : AllByRecursion (IsFound keys records moment gathering) found
   pub told : TellsKeys keys gathering found made

@@ -1,26 +1,22 @@
 -- Laws of the definitions: what a job's run answers and writes is settled by the octets of its
 -- readers. These are this project's own.
-use Rattle.std.specs.Prelude.{◌≡◌, ◌≢◌, ◌⊎◌, ℕ, Bool, true, false, List, ◌++◌, length, take}
-use Rattle.std.specs.Prelude.{Option, Some, Result, Ok, Err}
+use Rattle.std.specs.Prelude.{◌≡◌, ◌≢◌, ℕ, Bool, true, false, List, ◌++◌, take}
+use Rattle.std.specs.Prelude.{Some, Result, Ok, Err}
 use Rattle.babel_prefix.specs.Address.{Address}
-use Rattle.babel_capture.specs.Capture.{IsReadToCut}
-use Rattle.babel_capture.specs.Gathering.{Gathering}
 use Rattle.babel_capture.specs.declared.place.Place.{Place}
 use Rattle.babel_tlv.specs.declared.fault.Fault.{Fault}
 use Rattle.babel_tlv.specs.declared.fault.Fault.TheVariants as faults
 use Rattle.babel_table.specs.DumpFault.{DumpFault}
-use Rattle.babel_dump.specs.CaptureGiven.{CaptureInput, extent_of}
+use Rattle.babel_dump.specs.CaptureGiven.{CaptureInput}
 use Rattle.babel_dump.specs.CaptureRun.{IsOnSeveral}
 use Rattle.babel_dump.specs.Files.{reading_of}
-use Rattle.babel_dump.specs.Given.{IsFaultInCapture, Reads, capture_reading_of, wanted_by}
+use Rattle.babel_dump.specs.Given.{IsAtOnePlace, IsFaultInCapture, Reads}
 use Rattle.babel_dump.specs.JobRun.{RanJob}
 use Rattle.babel_dump.specs.Run.{Output}
 use Rattle.babel_dump.specs.declared.input_fault.InputFault.{InputFault}
 use Rattle.babel_dump.specs.declared.input_fault.InputFault.TheVariants as input_faults
 use Rattle.babel_dump.specs.declared.interfaces.Interfaces.{Interfaces}
 use Rattle.babel_dump.specs.declared.job.Job.{Job}
-use Rattle.babel_dump.specs.declared.job.Work.{Work}
-use Rattle.babel_dump.specs.declared.left_out.LeftOutDatagram.{LeftOutDatagram}
 use Rattle.babel_dump.specs.declared.outcome.Outcome.{Outcome}
 use Rattle.babel_dump.specs.declared.pairs_fault.PairsFault.TheVariants as pairs_faults
 use Rattle.babel_dump.specs.declared.reading.Reading.{Reading}
@@ -79,50 +75,27 @@ OutcomeOrFault =
     → RanOver job octets other before_too after_too (Err fault)
     → ¬ IsOfOctets fault
 
--- what a dump on a side is
-abbrev pub octets_at : Side → (octets other : List ℕ) → List ℕ
-octets_at sides.First octets other = octets
-octets_at sides.Other octets other = other
-
--- the octets are a capture in which the sender of the dump is not at one place
-pub record IsNotAtOnePlace (reading : Reading) (octets : List ℕ) : Type 0 where
-  pub is_capture : reading.is_capture ≡ true
-  pub gathering : Gathering
-  pub cut : Option ℕ
-  pub is_read : IsReadToCut (extent_of (capture_reading_of reading)) octets gathering cut
-  pub wanted_is : gathering.wanted ≡ wanted_by reading
-  pub not_one : length gathering.senders ≢ 1
-
--- of a capture in which the sender is not at one place one run answers the dump's fault, and
--- another that a datagram was left out
-pub record MayDiffer (work : Work) (octets other : List ℕ) (fault fault_too : RunFault) :
-    Type 0 where
-  pub side : Side
-  pub reading : Reading
-  pub is_read : reading_of side work ≡ Some reading
-  pub not_at_one : IsNotAtOnePlace reading (octets_at side octets other)
-  pub own : Fault
-  pub datagram : LeftOutDatagram
-  pub fault_is : fault ≡ run_faults.Input side (input_faults.Dump own)
-  pub fault_too_is : fault_too ≡ run_faults.Input side (input_faults.LeftOut datagram)
-
--- where two answer a fault of the octets, it is the same; or they may differ so
+-- where two answer a fault of the octets, it is the same
 abbrev pub FaultIsOne : Type 0
 FaultIsOne =
     (job : Job) (octets other : List ℕ) (before after before_too after_too : List ℕ)
     (fault fault_too : RunFault)
     → RanOver job octets other before after (Err fault)
     → RanOver job octets other before_too after_too (Err fault_too)
-    → IsOfOctets fault → IsOfOctets fault_too
-    → (fault ≡ fault_too)
-    ⊎ (MayDiffer job.work octets other fault fault_too
-    ⊎ MayDiffer job.work octets other fault_too fault)
+    → IsOfOctets fault → IsOfOctets fault_too → fault ≡ fault_too
 
--- the octets, read so, have the fault: as a dump, or as a capture that has it
+-- what a dump on a side is
+abbrev pub octets_at : Side → (octets other : List ℕ) → List ℕ
+octets_at sides.First octets other = octets
+octets_at sides.Other octets other = other
+
+-- the octets, read so, have the fault: as a dump, or as a capture that has it, in which the sender
+-- is at one place
 abbrev pub IsFaultOfOctets : (is_capture : Bool) → Reading → List ℕ → Fault → Type 0
-IsFaultOfOctets false reading octets =
-    DumpFault reading.limits reading.mode reading.sender octets
-IsFaultOfOctets true reading octets = IsFaultInCapture reading octets
+IsFaultOfOctets false reading octets fault =
+    DumpFault reading.limits reading.mode reading.sender octets fault
+IsFaultOfOctets true reading octets fault =
+    IsFaultInCapture reading octets fault × IsAtOnePlace reading octets
 
 -- A dump's fault is that of all octets that its reader had; but for out of memory, and for too
 -- many pairs, which no octets have.

@@ -9,13 +9,17 @@ use Rattle.babel_table.specs.Rows.{Routes}
 use Rattle.babel_table.specs.Feeding.{Progress, HasRead}
 use Rattle.babel_table.specs.declared.answer.Answer.{Answer}
 use Rattle.babel_dump.specs.AskedPairs.{IsFirstWrong}
+use Rattle.babel_dump.specs.CaptureGiven.{CaptureInput}
+use Rattle.babel_dump.specs.CaptureRun.{CaptureCause, IsOnSeveral, SaysOfCapture}
 use Rattle.babel_dump.specs.Command.{IsOfMany, IsOfMemory, OfBoth}
 use Rattle.babel_dump.specs.Given.{GaveAll, Input, Reads}
 use Rattle.babel_dump.specs.JobRun.{CauseBy, OtherCalled, SaysBy, first_calls, other_calls}
-use Rattle.babel_dump.specs.Run.{Called, Calls}
+use Rattle.babel_dump.specs.Run.{Called, Calls, OfFirst, capture_calls}
 use Rattle.babel_dump.specs.RunText.{answer_in}
 use Rattle.babel_dump.specs.SlicedRows.{found_text}
 use Rattle.babel_dump.specs.declared.both.SeenTables.{SeenTables}
+use Rattle.babel_dump.specs.declared.format.Format.{Format}
+use Rattle.babel_dump.specs.declared.job.CaptureTask.{CaptureTask}
 use Rattle.babel_dump.specs.declared.job.Job.{Job}
 use Rattle.babel_dump.specs.declared.outcome.Outcome.{Outcome}
 use Rattle.babel_dump.specs.declared.pairs_fault.PairsFault.TheVariants as pairs_faults
@@ -47,6 +51,13 @@ pub record Gathered {T E : Type 0} (calls : Calls) (Cause : E → Type 0) (Made 
 -- what was found says this in its text and its outcome
 abbrev pub Says : (List ℕ → Outcome → Type 0) → Found → Type 0
 Says Holds found = Holds (found_text found) found.outcome
+
+-- what a task finds of a capture that a reader gave
+abbrev pub FoundIn :
+    CaptureTask → Format → (reader : CaptureInput) → Result Found RunFault → Type 0
+FoundIn task format reader =
+    Gathered (capture_calls reader) (OfFirst (CaptureCause reader (IsOnSeveral reader)))
+    (Says (SaysOfCapture task format reader))
 
 -- why nothing was found of a table: it has too many pairs, of which this holds, or memory ran out
 abbrev pub FoundTooMany : (Many : Type 0) → Fault → Type 0

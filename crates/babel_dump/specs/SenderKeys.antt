@@ -23,18 +23,21 @@ use Rattle.babel_table.specs.Seen.{seen_rows}
 use Rattle.babel_dump.specs.CaptureGiven.{CaptureInput, GaveCapture, GaveSound, capture_from}
 use Rattle.babel_dump.specs.CaptureGiven.{made_in, moment_in}
 use Rattle.babel_dump.specs.CaptureRun.{CaptureCause, IsNoFault}
+use Rattle.babel_dump.specs.CaptureText.{name_json, place_json}
 use Rattle.babel_dump.specs.Device.{InputState}
 use Rattle.babel_dump.specs.DiffText.{place_text}
 use Rattle.babel_dump.specs.Fed.{AreWhole}
 use Rattle.babel_dump.specs.Files.{name_of}
 use Rattle.babel_dump.specs.Given.{IsTableRead, capture_limit, expired, usual_reading}
-use Rattle.babel_dump.specs.KeyText.{key_line}
+use Rattle.babel_dump.specs.InFormat.{in_format}
+use Rattle.babel_dump.specs.KeyText.{file_member, key_in}
 use Rattle.babel_dump.specs.LeftOut.{first_whole_left_out}
 use Rattle.babel_dump.specs.Octets.{AreOctets, HasTooMany}
 use Rattle.babel_dump.specs.Packets.{packets_made}
 use Rattle.babel_dump.specs.Spelling.{address_text}
 use Rattle.babel_dump.specs.Strict.{IsNotReadWhole, IsReadWhole}
 use Rattle.babel_dump.specs.declared.capture_reading.CaptureReading.{CaptureReading}
+use Rattle.babel_dump.specs.declared.format.Format.{Format}
 use Rattle.babel_dump.specs.declared.input_fault.InputFault.{InputFault}
 use Rattle.babel_dump.specs.declared.input_fault.InputFault.TheVariants as input_faults
 use Rattle.babel_dump.specs.declared.job.Form.{Form}
@@ -85,6 +88,17 @@ abbrev pub sender_name : (file : List ℕ) → Origin → List ℕ
 sender_name file origin =
     file ++ codes " " ++ address_text spellings.Long origin.sender
     ++ place_text (Some origin.place)
+
+-- `"file":"FILE","sender":"ADDRESS","interface":N,"link":N,"vlans":[N,N],"name":"NAME"`
+abbrev pub sender_members : (file : List ℕ) → Origin → (name : List ℕ) → List ℕ
+sender_members file origin name =
+    file_member file ++ codes ",\"sender\":\"" ++ address_text spellings.Long origin.sender
+    ++ place_json origin.place ++ name_json name
+
+-- what names the dump of a sender whose interface has this name
+abbrev pub origin_in : Format → (file : List ℕ) → Origin → (name : List ℕ) → List ℕ
+origin_in format file origin name =
+    in_format format (sender_name file origin) (sender_members file origin name)
 
 -- ---- what was heard of one sender
 
@@ -182,13 +196,13 @@ SendersCause keys reader fault = CaptureCause reader IsNoFault fault
 
 -- ---- the key of one sender
 
--- what `key` makes of a table: the line of the key of its octets, which names this, and the report
--- and the number of rows of the table
-pub record IsKeyOf (form : Form) (reading : Reading) (view : View) (name : List ℕ) (key : MadeKey)
-    (table : Routes) : Type 0 where
+-- what `key` makes of a table: the line of the key of its octets, which are named so, and the
+-- report and the number of rows of the table
+pub record IsKeyOf (form : Form) (reading : Reading) (view : View) (format : Format)
+    (named : List ℕ) (key : MadeKey) (table : Routes) : Type 0 where
   pub octets : List ℕ
   pub are : AreOctets form reading view 1024 table octets
-  pub line_is : key.line.items ≡ key_line octets name
+  pub line_is : key.line.items ≡ key_in format octets named
   pub report_is : key.report ≡ table.report
   pub rows_is : key.rows ≡ length table.rows
 
@@ -206,14 +220,14 @@ pub record IsOwnTable (keys : SenderKeys) (made : List Made) (moment : Option �
   pub is_table : IsTableRead (expired keys.expiry moment) (own_reading keys origin)
       (own_packets origin made) table
 
--- it has this key
+-- it has this key, where its interface has this name
 pub record IsSenderKey (keys : SenderKeys) (made : List Made) (moment : Option ℕ) (origin : Origin)
-    (key : MadeKey) : Type 0 where
+    (name : List ℕ) (key : MadeKey) : Type 0 where
   pub table : Routes
   pub is_own : IsOwnTable keys made moment origin table
   pub strict : keys.strict ≡ true → IsReadWhole None table.report
-  pub is_key : IsKeyOf keys.form (own_reading keys origin) keys.view
-      (sender_name (name_of keys.file) origin) key table
+  pub is_key : IsKeyOf keys.form (own_reading keys origin) keys.view keys.format
+      (origin_in keys.format (name_of keys.file) origin name) key table
 
 -- or none: a datagram of it is missed; or its dump is refused, or has no canonical form; or, where
 -- it is read strictly, something of it was left unread

@@ -1,32 +1,24 @@
 -- What each task finds of tables, or that this is too much; and so what it says of what it reads,
 -- and why it says nothing: this project's own.
-use Rattle.std.specs.Prelude.{ℕ, Bool, true, false, List, Some}
-use Rattle.babel_capture.specs.declared.wanted.Wanted.{Wanted}
-use Rattle.babel_capture.specs.Findings.{everyone}
+use Rattle.std.specs.Prelude.{ℕ, Bool, true, false, List}
 use Rattle.babel_tlv.specs.declared.fault.Fault.{Fault}
 use Rattle.babel_tlv.specs.declared.view.View.{View}
 use Rattle.babel_table.specs.Bounds.{Bounds}
 use Rattle.babel_table.specs.Rows.{Routes}
 use Rattle.babel_table.specs.Seen.{seen_rows}
 use Rattle.babel_dump.specs.AnySource.{LooksUpAnySource}
-use Rattle.babel_dump.specs.CaptureGiven.{CaptureInput}
-use Rattle.babel_dump.specs.CaptureRun.{CaptureCause, Extracts, IsNoFault, IsOnSeveral}
-use Rattle.babel_dump.specs.CaptureRun.{ListsSenders}
 use Rattle.babel_dump.specs.Command.{CompareCause, Compares, HasManyDifferences, IsFaultWith}
 use Rattle.babel_dump.specs.Command.{ListsDifferences, ListsPairs, LooksUp, SaysOf}
 use Rattle.babel_dump.specs.Command.{SaysOfBoth, Tells, TellsRoutes, WritesOctets}
-use Rattle.babel_dump.specs.DiffText.{diff_text, head_lines}
+use Rattle.babel_dump.specs.DiffText.{diff_in, head_lines}
 use Rattle.babel_dump.specs.Filter.{kept_pairs_in, kept_rows}
 use Rattle.babel_dump.specs.Given.{Input}
 use Rattle.babel_dump.specs.InFormat.{listed_in, rows_or_count_in}
-use Rattle.babel_dump.specs.KeyText.{key_line}
+use Rattle.babel_dump.specs.KeyText.{file_in, key_in}
 use Rattle.babel_dump.specs.Octets.{AreOctets, HasTooMany}
 use Rattle.babel_dump.specs.RunText.{answer_in, form_text}
 use Rattle.babel_dump.specs.Summary.{shown_in}
 use Rattle.babel_dump.specs.declared.format.Format.{Format}
-use Rattle.babel_dump.specs.declared.input_fault.InputFault.{InputFault}
-use Rattle.babel_dump.specs.declared.job.CaptureTask.{CaptureTask}
-use Rattle.babel_dump.specs.declared.job.CaptureTask.TheVariants as capture_tasks
 use Rattle.babel_dump.specs.declared.job.Comparison.{Comparison}
 use Rattle.babel_dump.specs.declared.job.Comparison.TheVariants as comparisons
 use Rattle.babel_dump.specs.declared.job.Form.TheVariants as forms
@@ -50,8 +42,8 @@ TaskFinds (tasks.AnySource dst) format quiet file reading table =
 TaskFinds (tasks.Normalise form view body hex) format quiet file reading table =
     WritesOctets (AreOctets form reading view body table) (form_text hex) table.report
 TaskFinds (tasks.Key form view) format quiet file reading table =
-    WritesOctets (AreOctets form reading view 1024 table) (λ octets. key_line octets file)
-    table.report
+    WritesOctets (AreOctets form reading view 1024 table)
+    (λ octets. key_in format octets (file_in format file)) table.report
 TaskFinds (tasks.Pairs forms.Answers view filter count) format quiet file reading table =
     ListsPairs reading.limits view (kept_pairs_in format view filter count) table
 TaskFinds (tasks.Pairs forms.Routes view filter count) format quiet file reading table =
@@ -91,7 +83,7 @@ ComparisonFinds (comparisons.Compare forms.Routes listed) format view file secon
     other_reading = TellsRoutes (λ rows differences. listed_in format view listed differences)
 ComparisonFinds (comparisons.Diff style) format view file second reading other_reading =
     TellsRoutes
-    (diff_text style view (head_lines style.spelling file second reading other_reading))
+    (diff_in format style view (head_lines style.spelling file second reading other_reading))
 
 -- they have too many differences for it
 abbrev pub ComparisonFindsTooMany : Comparison → Bounds → (table other : Routes) → Type 0
@@ -114,19 +106,3 @@ abbrev pub ComparisonCause :
     Comparison → View → (dump other : Input) → (untouched : Type 0) → RunFault → Type 0
 ComparisonCause task view dump other =
     CompareCause dump other view (ComparisonFindsTooMany task dump.reading.limits)
-
--- whose datagrams of a capture are wanted
-abbrev pub wanted_of : CaptureTask → Wanted
-wanted_of capture_tasks.Senders = everyone
-wanted_of (capture_tasks.Extract sender place hex) =
-    record { sender = Some sender; place = place }
-
--- what is said of it, and why nothing is
-abbrev pub CaptureTaskSays : CaptureTask → Format → CaptureInput → List ℕ → Outcome → Type 0
-CaptureTaskSays capture_tasks.Senders format capture = ListsSenders capture format
-CaptureTaskSays (capture_tasks.Extract sender place hex) format capture = Extracts capture hex
-
-abbrev pub CaptureTaskCause : CaptureTask → CaptureInput → InputFault → Type 0
-CaptureTaskCause capture_tasks.Senders capture = CaptureCause capture IsNoFault
-CaptureTaskCause (capture_tasks.Extract sender place hex) capture =
-    CaptureCause capture (IsOnSeveral capture)

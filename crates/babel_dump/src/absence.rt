@@ -65,11 +65,16 @@ impl fmt::Display for Absence {
         if let Some(place) = self.place {
             write!(f, " at{}", PlaceInWords(place))?;
         }
-        match (text_of(self.since), text_of(self.until)) {
-            (Some(since), Some(until)) => write!(f, " from {since} to {until}")?,
-            (Some(since), None) => write!(f, " since {since}")?,
-            (None, Some(until)) => write!(f, " until {until}")?,
-            (None, None) => {}
+        let (since, until) = (text_of(self.since), text_of(self.until));
+        let (from, to) = match (since, until) {
+            (Some(_), Some(_)) => (" from ", " to "),
+            _ => (" since ", " until "),
+        };
+        if let Some(since) = since {
+            write!(f, "{from}{since}")?;
+        }
+        if let Some(until) = until {
+            write!(f, "{to}{until}")?;
         }
         match self.first {
             Some(first) => write!(f, "; its first came at {}", TimeText(first)),

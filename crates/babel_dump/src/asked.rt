@@ -73,15 +73,17 @@ impl Asked {
         }
     }
 
-    /// How addresses are written in the notes of the output, if it is JSON and has notes.
+    /// How addresses are written in the notes of the output, if it is JSON and has notes; that of
+    /// `key` has none.
     pub(crate) fn json_notes(&self) -> Option<Spelling> {
         let format = match self {
             Asked::Job(job) => job.format,
-            Asked::SenderKeys(_) => return None,
+            Asked::SenderKeys(keys) => keys.format,
             Asked::Events(events) => events.format,
         };
+        let is_key = self.named().0.is_some();
         match format {
-            Format::Json(spelling) if !self.is_quiet() => Some(spelling),
+            Format::Json(spelling) if !self.is_quiet() && !is_key => Some(spelling),
             _ => None,
         }
     }

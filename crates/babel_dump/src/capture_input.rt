@@ -1,9 +1,11 @@
 //! What a reader gives, as a capture whose packets a sink takes.
-ghost use Rattle.std.specs.Prelude.{◌≡◌, ℕ, [], None, Some, IfOk, IfErr, OnOk, false, true};
+ghost use Rattle.std.specs.Prelude.{◌≡◌, ◌≤◌, ℕ, [], None, Some, IfOk, IfErr, OnOk, false};
+ghost use Rattle.std.specs.Prelude.{length, true};
+ghost use Rattle.std.specs.Option.{is_some};
 ghost use Rattle.babel_capture.specs.Capture.{HasRead};
 ghost use Rattle.babel_dump.specs.CaptureGiven.{GaveRead, IsAccepted, IsFedWhole, TookSome};
 ghost use Rattle.babel_dump.specs.CaptureGiven.{capture_from, extent_of};
-ghost use Rattle.babel_dump.specs.CaptureRun.{CaptureCause, FeedCause, IsNoFault};
+ghost use Rattle.babel_dump.specs.CaptureRun.{CaptureCause, FeedCause, IsNoFault, IsOnSeveral};
 ghost use Rattle.babel_dump.specs.Device.{HasRoomToCount};
 ghost use Rattle.babel_dump.specs.LeftOut.{LeavesNoneOut, first_left_out};
 ghost use Rattle.babel_dump.specs.Parts.{Gathered};
@@ -14,6 +16,7 @@ use crate::absence::Absence;
 use crate::byte_in::ByteIn;
 use crate::capture_reading::CaptureReading;
 use crate::input_fault::InputFault;
+use crate::interfaces::interfaces_of;
 use crate::left_out::first_left_out;
 use babel_capture::{Capture, Fault, Report, Sink, Wanted};
 use std::alloc::Global;
@@ -62,6 +65,30 @@ pub(crate) fn read_capture<R: ByteIn, S: Sink>(
         moment,
         absence,
     })
+}
+
+/// Reads a capture so for the packets of one sender, who may have sent at one place alone.
+pub(crate) fn read_of_one<R: ByteIn, S: Sink>(
+    alloc: Global,
+    reading: CaptureReading,
+    wanted: Wanted,
+    reader: &mut R,
+    sink: &mut S,
+) -> Result<CaptureRead, InputFault>
+    requires counts { HasRoomToCount (R.state reader.old) }
+    requires one_wanted { is_some wanted.sender ≡ true }
+    ensures { let input = capture_from (R.state reader.old) (R.state reader.new) reading wanted in
+        Gathered (capture_calls input) (CaptureCause input (IsOnSeveral input))
+        (λ read. GaveRead S.has sink.old sink.new input read
+        × (length read.gathered.senders ≤ 1)) result }
+{
+    let read = read_capture(alloc, reading, wanted, reader, sink)?;
+    let senders = read.gathered.senders();
+    if senders.len() > 1 {
+        let interfaces = interfaces_of(alloc, senders)?;
+        return Err(InputFault::SeveralInterfaces(interfaces));
+    }
+    Ok(read)
 }
 
 /// A capture that is to be read so, and of which nothing was read.

@@ -1,11 +1,12 @@
 //! The dump of a sender in a capture, as a feeder holds it.
-ghost use Rattle.std.specs.Prelude.{◌≡◌, ◌⊎◌, ◌↔◌, ℕ, List, None, IfErr, IfOk, IfSome, IsTrue};
-ghost use Rattle.std.specs.Prelude.{OnOk, length, true};
+ghost use Rattle.std.specs.Prelude.{◌≡◌, ◌≢◌, ◌⊎◌, ◌↔◌, ℕ, List, None, IfErr, IfOk, IfSome};
+ghost use Rattle.std.specs.Prelude.{IsTrue, OnOk, length, true};
 ghost use Rattle.std.specs.Option.{is_some};
 ghost use Rattle.std.specs.Result.{IsErrAnd, IsOkAnd};
 ghost use Rattle.babel_capture.specs.Capture.{HasRead};
 ghost use Rattle.babel_dump.specs.Device.{HasRoomToCount};
 ghost use Rattle.babel_dump.specs.Fed.{EndsRefused, EndsWith, IsFed, IsNotOnePlace};
+ghost use Rattle.babel_dump.specs.Fed.{IsToldAfter};
 ghost use Rattle.babel_dump.specs.Given.{IsFaultOfGiven, expired, read_from};
 ghost use Rattle.babel_dump.specs.LeftOut.{first_left_out};
 ghost use Rattle.babel_dump.specs.Parts.{Gathered};
@@ -50,7 +51,7 @@ pub(crate) fn read_captured<R: ByteIn>(
 }
 
 /// Why a capture is refused whose sender's packets have this fault, after what feeding it answered:
-/// the fault is not told of a sender at several places.
+/// the fault is told of a sender at one place, but not where a read failed or memory ran out.
 fn dump_refused(
     alloc: Global,
     reading: &Reading,
@@ -59,19 +60,23 @@ fn dump_refused(
     fault: Fault,
 ) -> InputFault
     requires { OnOk fed (capture.now.fault ≡ None) }
-    ensures { (result ≡ InputFault.Dump fault) ⊎ (IsErrAnd fed (λ refusal. result ≡ refusal))
+    ensures { ((result ≡ InputFault.Dump fault)
+        × (fault ≢ Fault.Memory → IsToldAfter fed capture.now))
+        ⊎ (IsErrAnd fed (λ refusal. result ≡ refusal))
         ⊎ (IsOkAnd fed (λ _. (octets : List ℕ) → HasRead capture.now octets
         → EndsRefused reading.now capture.now octets result)) }
 {
-    if fault == Fault::Memory || capture.gathered().senders().len() < 2 {
+    if fault == Fault::Memory {
         return InputFault::Dump(fault);
     }
+    let places = capture.gathered().senders().len();
     match fed {
-        Err(refusal) => refusal,
-        Ok(()) => match end_of(alloc, reading, capture) {
+        Err(refusal) if places > 1 || refusal.status() != 3 => refusal,
+        Ok(()) if places != 1 => match end_of(alloc, reading, capture) {
             Err(refusal) => refusal,
             Ok(_) => InputFault::Dump(fault),
         },
+        _ => InputFault::Dump(fault),
     }
 }
 

@@ -139,6 +139,47 @@ const AFTER_EVENTS: &str = after_help!(
     "1  there are no Babel packets"
 );
 
+/// The commands, by the options that they have in common.
+pub(crate) const ALL: [&str; 10] = [
+    "show",
+    "lookup",
+    "normalise",
+    "key",
+    "pairs",
+    "compare",
+    "diff",
+    "senders",
+    "extract",
+    "events",
+];
+
+/// Those that read dumps.
+pub(crate) const OF_DUMPS: [&str; 7] = [
+    "show",
+    "lookup",
+    "normalise",
+    "key",
+    "pairs",
+    "compare",
+    "diff",
+];
+
+/// Those that read two dumps.
+pub(crate) const OF_TWO: [&str; 2] = ["compare", "diff"];
+
+/// Those that take filters.
+pub(crate) const FILTERED: [&str; 2] = ["show", "pairs"];
+
+/// Those that read captures alone; and without limits on routes.
+pub(crate) const OF_CAPTURES: [&str; 3] = ["senders", "extract", "events"];
+
+pub(crate) const OF_OCTETS: [&str; 2] = ["senders", "extract"];
+
+/// Those that need the sender of one input, and those that may need its place.
+pub(crate) const OF_SENDER: [&str; 5] = ["show", "lookup", "normalise", "pairs", "extract"];
+
+pub(crate) const AT_PLACE: [&str; 6] = ["show", "lookup", "normalise", "key", "pairs", "extract"];
+
 /// A group of options of which one is given.
 pub(crate) struct Group {
     pub id: &'static str,

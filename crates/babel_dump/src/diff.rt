@@ -1,8 +1,8 @@
-//! `diff`: the rows that two dumps hold differently, as text that people read.
+//! `diff`: the rows that two dumps hold differently, as text that people read, or as JSON.
 ghost use Rattle.std.specs.Prelude.{◌≡◌, ◌++◌, IfErr, IfOk, OnOk, filter, is_none, length};
 ghost use Rattle.babel_dump.specs.Command.{IsOfMemory, TellsRoutes};
-ghost use Rattle.babel_dump.specs.DiffText.{diff_text, head_line, head_lines, place_text};
-ghost use Rattle.babel_dump.specs.DiffText.{stat_line, stat_text};
+ghost use Rattle.babel_dump.specs.DiffText.{diff_in, diff_text, head_line, head_lines};
+ghost use Rattle.babel_dump.specs.DiffText.{place_text, stat_after, stat_in, stat_json, stat_text};
 ghost use Rattle.babel_dump.specs.Parts.{Says};
 ghost use Rattle.babel_dump.specs.SlicedRows.{lines_of};
 ghost use Rattle.babel_dump.specs.Slices.{HasRoom, TookRoom};
@@ -28,28 +28,39 @@ use std::alloc::{AllocError, Global};
 /// No address and place, nor any line of numbers, is longer, in octets.
 pub(crate) const ROOM: usize = 160;
 
-/// The text of the rows that two tables hold differently. Out of memory is the first dump's.
+/// What is written of the rows that two tables hold differently. Out of memory is the first dump's.
 pub(crate) fn found_diff(
     alloc: Global,
     reading: Reading,
     other_reading: Reading,
     view: View,
     style: DiffStyle,
+    format: Format,
     file: &str,
     other_file: &str,
     seen: &SeenTables,
 ) -> Result<Found, RunFault>
-    ensures ok { IfOk result (Says (TellsRoutes (diff_text style view
+    ensures ok { IfOk result (Says (TellsRoutes (diff_in format style view
         (head_lines style.spelling file.now other_file.now reading other_reading))
         seen.now.left seen.now.right)) }
     ensures err { IfErr result IsOfMemory }
 {
     let list = route_differences(alloc, &seen.left, &seen.right)?;
     let outcome = seen.outcome(differences_status(list.len()));
-    let spelling = style.spelling;
-    let heads = head_lines(alloc, spelling, file, other_file, reading, other_reading)?;
-    let (rows, after) = diff_rows(alloc, view, style, heads, seen.left.rows().len(), list)?;
-    Ok(Found::rows(alloc, Format::Text(spelling), rows, after, outcome)?)
+    let rows = seen.left.rows().len();
+    match format {
+        Format::Text(_) => {
+            let spelling = style.spelling;
+            let heads = head_lines(alloc, spelling, file, other_file, reading, other_reading)?;
+            let (lines, after) = diff_rows(alloc, view, style, heads, rows, list)?;
+            Ok(Found::rows(alloc, Format::Text(spelling), lines, after, outcome)?)
+        }
+        Format::Json(_) => {
+            let after = stat_after(alloc, format, style.stat, rows, &list)?;
+            let lines = Rows::Differences(view, list);
+            Ok(Found::rows(alloc, format, lines, after, outcome)?)
+        }
+    }
 }
 
 /// The lines of differences, where the first dump has so many rows, and the text after them.
@@ -67,11 +78,7 @@ fn diff_rows(
     if list.is_empty() {
         return Ok((Rows::Empty, Vec::new(alloc)));
     }
-    let after = if style.stat {
-        stat_line(alloc, rows, &list)?
-    } else {
-        Vec::new(alloc)
-    };
+    let after = stat_after(alloc, Format::Text(style.spelling), style.stat, rows, &list)?;
     let diff = DiffRows {
         heads,
         style,
@@ -134,15 +141,41 @@ pub(crate) fn push_place(buffer: &mut Vec<u8>, place: Option<Place>)
     }
 }
 
-/// The line of how many rows are gone, new, changed, and alike, where the first dump has so many.
-fn stat_line(alloc: Global, rows: usize, list: &[Difference]) -> Result<Vec<u8>, AllocError>
-    ensures { IfOk result (λ text. text.items ≡ stat_line rows list.now) }
+/// How many rows are gone, new, changed, and alike, where the first dump has so many, if that is
+/// asked for.
+fn stat_after(
+    alloc: Global,
+    format: Format,
+    stat: bool,
+    rows: usize,
+    list: &[Difference],
+) -> Result<Vec<u8>, AllocError>
+    ensures { IfOk result (λ text. text.items ≡ stat_after format stat rows list.now) }
+{
+    if stat {
+        stat_output(alloc, format, rows, list)
+    } else {
+        Ok(Vec::new(alloc))
+    }
+}
+
+/// The line of how many rows are gone, new, changed, and alike.
+fn stat_output(
+    alloc: Global,
+    format: Format,
+    rows: usize,
+    list: &[Difference],
+) -> Result<Vec<u8>, AllocError>
+    ensures { IfOk result (λ text. text.items ≡ stat_in format rows list.now) }
 {
     let (gone, new) = (gone_count(list), new_count(list));
     let changed = list.len().saturating_sub(gone).saturating_sub(new);
     let alike = rows.saturating_sub(gone).saturating_sub(changed);
     let mut text = Vec::with_capacity(alloc, ROOM)?;
-    push_stat(&mut text, gone, new, changed, alike);
+    match format {
+        Format::Text(_) => push_stat(&mut text, gone, new, changed, alike),
+        Format::Json(_) => push_stat_json(&mut text, gone, new, changed, alike),
+    }
     Ok(text)
 }
 
@@ -174,4 +207,22 @@ fn push_stat(buffer: &mut Vec<u8>, gone: usize, new: usize, changed: usize, alik
     push_text(buffer, " changed, ");
     push_decimal(buffer, alike);
     push_text(buffer, " alike\n");
+}
+
+/// Appends these: an object.
+fn push_stat_json(buffer: &mut Vec<u8>, gone: usize, new: usize, changed: usize, alike: usize)
+    requires { HasRoom buffer.old 119 }
+    ensures text { buffer.new.items ≡ buffer.old.items ++ stat_json gone new changed alike }
+    ensures room { TookRoom buffer.old buffer.new 119 }
+{
+    push_text(buffer, r#"{"gone":"#);
+    push_decimal(buffer, gone);
+    push_text(buffer, r#","new":"#);
+    push_decimal(buffer, new);
+    push_text(buffer, r#","changed":"#);
+    push_decimal(buffer, changed);
+    push_text(buffer, r#","alike":"#);
+    push_decimal(buffer, alike);
+    push_text(buffer, "}");
+    push_octet(buffer, b'\n');
 }

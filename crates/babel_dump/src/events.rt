@@ -23,6 +23,7 @@ use crate::events_job::Events;
 use crate::events_outcome::{EventsOutcome, HeardSender};
 use crate::follower::Follower;
 use crate::input_fault::InputFault;
+use crate::moment_words::{moment_from, moments_of};
 use crate::outcome::{Outcome, Reports};
 use crate::push_event::speaker_of;
 use crate::says::Says;
@@ -155,6 +156,7 @@ impl<'a> Followed<'a> {
             (output (W.state writer.old) (W.state writer.new)) self.new) }
     {
         let fed = self.capture.feed(piece, &mut self.follower);
+        self.in_order(events)?;
         self.follower.say_lost(self.capture.gathered(), says);
         self.write(events, writer)?;
         self.follower.fault()?;
@@ -162,6 +164,24 @@ impl<'a> Followed<'a> {
             Ok(()) => Ok(()),
             Err(fault) => Err(of_capture(fault)),
         }
+    }
+
+    /// Whether `--since` is no later than `--until`, by the capture's first packet.
+    fn in_order(&self, events: &Events) -> Result<(), Trouble> {
+        let (_, until) = moments_of(&events.window);
+        if let (Some(since), Some(until), Some(first)) = (
+            events.since,
+            until,
+            self.capture.start(),
+        ) {
+            if moment_from(first, until) < moment_from(first, since) {
+                return Err(Trouble::Backwards {
+                    since: "--since",
+                    until: "--until",
+                });
+            }
+        }
+        Ok(())
     }
 
     /// Writes the lines of what was told, and flushes.
@@ -196,18 +216,18 @@ impl<'a> Followed<'a> {
     /// Ends the capture, of which all was read: tells what has expired up to the moment that it was
     /// read to.
     fn end<W: ByteOut>(
-        mut self,
+        &mut self,
         alloc: Global,
         events: &Events,
         writer: &mut W,
     ) -> Result<EventsOutcome, Trouble>
         requires few_failures { (W.state writer.old).failures < 2 ^ 64 - 1 }
         requires few_flushes { (W.state writer.old).flushes < 2 ^ 64 - 1 }
-        requires told { self.follower.told.items ≡ [] }
-        requires empty { self.buffer.items ≡ [] }
-        requires room { 384 ≤ vec_capacity self.buffer }
+        requires told { self.old.follower.told.items ≡ [] }
+        requires empty { self.old.buffer.items ≡ [] }
+        requires room { 384 ≤ vec_capacity self.old.buffer }
         ensures { IfOk result (λ answer. (fed : List ℕ) (told : List (TellingSaid SpeakerSaid))
-            → IsFollowed events.now fed told self.entry → Ends events.now fed told
+            → IsFollowed events.now fed told self.old → Ends events.now fed told
             (output (W.state writer.old) (W.state writer.new)) answer) }
     {
         let cut = self.cut(events)?;

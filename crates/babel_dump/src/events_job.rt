@@ -2,7 +2,7 @@ use crate::addr_pair::AddrPair;
 use crate::factor::Factor;
 use crate::format::Format;
 use crate::job::DumpFile;
-use babel_capture::{Place, Window};
+use babel_capture::{Moment, Place, Window};
 use babel_prefix::Addr;
 use babel_table::Limits;
 use babel_tlv::View;
@@ -14,9 +14,12 @@ pub struct Events {
     pub sender: Option<Addr>,
     /// The place at which they were captured: `--interface`. None is for each, by itself.
     pub place: Option<Place>,
-    /// Which packets are read, by when they came: `--since`, `--until`. It is never
-    /// `Window::Whole`, since each packet is to have a time.
+    /// Which packets are read, by when they came: `--until`. It is never `Window::Whole`, since each
+    /// packet is to have a time, and no packet is too early.
     pub window: Window,
+    /// The moment from which on it is told what changed: `--since`. None is from the first packet
+    /// on.
+    pub since: Option<Moment>,
     /// Whether a capture that is cut short is read to its last whole record: `--accept-cut`.
     pub accept_cut: bool,
     /// After how many times its Interval a row is gone: `--expiry`. None is where it is left out.

@@ -1,57 +1,31 @@
 //! The words of `--within`, `--match`, `--source` and `--id`.
-use crate::escaped::Escaped;
 use crate::filter::Filter;
-use crate::job::Refusal;
+use crate::given_words::GivenWords;
 use babel_prefix::{Prefix, parse_addr};
-use clap::ArgMatches;
 use hex::FromHex;
-use std::alloc::Global;
 
 /// The filter that a command's words ask for.
-pub(crate) fn filter(alloc: Global, matches: &ArgMatches<'_>) -> Result<Filter, Refusal> {
-    Ok(Filter {
-        within: prefix(alloc, matches, "within")?,
-        matching: prefix(alloc, matches, "match")?,
-        source: prefix(alloc, matches, "source")?,
-        router_id: router_id(alloc, matches)?,
-    })
+pub(crate) fn filter(given: &mut GivenWords<'_, '_>) -> Filter {
+    Filter {
+        within: prefix(given, "within"),
+        matching: prefix(given, "match"),
+        source: prefix(given, "source"),
+        router_id: router_id(given),
+    }
 }
 
 /// The prefix that an option has, where it is given.
-fn prefix(alloc: Global, matches: &ArgMatches<'_>, id: &str) -> Result<Option<Prefix>, Refusal> {
-    let Some(word) = matches.get_str(id) else {
-        return Ok(None);
-    };
-    match parse_prefix(word) {
-        Some(prefix) => Ok(Some(prefix)),
-        None => {
-            let word = Escaped(word);
-            let text = format!(in alloc;
-                "not a prefix: {word}\n\
-                 hint: --{id} takes an IPv4 or IPv6 address, with a prefix length or without, as \
-                 10.0.0.0/8\n"
-            )?;
-            Err(Refusal::Usage(text))
-        }
-    }
+fn prefix(given: &mut GivenWords<'_, '_>, id: &str) -> Option<Prefix> {
+    let word = given.word(id)?;
+    let takes = "an IPv4 or IPv6 address, with a prefix length or without, as 10.0.0.0/8";
+    given.value(parse_prefix(word), word, "a prefix", id, takes)
 }
 
 /// The router-id that `--id` has, where it is given.
-fn router_id(alloc: Global, matches: &ArgMatches<'_>) -> Result<Option<[u8; 8]>, Refusal> {
-    let Some(word) = matches.get_str("id") else {
-        return Ok(None);
-    };
-    match parse_router_id(word) {
-        Some(id) => Ok(Some(id)),
-        None => {
-            let word = Escaped(word);
-            let text = format!(in alloc;
-                "not a router-id: {word}\n\
-                 hint: --id takes 16 hexadecimal digits, or 8 pairs of them joined by colons\n"
-            )?;
-            Err(Refusal::Usage(text))
-        }
-    }
+fn router_id(given: &mut GivenWords<'_, '_>) -> Option<[u8; 8]> {
+    let word = given.word("id")?;
+    let takes = "16 hexadecimal digits, or 8 pairs of them joined by colons";
+    given.value(parse_router_id(word), word, "a router-id", "id", takes)
 }
 
 /// The prefix that a word is: an address, `/` and a length in bits, or an address alone, for its

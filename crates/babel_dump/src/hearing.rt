@@ -1,5 +1,6 @@
 //! What the senders of a capture say, heard record by record, and what is told of it.
-ghost use Rattle.std.specs.Prelude.{◌≡◌, ◌++◌, ◌||◌, ◌^◌, ◌<◌, ◌≤◌, ◌∷◌, List, [], IfOk, IfSome, OnOk, Some};
+ghost use Rattle.std.specs.Prelude.{◌≡◌, ◌++◌, ◌||◌, ◌^◌, ◌<◌, ◌≤◌, ◌∷◌, List, [], IfOk};
+ghost use Rattle.std.specs.Prelude.{IfSome, OnOk, Some, None};
 ghost use Rattle.std.specs.BTreeSet.{contains};
 ghost use Rattle.std.specs.Option.{option_map};
 ghost use Rattle.babel_capture.specs.declared.missed.Missed.{Missed as MissedSaid};
@@ -9,7 +10,7 @@ ghost use Rattle.babel_timeline.specs.Hearing.{report_of};
 ghost use Rattle.babel_timeline.specs.declared.telling.Telling.{Telling as TellingSaid};
 ghost use Rattle.babel_dump.specs.EventsRun.{is_of};
 ghost use Rattle.babel_dump.specs.Followed.{EndsBy, HasHeard, HearsPacket, HearsRecord, Suits};
-ghost use Rattle.babel_dump.specs.Followed.{unlost_by};
+ghost use Rattle.babel_dump.specs.Followed.{TellsNext, TellsThen, unlost_by};
 ghost use Rattle.babel_dump.specs.Speakers.{speaker_cmp};
 ghost use Rattle.babel_dump.specs.declared.speaker.Speaker.{Speaker as SpeakerSaid};
 
@@ -17,8 +18,9 @@ use crate::addr_pair::AddrPair;
 use crate::events_job::Events;
 use crate::factor::Factor;
 use crate::push_event::speaker_of;
+use crate::since::Since;
 use crate::speaker::Speaker;
-use babel_capture::{BabelPacket, Missed, Origin, Record, Said};
+use babel_capture::{BabelPacket, Missed, Origin, Record, Said, Time};
 use babel_prefix::Addr;
 use babel_table::Report;
 use babel_timeline::{Teller, Telling};
@@ -60,8 +62,12 @@ pub(crate) struct Hearing {
     teller: Teller<Speaker>,
     /// Of whom a datagram was left out that lacks something: no more is told of them.
     lost: BTreeSet<Speaker>,
+    /// From which moment on it is told.
+    since: Since,
     /// What the last record told.
     heard: Vec<Telling<Speaker>>,
+    /// What of it is told from the moment on.
+    printed: Vec<Telling<Speaker>>,
 }
 
 impl Hearing {
@@ -76,10 +82,13 @@ impl Hearing {
             events.view,
             asked(events.pair),
         );
+        let since = Since::new(alloc);
         Hearing {
             teller,
             lost: BTreeSet::new(alloc),
+            since,
             heard: Vec::new(alloc),
+            printed: Vec::new(alloc),
         }
     }
 
@@ -101,19 +110,24 @@ impl Hearing {
         ensures heard { OnOk result ((one : Made) → Suits events.now self.old.teller
             → IsTold one said.now
             → HearsRecord events.now one self.old.teller self.new.teller self.new.heard.items) }
+        ensures untimed { said.now.time ≡ None → self.new.heard.items ≡ [] }
+        ensures from { OnOk result (TellsNext events.now.since said.now.time self.old.since
+            self.new.heard.items self.new.since self.new.printed.items) }
         ensures told { OnOk result (told.new.items
-            ≡ told.old.items ++ unlost_by self.old.lost self.new.heard.items) }
+            ≡ told.old.items ++ unlost_by self.old.lost self.new.printed.items) }
     {
+        self.since.begin(events.since, said.time);
         self.heard.clear();
         let heard = self.hear(events, said);
-        self.tell(told)?;
+        self.tell(nanoseconds(said.time), told)?;
         heard
     }
 
     /// Hears the record, and keeps what it tells.
     fn hear(&mut self, events: &Events, said: &Record<'_>) -> Result<(), Unheard>
         requires { self.old.heard.items ≡ [] }
-        ensures lost { self.new.lost ≡ self.old.lost }
+        ensures same { (self.new.lost ≡ self.old.lost) × (self.new.since ≡ self.old.since) }
+        ensures untimed { said.now.time ≡ None → self.new.heard.items ≡ [] }
         ensures heard { OnOk result ((one : Made) → Suits events.now self.old.teller
             → IsTold one said.now
             → HearsRecord events.now one self.old.teller self.new.teller self.new.heard.items) }
@@ -137,7 +151,7 @@ impl Hearing {
         packet: &BabelPacket<'_>,
     ) -> Result<(), Unheard>
         requires { time < 2 ^ 96 }
-        ensures lost { self.new.lost ≡ self.old.lost }
+        ensures same { (self.new.lost ≡ self.old.lost) × (self.new.since ≡ self.old.since) }
         ensures heard { Suits events.now self.old.teller → OnOk result (HearsPacket events.now
             packet.now.origin time packet.now.octets.now self.old.teller self.new.teller
             self.old.heard.items self.new.heard.items) }
@@ -161,12 +175,30 @@ impl Hearing {
         }
     }
 
-    /// Adds what the last record told of senders that are not lost.
-    fn tell(&self, told: &mut Vec<Telling<Speaker>>) -> Result<(), AllocError>
-        ensures { OnOk result (told.new.items
-            ≡ told.old.items ++ unlost_by self.now.lost self.now.heard.items) }
+    /// Takes what was told up to this time; adds what of it is told from the moment on.
+    fn tell(
+        &mut self,
+        time: Option<u128>,
+        told: &mut Vec<Telling<Speaker>>,
+    ) -> Result<(), AllocError>
+        ensures same { (self.new.teller ≡ self.old.teller) × (self.new.lost ≡ self.old.lost)
+            × (self.new.heard ≡ self.old.heard) }
+        ensures from { OnOk result (TellsThen time self.old.since self.old.heard.items
+            self.new.since self.new.printed.items) }
+        ensures told { OnOk result (told.new.items
+            ≡ told.old.items ++ unlost_by self.old.lost self.new.printed.items) }
     {
-        for telling in &self.heard {
+        self.printed.clear();
+        self.since.take(time, &self.heard, &mut self.printed)?;
+        self.add(told)
+    }
+
+    /// Adds what is told from the moment on of senders that are not lost.
+    fn add(&self, told: &mut Vec<Telling<Speaker>>) -> Result<(), AllocError>
+        ensures { OnOk result (told.new.items
+            ≡ told.old.items ++ unlost_by self.now.lost self.now.printed.items) }
+    {
+        for telling in &self.printed {
             if !self.lost.contains(&speaker_of(telling)) {
                 told.push(*telling)?;
             }
@@ -177,7 +209,7 @@ impl Hearing {
     /// Tells no more of the sender whose datagram the record left out since it lacks something, if it
     /// did. Adds by what each sender is lost.
     pub(crate) fn lose(&mut self, said: &Record<'_>, by: &mut Vec<LostBy>) -> Result<(), AllocError>
-        ensures same { self.new.teller ≡ self.old.teller }
+        ensures same { (self.new.teller ≡ self.old.teller) × (self.new.since ≡ self.old.since) }
         ensures lost { OnOk result ((speaker : SpeakerSaid)
             → contains speaker_cmp self.new.lost speaker
             ≡ contains speaker_cmp self.old.lost speaker
@@ -208,13 +240,19 @@ impl Hearing {
         told: &mut Vec<Telling<Speaker>>,
     ) -> Result<(), AllocError>
         ensures { Suits events.now self.old.teller → OnOk result (EndsBy events.now until
-            self.old.teller.timeline.rows self.new.teller.timeline.rows self.old.lost
-            told.old.items told.new.items) }
+            self.old self.new told.old.items told.new.items) }
     {
         self.heard.clear();
         self.teller.expire(until, &mut self.heard)?;
-        self.tell(told)
+        self.tell(Some(until), told)
     }
+}
+
+/// A time in nanoseconds since the start of 1970, if there is one.
+fn nanoseconds(time: Option<Time>) -> Option<u128>
+    ensures { result ≡ time }
+{
+    Some(time?.nanoseconds())
 }
 
 /// The ten-millionths of a factor, if there is one.

@@ -3,95 +3,73 @@ use crate::asked::Asked;
 use crate::begun::{begins_capture, begins_dump};
 use crate::input_fault::InputFault;
 use crate::note::Note;
-use crate::place_word::SenderInWords;
+use crate::place_word::NamedOrigin;
 use crate::run_fault::Side;
 use babel_capture::{Fault as CaptureFault, Origin, Reason as LeftOutReason};
 use babel_tlv::{Fault, Reason};
-use thiserror::Error;
+use std::fmt;
 
 /// A line that says what to do about a fault.
-#[derive(Clone, Copy, Debug, Error)]
+#[derive(Clone, Copy)]
 pub(crate) enum Hint {
-    /// There are more routes than the limit.
-    #[error("hint: the limit is {0} routes; --max-routes raises it")]
-    Routes(u32),
-    /// There are more canonical pairs than the limit.
-    #[error("hint: the limit is {0} canonical pairs; --max-routes raises it")]
-    Pairs(u32),
-    /// There are more differences than the limit.
-    #[error("hint: the limit is {0} differences; --max-routes raises it")]
-    Differences(u32),
-    /// There are more octets than the limit.
-    #[error("hint: the limit is {0} octets; --max-octets raises it")]
-    Octets(u32),
+    /// This text.
+    Text(&'static str),
+    /// There are more than so many of these. This option raises the limit.
+    Limit(u32, &'static str, &'static str),
     /// The octets are compressed. This program gives what they were.
-    #[error("hint: this is compressed: {0} FILE | babel-dump ..")]
     Compressed(&'static str),
-    /// The octets are text.
-    #[error("hint: this is text, and neither a dump of Babel packets nor a capture")]
-    Text,
-    /// A capture begins within a capture.
-    #[error("hint: captures joined by cat are not one capture; use mergecap")]
-    Joined,
-    /// What comes after a packet begins no packet.
-    #[error("hint: the packet before may have a trailer (RFC 8967), which is not read")]
-    Trailer,
-    /// A TLV has an address encoding that is not read.
-    #[error("hint: unknown-encoding usually means IPv4 routes with IPv6 next hops (AE 4, \
-             RFC 9229), which --v4-via-v6 reads: IPv4 answers can be missing or stale")]
-    UnknownEncoding,
     /// A route has no next hop. This option names the sender.
-    #[error("hint: no-next-hop: {0} names a sender of the other family, and these routes carry \
-             no next hop")]
     NoNextHop(&'static str),
-    /// The octets of a capture begin as a dump does.
-    #[error("hint: this looks like a dump, not a capture: use show, lookup, normalise, key, pairs, \
-             compare or diff")]
-    Dump,
-    /// The octets are neither a capture nor a dump.
-    #[error("hint: a capture is a file of pcap or pcapng, as tcpdump -w writes it; editcap -F pcap \
-             makes one of other formats")]
-    Format,
-    /// The capture is cut short.
-    #[error("hint: the recorder was stopped within a record; --accept-cut reads the complete \
-             records")]
-    Cut,
-    /// The recorder kept only a part of a datagram.
-    #[error("hint: tcpdump -s 0 keeps packets whole")]
-    Snapped,
-    /// A datagram came in fragments.
-    #[error("hint: fragments are not put together, so their routes would be missing")]
-    Fragment,
-    /// A datagram is longer than its frame.
-    #[error("hint: the datagram is longer than the captured frame; take the capture as it was \
-             recorded, since --accept-cut does not help")]
-    DatagramCutShort,
-    /// A capture is of a version that is not read.
-    #[error("hint: supported versions: pcap 2.4, pcapng 1.0 and 1.2")]
-    Version,
-    /// A packet is of a link type that is not read.
-    #[error("hint: supported link types: Ethernet, Linux cooked (tcpdump -i any), raw IP, null \
-             and loopback")]
-    Link,
-    /// The sender has no packets in the capture, or none on the interface that is named.
-    #[error("hint: senders lists who sent, and at which places")]
-    Senders,
     /// The sender is on several interfaces. This option names one.
-    #[error("hint: choose one with {0}")]
     Interface(&'static str),
-    /// A line of `--each` is not a pair of addresses.
-    #[error("hint: a line has a destination and a source of one family, with blanks between them")]
-    NotAPair,
-    /// Times run backwards in a capture.
-    #[error("hint: reordercap FILE SORTED sorts the packets of a capture by their times")]
-    Reorder,
-    /// The fault of a dump in a capture tells where a TLV is in the dump.
-    #[error("hint: this counts the octets of the dump, as extract writes it")]
-    Offset,
-    /// The fault of a sender's dump does.
-    #[error("hint: this counts the octets of the dump of {0}, as extract writes it")]
-    OffsetIn(SenderInWords),
+    /// The fault of a sender's dump tells where a TLV is in that.
+    OffsetIn(Origin),
 }
+
+impl fmt::Display for Hint {
+    fn fmt<W: fmt::Write>(&self, f: &mut fmt::Formatter<W>) -> fmt::Result {
+        f.write_str("hint: ")?;
+        match self {
+            Hint::Text(text) => f.write_str(text),
+            Hint::Limit(limit, of, option) => {
+                write!(f, "the limit is {limit} {of}; {option} raises it")
+            }
+            Hint::Compressed(program) => {
+                write!(f, "this is compressed: {program} FILE | babel-dump ..")
+            }
+            Hint::NoNextHop(option) => write!(
+                f,
+                "no-next-hop: {option} names a sender of the other family, and these routes carry \
+                 no next hop"
+            ),
+            Hint::Interface(option) => write!(f, "choose one with {option}"),
+            Hint::OffsetIn(origin) => {
+                let (origin, name) = (*origin, [].as_slice());
+                let sender = NamedOrigin { origin, name };
+                write!(
+                    f,
+                    "this counts the octets of the dump of {sender}, as extract writes it"
+                )
+            }
+        }
+    }
+}
+
+/// The option that raises the limit on routes.
+const MAX_ROUTES: &str = "--max-routes";
+
+/// The option that raises the limit on octets.
+const MAX_OCTETS: &str = "--max-octets";
+
+/// The recorder kept only a part of a datagram.
+const SNAPPED: &str = "tcpdump -s 0 keeps packets whole";
+
+/// A datagram came in fragments.
+const FRAGMENT: &str = "fragments are not put together, so their routes would be missing";
+
+/// A datagram is longer than its frame.
+const CUT_SHORT: &str = "the datagram is longer than the captured frame; take the capture as it \
+                         was recorded, since --accept-cut does not help";
 
 /// What makes of compressed octets what was compressed, by their first octets: RFC 1952, 2.3.1;
 /// the file formats of bzip2 and of xz, 2.1.1.1; RFC 8878, 3.1.1.
@@ -116,7 +94,9 @@ impl Hint {
                 Hint::of_lack(datagram.reason)
             }
             InputFault::SeveralInterfaces(_) => Some(Hint::Interface(side.place_option())),
-            InputFault::NoPackets(absence) if absence.is_narrow() => Some(Hint::Senders),
+            InputFault::NoPackets(absence) if absence.is_narrow() => Some(Hint::Text(
+                "senders lists who sent, and at which places",
+            )),
             _ => None,
         }
     }
@@ -135,7 +115,10 @@ impl Hint {
                 if asked.limits()?.via_v6() {
                     None
                 } else {
-                    Some(Hint::UnknownEncoding)
+                    Some(Hint::Text(
+                        "unknown-encoding usually means IPv4 routes with IPv6 next hops (AE 4, RFC \
+                         9229), which --v4-via-v6 reads: IPv4 answers can be missing or stale",
+                    ))
                 }
             }
             (Asked::Job(_), Reason::NoNextHop) => Some(Hint::NoNextHop(side.option())),
@@ -146,7 +129,9 @@ impl Hint {
     /// What can be done about what a note tells of a capture.
     pub fn of_note(note: &Note) -> Option<Hint> {
         match note {
-            Note::Backwards(_) => Some(Hint::Reorder),
+            Note::Backwards(_) => Some(Hint::Text(
+                "reordercap FILE SORTED sorts the packets of a capture by their times",
+            )),
             _ => None,
         }
     }
@@ -159,7 +144,9 @@ impl Hint {
                 Fault::TlvPastEnd { .. }
                 | Fault::EncodingSetsRouterId { .. }
                 | Fault::TooManyRoutes { .. },
-            ) if begins_capture(begins) => Some(Hint::Offset),
+            ) if begins_capture(begins) => Some(Hint::Text(
+                "this counts the octets of the dump, as extract writes it",
+            )),
             _ => None,
         }
     }
@@ -168,7 +155,7 @@ impl Hint {
     pub fn of_offset_in(origin: Origin, fault: &InputFault) -> Option<Hint> {
         match fault {
             InputFault::Dump(Fault::Memory) => None,
-            _ => Some(Hint::OffsetIn(SenderInWords(origin))),
+            _ => Some(Hint::OffsetIn(origin)),
         }
     }
 
@@ -176,7 +163,7 @@ impl Hint {
     /// these octets.
     pub fn of_block(begins: &[u8]) -> Option<Hint> {
         if begins_capture(begins) {
-            Some(Hint::Joined)
+            Some(Hint::Text("captures joined by cat are not one capture; use mergecap"))
         } else {
             None
         }
@@ -184,30 +171,30 @@ impl Hint {
 
     /// What to do where there are more routes than the limit.
     pub fn of_routes(asked: &Asked) -> Option<Hint> {
-        Some(Hint::Routes(asked.limits()?.entries()))
+        Some(Hint::Limit(asked.limits()?.entries(), "routes", MAX_ROUTES))
     }
 
     /// What to do where a dump, or what is asked of it, has more octets than the limit.
     pub fn of_octets(asked: &Asked) -> Option<Hint> {
-        Some(Hint::Octets(asked.limits()?.bytes()))
+        Some(Hint::Limit(asked.limits()?.bytes(), "octets", MAX_OCTETS))
     }
 
     /// What to do where there are more pairs than the limit; those of two dumps are differences.
     fn of_pairs(asked: &Asked) -> Option<Hint> {
-        let limit = asked.limits()?.entries();
-        if asked.compares() {
-            Some(Hint::Differences(limit))
+        let of = if asked.compares() {
+            "differences"
         } else {
-            Some(Hint::Pairs(limit))
-        }
+            "canonical pairs"
+        };
+        Some(Hint::Limit(asked.limits()?.entries(), of, MAX_ROUTES))
     }
 
     /// What to do where a dump lacks a datagram, for this reason.
     fn of_lack(reason: LeftOutReason) -> Option<Hint> {
         match reason {
-            LeftOutReason::Snapped => Some(Hint::Snapped),
-            LeftOutReason::Fragment => Some(Hint::Fragment),
-            LeftOutReason::CutShort => Some(Hint::DatagramCutShort),
+            LeftOutReason::Snapped => Some(Hint::Text(SNAPPED)),
+            LeftOutReason::Fragment => Some(Hint::Text(FRAGMENT)),
+            LeftOutReason::CutShort => Some(Hint::Text(CUT_SHORT)),
             _ => None,
         }
     }
@@ -219,7 +206,9 @@ impl Hint {
             Fault::TooLong => Hint::of_octets(asked),
             Fault::Truncated { at: 0 } | Fault::BadMagic { at: 0 } | Fault::BadVersion { at: 0 }
                 if !begins_dump(begins) => Some(Hint::of_other(begins)),
-            Fault::BadMagic { .. } => Some(Hint::Trailer),
+            Fault::BadMagic { .. } => Some(Hint::Text(
+                "the packet before may have a trailer (RFC 8967), which is not read",
+            )),
             _ => None,
         }
     }
@@ -232,23 +221,38 @@ impl Hint {
             }
         }
         if is_text(begins) {
-            Hint::Text
+            Hint::Text("this is text, and neither a dump of Babel packets nor a capture")
         } else {
-            Hint::Format
+            Hint::Text(
+                "a capture is a file of pcap or pcapng, as tcpdump -w writes it; editcap -F pcap \
+                 makes one of other formats",
+            )
         }
     }
 
     fn of_capture(asked: &Asked, fault: &CaptureFault, begins: &[u8]) -> Option<Hint> {
         match fault {
-            CaptureFault::NotCapture if begins.starts_with(&[42, 2]) => Some(Hint::Dump),
+            CaptureFault::NotCapture if begins.starts_with(&[42, 2]) => Some(Hint::Text(
+                "this looks like a dump, not a capture: use show, lookup, normalise, key, pairs, \
+                 compare or diff",
+            )),
             CaptureFault::NotCapture => Some(Hint::of_other(begins)),
-            CaptureFault::CutShort { .. } => Some(Hint::Cut),
-            CaptureFault::Snapped { .. } => Some(Hint::Snapped),
-            CaptureFault::Fragment { .. } => Some(Hint::Fragment),
-            CaptureFault::DatagramCutShort { .. } => Some(Hint::DatagramCutShort),
-            CaptureFault::Version { .. } => Some(Hint::Version),
-            CaptureFault::UnreadLink { .. } => Some(Hint::Link),
-            CaptureFault::TooLong { .. } => Some(Hint::Octets(asked.most_octets_of_capture()?)),
+            CaptureFault::CutShort { .. } => Some(Hint::Text(
+                "the recorder was stopped within a record; --accept-cut reads the complete records",
+            )),
+            CaptureFault::Snapped { .. } => Some(Hint::Text(SNAPPED)),
+            CaptureFault::Fragment { .. } => Some(Hint::Text(FRAGMENT)),
+            CaptureFault::DatagramCutShort { .. } => Some(Hint::Text(CUT_SHORT)),
+            CaptureFault::Version { .. } => Some(Hint::Text(
+                "supported versions: pcap 2.4, pcapng 1.0 and 1.2",
+            )),
+            CaptureFault::UnreadLink { .. } => Some(Hint::Text(
+                "supported link types: Ethernet, Linux cooked (tcpdump -i any), raw IP, null and \
+                 loopback",
+            )),
+            CaptureFault::TooLong { .. } => {
+                Some(Hint::Limit(asked.most_octets_of_capture()?, "octets", MAX_OCTETS))
+            }
             _ => None,
         }
     }

@@ -122,7 +122,7 @@ pub enum Form {
 pub enum Comparison {
     /// `compare`: where their answers, or their rows, differ.
     Compare { form: Form, listed: Listed },
-    /// `diff`: the rows that they hold differently, as text that people read.
+    /// `diff`: the rows that they hold differently.
     Diff(DiffStyle),
 }
 
@@ -154,12 +154,12 @@ pub enum CaptureTask {
     },
 }
 
-/// How the text of `diff` looks.
+/// How what `diff` writes looks.
 #[derive(Clone, Copy)]
 pub struct DiffStyle {
     /// Whether a last line says how many rows are gone, new, changed, and alike: `--stat`.
     pub stat: bool,
-    /// Whether rows are in colour: `--color`.
+    /// Whether rows of its text are in colour: `--color`.
     pub coloured: bool,
     /// How addresses are written: `--short`.
     pub spelling: Spelling,
@@ -348,6 +348,9 @@ pub enum Refusal {
     Usage(String),
     /// As `Usage`: the first word is no command. It may be a file.
     NoCommand { text: String, word: String },
+    /// As `Usage`: this word is taken for an option, and the command has none such. It may be a
+    /// file.
+    NoOption { text: String, word: String },
     /// As `Usage`: the sender is missing of what is in this file.
     NoSender { text: String, file: String },
     /// The words ask for help: for standard output, status 0.

@@ -5,12 +5,11 @@ ghost use Rattle.babel_dump.specs.Each.{EachCause, LooksUpAsked, LooksUpEach};
 ghost use Rattle.babel_dump.specs.Files.{name_of};
 ghost use Rattle.babel_dump.specs.Given.{GaveTable, IsFaultOfGiven, dump_of, read_from, reads};
 ghost use Rattle.babel_dump.specs.JobRun.{RanJob, capture_of};
-ghost use Rattle.babel_dump.specs.Parts.{FoundBy, Gathered, GaveSeen, Says};
+ghost use Rattle.babel_dump.specs.Parts.{FoundBy, FoundIn, Gathered, GaveSeen, Says};
 ghost use Rattle.babel_dump.specs.Run.{Called, InputCause, OfFirst, OfOther, calls_of};
-ghost use Rattle.babel_dump.specs.Run.{capture_calls, output, ran_outcome, stream_calls};
+ghost use Rattle.babel_dump.specs.Run.{output, ran_outcome, stream_calls};
 ghost use Rattle.babel_dump.specs.RunText.{answer_in};
-ghost use Rattle.babel_dump.specs.Tasks.{CaptureTaskCause, CaptureTaskSays, ComparisonCause};
-ghost use Rattle.babel_dump.specs.Tasks.{ComparisonSays, IsFaultOf, TaskSays};
+ghost use Rattle.babel_dump.specs.Tasks.{ComparisonCause, ComparisonSays, IsFaultOf, TaskSays};
 
 use crate::addr_pair::AddrPair;
 use crate::aside::Aside;
@@ -31,7 +30,6 @@ use crate::run_fault::{RunFault, Side};
 use crate::senders::find_senders;
 use crate::slices::{Found, finish};
 use crate::tasks::{found_of, found_of_both};
-use babel_capture::Wanted;
 use babel_table::Table;
 use babel_tlv::View;
 use std::alloc::Global;
@@ -275,19 +273,13 @@ fn find_of_capture<R: ByteIn>(
     reader: &mut R,
 ) -> Result<Found, RunFault>
     requires { HasRoomToCount (R.state reader.old) }
-    ensures { let capture =
-        capture_of (reads (R.state reader.old) (R.state reader.new)) reading task in
-        Gathered (capture_calls capture) (OfFirst (CaptureTaskCause task capture))
-        (Says (CaptureTaskSays task format capture)) result }
+    ensures { FoundIn task format
+        (capture_of (reads (R.state reader.old) (R.state reader.new)) reading task) result }
 {
     match task {
         CaptureTask::Senders => find_senders(alloc, reading, format, reader),
         CaptureTask::Extract { sender, place, hex } => {
-            let wanted = Wanted {
-                sender: Some(sender),
-                place,
-            };
-            find_packets(alloc, reading, wanted, hex, reader)
+            find_packets(alloc, reading, sender, place, hex, format, reader)
         }
     }
 }

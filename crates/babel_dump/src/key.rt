@@ -1,13 +1,15 @@
 ghost use Rattle.std.specs.Prelude.{◌≡◌, IfErr, IfOk};
 ghost use Rattle.babel_table.specs.Seen.{seen_rows};
 ghost use Rattle.babel_dump.specs.Command.{WritesOctets};
-ghost use Rattle.babel_dump.specs.KeyText.{key_line};
+ghost use Rattle.babel_dump.specs.KeyText.{file_in, key_in};
 ghost use Rattle.babel_dump.specs.Octets.{AreOctets, HasTooMany};
 ghost use Rattle.babel_dump.specs.Parts.{FoundTooMany, Says};
 ghost use Rattle.babel_dump.specs.SenderKeys.{IsKeyOf};
 
+use crate::format::Format;
 use crate::job::Form;
-use crate::key_text::key_line;
+use crate::key_name::file_output;
+use crate::key_text::key_output;
 use crate::normalise::octets_of;
 use crate::outcome::Outcome;
 use crate::reading::Reading;
@@ -48,35 +50,38 @@ pub(crate) fn found_key(
     reading: Reading,
     form: Form,
     view: View,
+    format: Format,
     file: &str,
     table: Table,
 ) -> Result<Found, Fault>
     ensures ok { IfOk result (Says (WritesOctets (AreOctets form reading view 1024 table)
-        (λ octets. key_line octets file.now) table.report)) }
+        (λ octets. key_in format octets (file_in format file.now)) table.report)) }
     ensures err { IfErr result
         (FoundTooMany (HasTooMany form reading.limits (seen_rows view table.rows))) }
 {
-    let key = make_key(alloc, reading, form, view, file.as_bytes(), table)?;
+    let named = file_output(alloc, format, file)?;
+    let key = make_key(alloc, reading, form, view, format, &named, table)?;
     let outcome = Outcome::of_dump(0, key.report);
     Ok(Found::text(alloc, key.line, outcome)?)
 }
 
-/// The key of a table, whose line has this name.
+/// The key of a table, which is named so in this format.
 pub(crate) fn make_key(
     alloc: Global,
     reading: Reading,
     form: Form,
     view: View,
-    name: &[u8],
+    format: Format,
+    named: &[u8],
     table: Table,
 ) -> Result<MadeKey, Fault>
-    ensures ok { IfOk result (λ key. IsKeyOf form reading view name.now key table) }
+    ensures ok { IfOk result (λ key. IsKeyOf form reading view format named.now key table) }
     ensures err { IfErr result
         (FoundTooMany (HasTooMany form reading.limits (seen_rows view table.rows))) }
 {
     let (report, rows) = (*table.report(), table.rows().len());
     let octets = octets_of(alloc, reading, form, view, Body::usual(), table)?;
-    let line = key_line(alloc, &octets, name)?;
+    let line = key_output(alloc, format, &octets, named)?;
     Ok(MadeKey {
         line,
         report,

@@ -1,8 +1,10 @@
-//! The line of a key, as `sha256sum` writes it.
+//! The line of a key, as `sha256sum` writes it, or as JSON.
 ghost use Rattle.std.specs.Prelude.{◌≡◌, ◌++◌, IfOk, OnOk};
 ghost use Rattle.std.specs.Option.{option_copied};
-ghost use Rattle.babel_dump.specs.KeyText.{file_text, has_escape, key_line, name_escape};
+ghost use Rattle.babel_dump.specs.KeyText.{file_text, has_escape, key_in, key_json, key_line};
+ghost use Rattle.babel_dump.specs.KeyText.{name_escape};
 
+use crate::format::Format;
 use sha2::{Digest, Sha256};
 use std::alloc::{AllocError, Global};
 use std::fmt;
@@ -33,9 +35,38 @@ fn write_file<W: Write>(f: &mut Formatter<W>, file: &str) -> fmt::Result {
     Ok(())
 }
 
-/// The line of the key of these octets: their SHA-256 in lower-case hexadecimal digits, two spaces
-/// and the file's name; with a backslash first where the name has a character that is escaped.
-pub(crate) fn key_line(alloc: Global, octets: &[u8], file: &[u8]) -> Result<Vec<u8>, AllocError>
+/// The line of the key of these octets, which are named so in this format.
+pub(crate) fn key_output(
+    alloc: Global,
+    format: Format,
+    octets: &[u8],
+    named: &[u8],
+) -> Result<Vec<u8>, AllocError>
+    ensures { IfOk result (λ line. line.items ≡ key_in format octets.now named.now) }
+{
+    match format {
+        Format::Text(_) => key_line(alloc, octets, named),
+        Format::Json(_) => key_json(alloc, octets, named),
+    }
+}
+
+/// Their SHA-256 in lower-case hexadecimal digits, and these members: an object.
+fn key_json(alloc: Global, octets: &[u8], members: &[u8]) -> Result<Vec<u8>, AllocError>
+    ensures { IfOk result (λ line. line.items ≡ key_json octets.now members.now) }
+{
+    let digits = hex::encode(alloc, Sha256::digest(octets))?;
+    let mut line = Vec::new(alloc);
+    line.extend_from_slice(br#"{"key":""#)?;
+    line.extend_from_slice(digits.as_bytes())?;
+    line.extend_from_slice(br#"","#)?;
+    line.extend_from_slice(members)?;
+    line.extend_from_slice(b"}\n")?;
+    Ok(line)
+}
+
+/// Their SHA-256 in lower-case hexadecimal digits, two spaces and the file's name; with a backslash
+/// first where the name has a character that is escaped.
+fn key_line(alloc: Global, octets: &[u8], file: &[u8]) -> Result<Vec<u8>, AllocError>
     ensures { IfOk result (λ line. line.items ≡ key_line octets.now file.now) }
 {
     let digits = hex::encode(alloc, Sha256::digest(octets))?;

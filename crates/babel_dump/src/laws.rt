@@ -8,8 +8,7 @@ ghost use Rattle.babel_dump.specs.OneOutcome.{WrittenIsPrefix};
 
 /// What the run of a job answers over devices that say their octets, failed calls and running out of
 /// memory aside, is settled by the octets of its readers: one outcome and one text, or one fault.
-/// Only of a capture in which the sender of a dump is not at one place may one run answer the dump's
-/// fault, and another that a datagram was left out. This does not speak of the faults of captures.
+/// This does not speak of the faults of captures.
 pub fn outcome_is_one()
     ensures outcome { OutcomeIsOne }
     ensures outcome_or_fault { OutcomeOrFault }
@@ -17,7 +16,7 @@ pub fn outcome_is_one()
 {}
 
 /// The fault of a dump is that of all octets that its reader had; of a dump in a capture it is that
-/// of packets of the blocks with which these begin.
+/// of packets of the blocks with which these begin, and the sender is at one place.
 pub fn fault_is_of_all()
     ensures { FaultIsOfAll }
 {}

@@ -52,7 +52,7 @@ impl MadeKeys {
             rows: 0,
         };
         for (origin, table) in tables {
-            let key = keys.key_of(alloc, origin, table, read.moment);
+            let key = keys.key_of(alloc, read, origin, table);
             made.push(alloc, keys, read, &origin, key)?;
         }
         Ok(made)

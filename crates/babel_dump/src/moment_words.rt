@@ -1,36 +1,31 @@
 //! The words of `--since` and `--until`.
-use crate::escaped::Escaped;
-use crate::job::Refusal;
+ghost use Rattle.std.specs.Prelude.{◌≡◌};
+ghost use Rattle.babel_capture.specs.Window.{moment_from};
+
+use crate::given_words::GivenWords;
 use crate::reading::TimeOption;
 use crate::time_word::parse_moment;
-use babel_capture::{Moment, Window};
-use clap::ArgMatches;
-use std::alloc::Global;
+use babel_capture::{Moment, Time, Window};
 
 /// The moments between which an input is read.
 #[derive(Clone, Copy)]
 pub(crate) struct Moments {
-    since: Option<Moment>,
-    until: Option<Moment>,
+    pub since: Option<Moment>,
+    pub until: Option<Moment>,
 }
 
 impl Moments {
     /// Those that these two options name.
-    pub(crate) fn of(
-        alloc: Global,
-        matches: &ArgMatches<'_>,
-        since: &str,
-        until: &str,
-    ) -> Result<Moments, Refusal> {
+    pub(crate) fn of(given: &mut GivenWords<'_, '_>, since: &str, until: &str) -> Moments {
         let moments = Moments {
-            since: moment(alloc, matches, since)?,
-            until: moment(alloc, matches, until)?,
+            since: moment(given, since),
+            until: moment(given, until),
         };
-        moments.in_order(alloc, since, until)
+        moments.in_order(given, since, until)
     }
 
     /// These, of the other input, or those of the first where they are left out.
-    pub(crate) fn or(&self, alloc: Global, first: &Moments) -> Result<Moments, Refusal> {
+    pub(crate) fn or(&self, given: &mut GivenWords<'_, '_>, first: &Moments) -> Moments {
         let moments = Moments {
             since: self.since.or(first.since),
             until: self.until.or(first.until),
@@ -45,18 +40,18 @@ impl Moments {
         } else {
             "until"
         };
-        moments.in_order(alloc, since, until)
+        moments.in_order(given, since, until)
     }
 
-    /// These, which two options name, if the one is not known to be later than the other.
-    fn in_order(self, alloc: Global, since: &str, until: &str) -> Result<Moments, Refusal> {
+    /// These, which two options name. They are refused if the one is known to be later than the
+    /// other.
+    fn in_order(self, given: &mut GivenWords<'_, '_>, since: &str, until: &str) -> Moments {
         if let (Some(start), Some(end)) = (self.since, self.until) {
             if is_later(start, end) {
-                let text = format!(in alloc; "--{since} is later than --{until}\n")?;
-                return Err(Refusal::Usage(text));
+                given.refuse(format!(in given.alloc; "--{since} is later than --{until}\n"));
             }
         }
-        Ok(self)
+        self
     }
 
     /// Which packets are read, where times are asked for besides, as `--expiry` does, or not.
@@ -86,6 +81,22 @@ pub(crate) fn moments_of(window: &Window) -> (Option<Moment>, Option<Moment>) {
     }
 }
 
+/// A moment in nanoseconds since the start of 1970, of a capture whose first packet came then.
+pub(crate) fn moment_from(first: Time, moment: Moment) -> u128
+    ensures { result ≡ moment_from first moment }
+{
+    match moment {
+        Moment::At(time) => time.nanoseconds(),
+        Moment::After {
+            seconds,
+            nanoseconds,
+        } => {
+            let later = u128::from(seconds) * 1_000_000_000 + u128::from(nanoseconds);
+            first.nanoseconds() + later
+        }
+    }
+}
+
 /// Whether a moment is later than another, whatever the capture.
 fn is_later(start: Moment, end: Moment) -> bool {
     match start {
@@ -107,20 +118,9 @@ fn is_later(start: Moment, end: Moment) -> bool {
 }
 
 /// The moment that an option names, where there is one.
-fn moment(alloc: Global, matches: &ArgMatches<'_>, id: &str) -> Result<Option<Moment>, Refusal> {
-    let Some(word) = matches.get_str(id) else {
-        return Ok(None);
-    };
-    match parse_moment(word) {
-        Some(moment) => Ok(Some(moment)),
-        None => {
-            let word = Escaped(word);
-            let text = format!(in alloc;
-                "not a time: {word}\n\
-                 hint: --{id} takes a time with an offset, as 2026-11-25T13:30:22.5Z, or seconds, \
-                 as @1764077422.5 since 1970 or +90 since the first record\n"
-            )?;
-            Err(Refusal::Usage(text))
-        }
-    }
+fn moment(given: &mut GivenWords<'_, '_>, id: &str) -> Option<Moment> {
+    let word = given.word(id)?;
+    let takes = "a time with an offset, as 2026-11-25T13:30:22.5Z, or seconds, as @1764077422.5 \
+                 since 1970 or +90 since the first record";
+    given.value(parse_moment(word), word, "a time", id, takes)
 }

@@ -1,5 +1,9 @@
 //! The options and arguments of the commands, a row for each.
 
+use crate::commands::{
+    ALL, AT_PLACE, FILTERED, OF_CAPTURES, OF_DUMPS, OF_OCTETS, OF_SENDER, OF_TWO,
+};
+
 /// What stands on the command line.
 #[derive(Clone, Copy)]
 pub(crate) enum Takes {
@@ -59,39 +63,6 @@ const MOST_ROUTES: i64 = 51_746_593;
 /// The most octets that a limit may be.
 const MOST_OCTETS: i64 = 4_294_967_295;
 
-const ALL: [&str; 10] = [
-    "show",
-    "lookup",
-    "normalise",
-    "key",
-    "pairs",
-    "compare",
-    "diff",
-    "senders",
-    "extract",
-    "events",
-];
-
-/// The commands that read dumps.
-const OF_DUMPS: [&str; 7] = [
-    "show",
-    "lookup",
-    "normalise",
-    "key",
-    "pairs",
-    "compare",
-    "diff",
-];
-
-/// The commands that read two dumps.
-const OF_TWO: [&str; 2] = ["compare", "diff"];
-
-/// The commands that read captures alone, without limits on routes.
-const OF_OCTETS: [&str; 2] = ["senders", "extract"];
-
-/// The commands that take filters.
-const FILTERED: [&str; 2] = ["show", "pairs"];
-
 /// What most rows are: an option that no value follows.
 const FLAG: OptionRow = OptionRow {
     id: "",
@@ -107,7 +78,7 @@ const FROM: OptionRow = OptionRow {
     id: "from",
     takes: Takes::Word("ADDRESS"),
     help: "The source address of the packets",
-    commands: &["show", "lookup", "normalise", "pairs", "extract"],
+    commands: &OF_SENDER,
     ..FLAG
 };
 
@@ -116,7 +87,7 @@ const INTERFACE: OptionRow = OptionRow {
     takes: Takes::Word("INTERFACE"),
     help: "The place in a capture: the interface, as 1, with its link and VLANs if there are any, \
            as 1/3, 1:10 or 1/3:10.20; required if the sender appears at several",
-    commands: &["show", "lookup", "normalise", "key", "pairs", "extract"],
+    commands: &AT_PLACE,
     ..FLAG
 };
 
@@ -168,7 +139,7 @@ const SINCE: OptionRow = OptionRow {
     takes: Takes::Word("TIME"),
     help: "Skip what a capture has before TIME: a time with an offset, as 2026-11-25T13:30:22Z, \
            seconds since 1970, as @1764077422.5, or seconds since the first record, as +90",
-    commands: &ALL,
+    commands: &OF_DUMPS,
     ..FLAG
 };
 
@@ -198,7 +169,9 @@ const STRICT: OptionRow = OptionRow {
 const JSON: OptionRow = OptionRow {
     id: "json",
     help: "Print one JSON object per line",
-    commands: &["show", "lookup", "pairs", "compare", "senders"],
+    commands: &[
+        "show", "lookup", "key", "pairs", "compare", "diff", "senders",
+    ],
     ..FLAG
 };
 
@@ -298,6 +271,17 @@ pub(crate) static READ: &[OptionRow] = &[
         ..HEX
     },
     SINCE,
+    OptionRow {
+        commands: &OF_OCTETS,
+        ..SINCE
+    },
+    OptionRow {
+        help: "Print what changed at TIME or later, having read what came before: a time with an \
+               offset, as 2026-11-25T13:30:22Z, seconds since 1970, as @1764077422.5, or seconds \
+               since the first record, as +90",
+        commands: &["events"],
+        ..SINCE
+    },
     UNTIL,
     EXPIRY,
     OptionRow {
@@ -368,7 +352,7 @@ pub(crate) static READ: &[OptionRow] = &[
     },
     OptionRow {
         help: "Suppress the notes on standard error",
-        commands: &["senders", "extract", "events"],
+        commands: &OF_CAPTURES,
         ..QUIET
     },
     MAX_OCTETS,
@@ -528,7 +512,7 @@ pub(crate) static ASKED: &[OptionRow] = &[
     OptionRow {
         takes: Takes::File("CAPTURE"),
         help: "The capture; standard input if omitted or -",
-        commands: &["senders", "extract", "events"],
+        commands: &OF_CAPTURES,
         ..FILE
     },
 ];

@@ -1,9 +1,11 @@
 ghost use Rattle.std.specs.Prelude.{◌≡◌};
+ghost use Rattle.babel_dump.specs.CaptureRun.{IsOutcomeOf};
+ghost use Rattle.babel_dump.specs.CaptureText.{senders_status};
 ghost use Rattle.babel_dump.specs.Command.{IsOutcome};
 ghost use Rattle.babel_dump.specs.Run.{run_status};
 
 use crate::run_fault::RunFault;
-use babel_capture::Report as CaptureReport;
+use babel_capture::{Gathered, Report as CaptureReport};
 use babel_prefix::Addr;
 use babel_table::Report;
 
@@ -42,6 +44,17 @@ impl Outcome {
         ensures { IsOutcome result status report }
     {
         let reports = Reports::Dump(report);
+        Outcome { status, reports }
+    }
+
+    /// That of a capture of which this was gathered, and which is cut short there: the status is 1
+    /// if no packets were found.
+    pub(crate) fn of_capture(gathered: &Gathered, cut: Option<u64>) -> Outcome
+        ensures { IsOutcomeOf result (senders_status gathered.now.senders) gathered.now.report cut }
+    {
+        let status = if gathered.senders().is_empty() { 1 } else { 0 };
+        let report = gathered.report();
+        let reports = Reports::Capture { report, cut };
         Outcome { status, reports }
     }
 }

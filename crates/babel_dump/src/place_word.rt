@@ -55,27 +55,12 @@ fn write_behind_interface<W: fmt::Write>(f: &mut fmt::Formatter<W>, place: Place
     Ok(())
 }
 
-/// A sender and its place in words, unless that is interface 0 alone.
-#[derive(Clone, Copy, Debug)]
-pub(crate) struct SenderInWords(pub Origin);
-
-impl fmt::Display for SenderInWords {
-    fn fmt<W: fmt::Write>(&self, f: &mut fmt::Formatter<W>) -> fmt::Result {
-        let Origin { place, sender } = self.0;
-        write!(f, "{sender}")?;
-        if place == Place::on(0) {
-            return Ok(());
-        }
-        write!(f, "{}", PlaceInWords(place))
-    }
-}
-
 /// A sender and its place, whose interface has this name, as the lines of `senders` have them; the
 /// place is left out where it is interface 0 alone, without a name.
 #[derive(Clone, Copy)]
 pub struct NamedOrigin<'a> {
     pub origin: Origin,
-    /// The name of its interface, as a capture has it; empty where it has none.
+    /// The name of its interface, as a capture has it; empty where it has none, or is not told.
     pub name: &'a [u8],
 }
 

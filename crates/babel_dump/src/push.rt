@@ -347,7 +347,7 @@ pub(crate) fn push_router_id(buffer: &mut Vec<u8>, router_id: [u8; 8])
 }
 
 /// Appends an octet as two lower-case hexadecimal digits.
-fn push_hex(buffer: &mut Vec<u8>, octet: u8)
+pub(crate) fn push_hex(buffer: &mut Vec<u8>, octet: u8)
     requires { HasRoom buffer.old 2 }
     ensures text { buffer.new.items ≡ buffer.old.items ++ hex_digits (octet ∷ []) }
     ensures room { TookRoom buffer.old buffer.new 2 }

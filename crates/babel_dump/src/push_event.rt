@@ -101,7 +101,7 @@ pub(crate) fn push_event_end_json(
 }
 
 /// When it was.
-fn time_of(told: &Telling<Speaker>) -> u128
+pub(crate) fn time_of(told: &Telling<Speaker>) -> u128
     ensures { result ≡ time_of told.now }
 {
     match told {

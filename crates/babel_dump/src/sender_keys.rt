@@ -2,6 +2,7 @@
 ghost use Rattle.std.specs.Prelude.{◌≡◌, ◌+◌, ◌^◌, ◌<◌, ◌≤◌, ◌-◌, List, IfErr, IfNone, IfOk};
 ghost use Rattle.std.specs.Prelude.{IfSome};
 ghost use Rattle.babel_capture.specs.Counts.{Made};
+ghost use Rattle.babel_capture.specs.Gathering.{name_of};
 ghost use Rattle.babel_dump.specs.Device.{HasRoomToCount};
 ghost use Rattle.babel_dump.specs.Fed.{AreWhole};
 ghost use Rattle.babel_dump.specs.Packets.{packets_made};
@@ -10,23 +11,20 @@ ghost use Rattle.babel_dump.specs.Run.{capture_calls};
 ghost use Rattle.babel_dump.specs.SenderKeys.{GaveSenders, IsFedOwn, IsSenderKey, NoSenderKey};
 ghost use Rattle.babel_dump.specs.SenderKeys.{SendersCause, capture_read_by, each_from};
 ghost use Rattle.babel_dump.specs.SenderKeys.{first_missed, is_asked, own_packets, read_by};
-ghost use Rattle.babel_dump.specs.SenderKeys.{sender_name};
 
 use crate::byte_in::ByteIn;
 use crate::capture_input::{CaptureRead, read_capture};
 use crate::capture_reading::CaptureReading;
-use crate::diff::{ROOM, push_place};
 use crate::factor::Factor;
+use crate::format::Format;
 use crate::input::{refuse_unread, what_expired};
 use crate::input_fault::InputFault;
 use crate::job::{DumpFile, Form};
 use crate::key::{MadeKey, make_key};
+use crate::key_name::origin_output;
 use crate::left_out::first_whole_left_out;
-use crate::push::push_octet;
-use crate::push_addr::push_addr;
 use crate::reading::{Reading, capture_limit};
 use crate::sender_tables::{SenderTable, SenderTables};
-use crate::spelling::Spelling;
 use babel_capture::{Gathered as GatheredPackets, Origin, Place, Wanted, Window};
 use babel_table::Limits;
 use babel_tlv::{Mode, View};
@@ -56,6 +54,7 @@ pub struct SenderKeys {
     /// Whether the keys are those of the canonical octets, or of the route octets.
     pub form: Form,
     pub file: DumpFile,
+    pub format: Format,
     pub quiet: bool,
 }
 
@@ -148,8 +147,8 @@ impl SenderKeys {
         greatest
     }
 
-    /// The key of the dump of a sender at its place, of which this is the table, up to this moment;
-    /// its line names the file, and then these.
+    /// The key of the dump of a sender at its place, of which this is the table, in the capture of
+    /// which this was read; its line names the file, and then these.
     ///
     /// # Errors
     ///
@@ -158,28 +157,32 @@ impl SenderKeys {
     pub fn key_of(
         &self,
         alloc: Global,
+        read: &CaptureRead,
         origin: Origin,
         table: SenderTable,
-        moment: Option<u128>,
     ) -> Result<MadeKey, InputFault>
         ensures ok { IfOk result (λ key. (made : List Made) → AreWhole (packets_made made)
             → IsFedOwn self.now origin (own_packets origin made) (first_missed origin made) table
-            → IsSenderKey self.now made moment origin key) }
+            → IsSenderKey self.now made read.now.moment origin
+            (name_of read.now.gathered origin.place.interface) key) }
         ensures err { IfErr result (λ fault. (made : List Made) → AreWhole (packets_made made)
             → IsFedOwn self.now origin (own_packets origin made) (first_missed origin made) table
-            → NoSenderKey self.now made moment origin fault) }
+            → NoSenderKey self.now made read.now.moment origin fault) }
     {
         let SenderTable { packets, missed } = table;
         if let Some(datagram) = missed {
             return Err(InputFault::LeftOut(datagram));
         }
+        let moment = read.moment;
         let expired = what_expired(self.expiry, moment);
         let expired_rows = packets.count_expired(expired, moment);
         let table = packets.finish(expired)?;
         refuse_unread(self.strict, None, table.report())?;
         let reading = Reading::of(self.limits, self.mode, origin.sender);
-        let name = sender_name(alloc, self.file.name(), origin)?;
-        let key = make_key(alloc, reading, self.form, self.view, &name, table)?;
+        let (format, file) = (self.format, self.file.name());
+        let name = read.gathered.name(origin.place.interface);
+        let named = origin_output(alloc, format, file, origin, name)?;
+        let key = make_key(alloc, reading, self.form, self.view, format, &named, table)?;
         Ok(key.with_expired_rows(expired_rows))
     }
 
@@ -196,17 +199,4 @@ impl SenderKeys {
         }
         Some(before + rows as u32)
     }
-}
-
-/// `FILE ADDRESS interface N`: what names the dump of a sender at its place.
-fn sender_name(alloc: Global, file: &str, origin: Origin) -> Result<Vec<u8>, AllocError>
-    ensures { IfOk result (λ name. name.items ≡ sender_name file.now origin) }
-{
-    let mut name = Vec::new(alloc);
-    name.extend_from_slice(file.as_bytes())?;
-    name.reserve(ROOM)?;
-    push_octet(&mut name, b' ');
-    push_addr(&mut name, Spelling::Long, origin.sender);
-    push_place(&mut name, Some(origin.place));
-    Ok(name)
 }

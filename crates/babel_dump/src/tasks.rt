@@ -53,7 +53,7 @@ pub(crate) fn found_of(
             body,
             hex,
         } => found_octets(alloc, reading, form, view, body, hex, table),
-        Task::Key { form, view } => found_key(alloc, reading, form, view, name, table),
+        Task::Key { form, view } => { found_key(alloc, reading, form, view, format, name, table) }
         Task::Pairs {
             form,
             view,
@@ -95,7 +95,9 @@ pub(crate) fn found_of_both(
         },
         Comparison::Diff(style) => {
             let (file, other_file) = (first.file.name(), second.file.name());
-            found_diff(alloc, one, two, view, style, file, other_file, &seen)
+            found_diff(
+                alloc, one, two, view, style, format, file, other_file, &seen,
+            )
         }
     }
 }

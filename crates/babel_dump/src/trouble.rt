@@ -253,7 +253,9 @@ fn explain_pairs<S: Says, R: Watched>(says: &mut S, asked: &Asked, fault: &Pairs
     match fault {
         PairsFault::Read => say_why(says, reader.error()),
         PairsFault::TooLong => say_hint(says, &Hint::of_octets(asked)),
-        PairsFault::NotAPair { .. } => say_hint(says, &Some(Hint::NotAPair)),
+        PairsFault::NotAPair { .. } => says.say(
+            &"hint: a line has a destination and a source of one family, with blanks between them",
+        ),
     }
 }
 

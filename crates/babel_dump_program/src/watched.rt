@@ -3,12 +3,13 @@ use babel_dump::Watched;
 use std::fs::File;
 use std::io;
 use std::io::{Read, Stdin, Write};
+use std::os::unix::fs::FileExt;
 
 /// How many of an input's first octets are remembered: enough to tell text from other octets.
 const FIRST: usize = 64;
 
-/// How many of the octets that came last are remembered: a piece of a capture, and before it more
-/// than the longest header of a block.
+/// How many of the octets that came last are remembered of an input that can't be read again: a
+/// piece of a capture, and before it more than the longest header of a block.
 const LAST: usize = 65_600;
 
 /// The first octets that a reader gave, at most 64.
@@ -59,6 +60,15 @@ impl Ending {
         }
         self.octets.get(place_of(offset)).copied()
     }
+
+    /// The four octets from this offset on, if they are remembered.
+    fn four_at(&self, offset: u64) -> Option<[u8; 4]> {
+        let mut four = [0; 4];
+        for (octet, place) in four.iter_mut().zip(offset..) {
+            *octet = self.at(place)?;
+        }
+        Some(four)
+    }
 }
 
 /// The place of the octet with this offset.
@@ -81,6 +91,25 @@ pub enum Source {
     Nothing,
 }
 
+/// What may be read once more where it was read before.
+pub trait Again {
+    /// The four octets from this offset on, read again; `None` where that can't be, as of a pipe.
+    fn read_again(&self, offset: u64) -> Option<[u8; 4]>;
+}
+
+impl Again for Source {
+    fn read_again(&self, offset: u64) -> Option<[u8; 4]> {
+        let Source::File(file) = self else {
+            return None;
+        };
+        let mut four = [0; 4];
+        match file.read_at(&mut four, offset) {
+            Ok(4) => Some(four),
+            _ => None,
+        }
+    }
+}
+
 impl Read for Source {
     fn read(&mut self, buf: &mut [u8]) -> io::Result<usize> {
         match self {
@@ -91,33 +120,38 @@ impl Read for Source {
     }
 }
 
-/// A reader that remembers the first octets that it gave and the last ones, and why it failed last.
+/// A reader that remembers the first octets that it gave, and the last ones if they can't be read
+/// again, and why it failed last.
 #[derive(Drop)]
 pub struct WatchedReader<R> {
     reader: R,
     beginning: Beginning,
-    ending: Ending,
+    ending: Option<Ending>,
     error: Option<io::Error>,
 }
 
-impl<R> WatchedReader<R> {
+impl<R: Again> WatchedReader<R> {
     pub fn new(reader: R) -> WatchedReader<R> {
+        let ending = match reader.read_again(0) {
+            Some(_) => None,
+            None => Some(Ending {
+                octets: [0; LAST],
+                given: 0,
+            }),
+        };
         WatchedReader {
             reader,
             beginning: Beginning {
                 octets: [0; FIRST],
                 len: 0,
             },
-            ending: Ending {
-                octets: [0; LAST],
-                given: 0,
-            },
+            ending,
             error: None,
         }
     }
 }
 
-impl<R> Watched for WatchedReader<R> {
+impl<R: Again> Watched for WatchedReader<R> {
     fn begins(&self) -> &[u8] {
         let beginning = &self.beginning;
         match beginning.octets.get(..beginning.len) {
@@ -127,11 +161,10 @@ impl<R> Watched for WatchedReader<R> {
     }
 
     fn four_at(&self, offset: u64) -> Option<[u8; 4]> {
-        let mut four = [0; 4];
-        for (octet, place) in four.iter_mut().zip(offset..) {
-            *octet = self.ending.at(place)?;
+        match &self.ending {
+            Some(ending) => ending.four_at(offset),
+            None => self.reader.read_again(offset),
         }
-        Some(four)
     }
 
     fn error(&self) -> Option<&io::Error> {
@@ -147,7 +180,9 @@ impl<R: Read> Read for WatchedReader<R> {
             Ok(n) => {
                 if let Some(octets) = buf.get(..n) {
                     self.beginning.remember(octets);
-                    self.ending.remember(octets);
+                    if let Some(ending) = &mut self.ending {
+                        ending.remember(octets);
+                    }
                 }
                 Ok(n)
             }

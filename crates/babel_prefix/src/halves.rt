@@ -1,5 +1,5 @@
 //! The number of an address, as two words of 64 bits.
-ghost use Rattle.std.specs.Prelude.{◌≡◌, ◌==◌};
+ghost use Rattle.std.specs.Prelude.{◌≡◌, ◌==◌, ◌/◌, ◌%◌, ◌^◌};
 ghost use Rattle.std.proofs.Common.{rules};
 ghost use Rattle.std.specs.Cmp.{partial_order_from_own_ties};
 ghost use Rattle.std.specs.Cmp.Rules.{comparing};
@@ -10,8 +10,8 @@ use std::marker::Model;
 
 /// A number of 128 bits in two halves. A `u128` begins at a multiple of 16 octets, so that beside a
 /// family and a length it would leave 14 octets empty, which every copy moves too.
-#[derive(Clone, Copy, Debug)]
-pub(crate) struct Halves {
+#[derive(Clone, Copy)]
+pub struct Halves {
     high: u64,
     low: u64,
 }
@@ -36,7 +36,7 @@ impl Model for Halves {
 
 impl Halves {
     /// The number in halves.
-    pub(crate) fn new(number: u128) -> Halves
+    pub fn new(number: u128) -> Halves
         ensures { result ≡ number }
     {
         Halves {
@@ -45,8 +45,22 @@ impl Halves {
         }
     }
 
+    /// The higher half of the number, 64 bits.
+    pub fn high(&self) -> u64
+        ensures { result ≡ self.now / 2 ^ 64 }
+    {
+        self.high
+    }
+
+    /// The lower half of the number, 64 bits.
+    pub fn low(&self) -> u64
+        ensures { result ≡ self.now % 2 ^ 64 }
+    {
+        self.low
+    }
+
     /// The number that the halves are of.
-    pub(crate) fn number(&self) -> u128
+    pub fn number(&self) -> u128
         ensures { result ≡ self.now }
     {
         (self.high as u128) << 64 | self.low as u128

@@ -70,8 +70,8 @@ impl<W: Word> Ord for CompactKey<W> {
     ghost matches_eq = { Prim.search (comparing, rules) };
 
     fn cmp(&self, other: &CompactKey<W>) -> Ordering {
-        match self.dst().cmp(&other.dst()) {
-            Ordering::Equal => self.src().cmp(&other.src()),
+        match self.dst().order(&other.dst()) {
+            Ordering::Equal => self.src().order(&other.src()),
             order => order,
         }
     }

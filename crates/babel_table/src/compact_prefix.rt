@@ -1,7 +1,6 @@
 ghost use Rattle.std.specs.Prelude.{◌≡◌, ◌↔◌, IsTrue};
-ghost use Rattle.std.specs.Cmp.Rules.{comparing};
-ghost use Rattle.std.proofs.Common.{rules};
 ghost use Rattle.babel_prefix.specs.Covers.{Covers};
+ghost use Rattle.babel_prefix.specs.Order.{prefix_cmp};
 ghost use Rattle.babel_prefix.specs.Width.{width_of};
 ghost use Rattle.babel_table.specs.Compact.{address_in};
 
@@ -31,7 +30,6 @@ impl<W: Word> Model for CompactPrefix<W> {
 
 impl<W: Word> PartialEq for CompactPrefix<W> {
     ghost use Rattle.std.specs.Ordering.{eq_by_cmp};
-    ghost use Rattle.babel_prefix.specs.Order.{prefix_cmp};
     ghost use Rattle.std.specs.Cmp.{partial_equiv_from_equiv, eq_by_cmp_equiv};
     ghost use Rattle.babel_prefix.specs.TotalOrder.{prefix_total};
 
@@ -40,54 +38,18 @@ impl<W: Word> PartialEq for CompactPrefix<W> {
     ghost laws = { partial_equiv_from_equiv (eq_by_cmp_equiv prefix_total) };
 
     fn eq(&self, other: &CompactPrefix<W>) -> bool {
-        self.cmp(other) == Ordering::Equal
-    }
-}
-
-impl<W: Word> Eq for CompactPrefix<W> {
-    ghost use Rattle.std.specs.Cmp.{eq_by_cmp_equiv};
-    ghost use Rattle.babel_prefix.specs.TotalOrder.{prefix_total};
-
-    ghost laws = { eq_by_cmp_equiv prefix_total };
-}
-
-impl<W: Word> Ord for CompactPrefix<W> {
-    ghost use Rattle.babel_prefix.specs.Order.{prefix_cmp};
-    ghost use Rattle.babel_prefix.specs.TotalOrder.{prefix_total};
-
-    ghost cmp = { prefix_cmp };
-
-    ghost total = { prefix_total };
-
-    ghost matches_partial_cmp = { Prim.search (comparing, rules) };
-
-    ghost matches_eq = { Prim.search (comparing, rules) };
-
-    fn cmp(&self, other: &CompactPrefix<W>) -> Ordering {
-        match self.word.cmp(&other.word) {
-            Ordering::Equal => self.len.cmp(&other.len),
-            order => order,
-        }
-    }
-}
-
-impl<W: Word> PartialOrd for CompactPrefix<W> {
-    ghost use Rattle.std.specs.Ordering.{as_partial_cmp};
-    ghost use Rattle.std.specs.Cmp.{partial_order_from_own_ties, partial_order_from_total};
-    ghost use Rattle.babel_prefix.specs.Order.{prefix_cmp};
-    ghost use Rattle.babel_prefix.specs.TotalOrder.{prefix_total};
-
-    ghost partial_cmp = { as_partial_cmp prefix_cmp };
-
-    ghost laws = { partial_order_from_own_ties (partial_order_from_total prefix_total)
-        (Prim.search (comparing, rules)) };
-
-    fn partial_cmp(&self, other: &CompactPrefix<W>) -> Option<Ordering> {
-        Some(self.cmp(other))
+        self.order(other) == Ordering::Equal
     }
 }
 
 impl<W: Word> CompactPrefix<W> {
+    /// The order of the two, which is that of the prefixes.
+    pub fn order(&self, other: &CompactPrefix<W>) -> Ordering
+        ensures { result ≡ prefix_cmp self.now other.now }
+    {
+        self.word.order(other.word).then(self.len.cmp(&other.len))
+    }
+
     /// The prefix, kept so.
     pub fn of(prefix: &Prefix) -> CompactPrefix<W>
         requires { prefix.now.address.family ≡ W.family }

@@ -4,9 +4,8 @@ ghost use Rattle.babel_prefix.specs.Address.{Address};
 ghost use Rattle.babel_prefix.specs.declared.family.Family.TheVariants.{V4, V6};
 ghost use Rattle.babel_table.specs.Compact.{address_in};
 
-use crate::halves::Halves;
 use crate::word::Word;
-use babel_prefix::{Addr, Family, Prefix};
+use babel_prefix::{Addr, Family, Halves, Prefix};
 
 /// A next hop, in no more octets than it needs where all are of one family.
 pub trait Hop: Copy {
@@ -61,7 +60,7 @@ impl Hop for Halves {
     ghost fits = { λ addr. addr.family ≡ V6 };
 
     fn none() -> Halves {
-        Halves::zero()
+        Halves::new(0)
     }
 
     fn kept(addr: Addr) -> Halves {

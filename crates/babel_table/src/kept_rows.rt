@@ -11,12 +11,11 @@ ghost use Rattle.babel_table.specs.Words.{replaced};
 ghost use Rattle.babel_table.specs.TableRows.{AreRows};
 
 use crate::family_rows::FamilyRows;
-use crate::halves::Halves;
 use crate::moment::Moment;
 use crate::nested_rows::NestedRows;
 use crate::sorted_rows::SortedRows;
 use crate::v4_rows::V4Rows;
-use babel_prefix::{Addr, Family};
+use babel_prefix::{Addr, Family, Halves};
 use babel_tlv::{Fault, Held, Key};
 use std::alloc::{AllocError, Global};
 use std::marker::Model;

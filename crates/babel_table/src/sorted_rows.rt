@@ -4,11 +4,10 @@ ghost use Rattle.babel_table.specs.Left.{rows_left};
 ghost use Rattle.babel_table.specs.Seen.{seen_rows};
 ghost use Rattle.babel_table.specs.TableRows.{AreRows, family_rows};
 
-use crate::halves::Halves;
 use crate::nested_rows::NestedRows;
 use crate::nested_v4::NestedV4;
 use crate::table_rows::TableRows;
-use babel_prefix::{Addr, Family};
+use babel_prefix::{Addr, Family, Halves};
 use babel_tlv::{Held, View};
 use std::marker::Model;
 

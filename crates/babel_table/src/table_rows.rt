@@ -3,10 +3,9 @@ ghost use Rattle.babel_tlv.specs.Pair.{Pair};
 ghost use Rattle.babel_tlv.specs.declared.held.Held.{Held};
 
 use crate::compact_row::CompactRow;
-use crate::halves::Halves;
 use crate::hop::Hop;
 use crate::word::Word;
-use babel_prefix::Addr;
+use babel_prefix::{Addr, Halves};
 use babel_tlv::{Held, Key};
 
 /// The rows of a table in rising order, each once.

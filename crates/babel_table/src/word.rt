@@ -2,23 +2,20 @@
 ghost use Rattle.std.specs.Prelude.{◌≡◌, ◌≤◌, ◌↔◌, ℕ, IsTrue};
 ghost use Rattle.std.specs.Ordering.{nat_cmp};
 ghost use Rattle.babel_prefix.specs.declared.family.Family.{Family as AddressFamily};
-ghost use Rattle.babel_prefix.specs.declared.family.Family.TheVariants.{V4};
+ghost use Rattle.babel_prefix.specs.declared.family.Family.TheVariants.{V4, V6};
 ghost use Rattle.babel_prefix.specs.Block.{leading_bits};
 ghost use Rattle.babel_prefix.specs.Width.{width_of};
 ghost use Rattle.babel_table.specs.Said.{folded};
 
 use crate::compact_key::mixed;
-use babel_prefix::{Addr, Family};
+use babel_prefix::{Addr, Family, Halves};
+use std::cmp::Ordering;
 
 /// The bits of an address of one family, no wider than they have to be.
-pub trait Word: Ord + Copy {
+pub trait Word: Copy {
     ghost family: { AddressFamily };
 
     ghost number: { Self → ℕ };
-
-    /// No bits.
-    fn zero() -> Self
-        ensures { number result ≡ 0 };
 
     /// The bits of an address of the family.
     fn of(addr: Addr) -> Self
@@ -39,20 +36,15 @@ pub trait Word: Ord + Copy {
         ensures { IsTrue result ↔ (leading_bits (width_of family) len (number self)
             ≡ leading_bits (width_of family) len (number other)) };
 
-    // Words are ordered as the bits are.
-    ghost ordered: { (a b : Self) → Self.cmp a b ≡ nat_cmp (number a) (number b) };
+    /// The order of the two, which is that of the bits.
+    fn order(self, other: Self) -> Ordering
+        ensures { result ≡ nat_cmp (number self) (number other) };
 }
 
 impl Word for u32 {
-    ghost use Rattle.std.specs.Prelude.{refl};
-
     ghost family = { V4 };
 
     ghost number = { λ w. w };
-
-    fn zero() -> u32 {
-        0
-    }
 
     fn of(addr: Addr) -> u32 {
         addr.bits() as u32
@@ -71,5 +63,34 @@ impl Word for u32 {
         u64::from(self) >> rest == u64::from(other) >> rest
     }
 
-    ghost ordered = { λ a b. refl };
+    fn order(self, other: u32) -> Ordering {
+        self.cmp(&other)
+    }
+}
+
+impl Word for Halves {
+    ghost family = { V6 };
+
+    ghost number = { λ w. w };
+
+    fn of(addr: Addr) -> Halves {
+        Halves::new(addr.bits())
+    }
+
+    fn addr(self) -> Addr {
+        Addr::new(Family::V6, self.number()).unwrap()
+    }
+
+    #[tactic(auto, unfolding(crate::specs::Said::folded))]
+    fn fold(self, seed: u128) -> u64 {
+        mixed(seed, self.high(), self.low())
+    }
+
+    fn agrees(self, other: Halves, len: u8) -> bool {
+        len == 0 || self.number() >> (128 - len) == other.number() >> (128 - len)
+    }
+
+    fn order(self, other: Halves) -> Ordering {
+        self.cmp(&other)
+    }
 }

@@ -10,3 +10,4 @@ pub mod BestLaws
 pub mod TakingLaws
 pub mod HearingLaws
 pub mod PlaceLaws
+pub mod LaterLaws

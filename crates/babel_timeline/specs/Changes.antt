@@ -1,5 +1,7 @@
 -- What changes say: this project's own.
 use Rattle.std.specs.Prelude.{◌≡◌, ◌≢◌, ℕ, if◌then◌else◌, List, Option, Some, None, fold}
+use Rattle.std.specs.Prelude.{nat_le, not}
+use Rattle.std.specs.List.{filter}
 use Rattle.std.specs.declared.cmp.Ordering.{Ordering}
 use Rattle.std.specs.BTreeMap.{is_at}
 use Rattle.babel_tlv.specs.Route.{Announcement}
@@ -29,9 +31,24 @@ TellsAnnouncement time subject (Some row) ann None = row.ann ≡ ann
 TellsAnnouncement time subject (Some row) ann (Some told) =
     (row.ann ≢ ann) × (told ≡ change time subject (kinds.Changed ann))
 
--- what changes say is held for a subject: what the last of them says, and nothing before any
+-- what changes make of what was held for a subject: what the last of them says
+abbrev pub turned_by : {S : Type 0} → (S → S → Ordering) → Option Announcement → List (Change S)
+    → Subject S → Option Announcement
+turned_by cmp before changes subject =
+    fold (λ held told. if is_at (subject_cmp cmp subject) told.subject
+    then held_after told.kind else held) before changes
+
+-- what changes say is held for a subject, where nothing was before any
 abbrev pub told_by : {S : Type 0} → (S → S → Ordering) → List (Change S) → Subject S
     → Option Announcement
-told_by cmp changes subject =
-    fold (λ held told. if is_at (subject_cmp cmp subject) told.subject
-    then held_after told.kind else held) None changes
+told_by cmp changes subject = turned_by cmp None changes subject
+
+-- the changes up to a moment, before one, and from one on
+abbrev pub up_to : {S : Type 0} → ℕ → List (Change S) → List (Change S)
+up_to moment changes = filter (λ told. nat_le told.time moment) changes
+
+abbrev pub before : {S : Type 0} → ℕ → List (Change S) → List (Change S)
+before moment changes = filter (λ told. not (nat_le moment told.time)) changes
+
+abbrev pub from_on : {S : Type 0} → ℕ → List (Change S) → List (Change S)
+from_on moment changes = filter (λ told. nat_le moment told.time) changes

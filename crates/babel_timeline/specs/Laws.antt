@@ -15,7 +15,8 @@ use Rattle.babel_timeline.specs.declared.change.ChangeKind.TheVariants as kinds
 use Rattle.babel_timeline.specs.declared.row.Row.{Row}
 use Rattle.babel_timeline.specs.declared.subject.Subject.{Subject}
 use Rattle.babel_timeline.specs.Accounts.{IsAccount, IsHeldAt, Said, said, said_by}
-use Rattle.babel_timeline.specs.Changes.{TellsAnnouncement, change, told_by}
+use Rattle.babel_timeline.specs.Changes.{TellsAnnouncement, before, change, from_on, told_by}
+use Rattle.babel_timeline.specs.Changes.{turned_by, up_to}
 use Rattle.babel_timeline.specs.Rows.{AllLast, EndsFirst, HasNone, Rows, row_at, subject_cmp}
 
 -- the rows without that of the subject
@@ -100,3 +101,12 @@ module _ {S : Type 0} (cmp : S → S → Ordering) (factor : Option ℕ) where
       → Account None all moment changes rows → IsTime moment later rows
       → (told_by cmp changes subject ≡ Some ann)
       ↔ IsHeldAt factor later (said_by cmp subject.sender all) subject.key ann
+
+  -- the changes from a moment on, up to a later one, turn what those before it say is held into what
+  -- all say up to then
+  abbrev pub LaterChangesTurnRows : Type 0
+  LaterChangesTurnRows = (all : List (Said S)) (moment : ℕ) (changes : List (Change S))
+      (rows : Rows S) (since later : ℕ) (subject : Subject S)
+      → Account None all moment changes rows → since ≤ later
+      → turned_by cmp (told_by cmp (before since changes) subject)
+      (from_on since (up_to later changes)) subject ≡ told_by cmp (up_to later changes) subject

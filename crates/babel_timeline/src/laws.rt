@@ -6,6 +6,7 @@ ghost use Rattle.babel_timeline.specs.BestAnswers.{AnswersAreBest, RowsAnswerBes
 ghost use Rattle.babel_timeline.specs.Laws.{AllRetractedKeepsAccount, AnnouncingKeepsAccount};
 ghost use Rattle.babel_timeline.specs.Laws.{BeginsAccount, ChangesSayWhatIsHeld};
 ghost use Rattle.babel_timeline.specs.Laws.{EachRetractedKeepsAccount, ExpiringKeepsAccount};
+ghost use Rattle.babel_timeline.specs.Laws.{LaterChangesTurnRows};
 ghost use Rattle.babel_timeline.specs.Laws.{RetractingAllKeepsAccount, RetractingKeepsAccount};
 ghost use Rattle.babel_timeline.specs.Laws.{SilenceKeepsAccount};
 
@@ -31,6 +32,12 @@ pub fn accounts_are_kept_by_wildcards<S: Sender>()
 /// Once all that ends by a moment has been told, the changes say exactly what is held then.
 pub fn changes_say_what_is_held<S: Sender>()
     ensures { (factor : Option ℕ) → ChangesSayWhatIsHeld S.cmp factor }
+{}
+
+/// The changes from a moment on turn what was held just before it into what is held at each later
+/// one, as far as the whole account says so.
+pub fn later_changes_turn_rows<S: Sender>()
+    ensures { (factor : Option ℕ) → LaterChangesTurnRows S.cmp factor }
 {}
 
 /// RFC 9079, 4: where two addresses are asked for, a sender's answer is what it announces for its

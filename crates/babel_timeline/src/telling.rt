@@ -1,5 +1,10 @@
+ghost use Rattle.std.specs.Prelude.{◌≡◌, ◌∷◌, ◌++◌, [], OnOk, Some};
+ghost use Rattle.babel_timeline.specs.declared.telling.Telling.TheVariants as tellings;
+
 use crate::change::Change;
+use crate::sender::Sender;
 use babel_tlv::Ann;
+use std::alloc::AllocError;
 
 /// What is told: a line of its own.
 #[derive(Clone, Copy)]
@@ -15,4 +20,24 @@ pub enum Telling<S> {
         /// What the best match (RFC 9079, 4) announces now; `None` where there is none.
         answer: Option<Ann>,
     },
+}
+
+impl<S: Sender> Telling<S> {
+    /// Adds that a sender answers this at a time.
+    pub fn add_route(
+        told: &mut Vec<Telling<S>>,
+        time: u128,
+        sender: S,
+        ann: Ann,
+    ) -> Result<(), AllocError>
+        ensures { OnOk result (told.new.items
+            ≡ told.old.items ++ tellings.Answer time sender (Some ann) ∷ []) }
+    {
+        told.push(Telling::Answer {
+            time,
+            sender,
+            answer: Some(ann),
+        })?;
+        Ok(())
+    }
 }

@@ -1,7 +1,7 @@
 use crate::ann::Ann;
 
 /// What a table holds for a key: RFC 8966, 2.8. A route comes before an unreachable row.
-#[derive(Clone, Copy, Debug, PartialEq, Eq, PartialOrd, Ord)]
+#[derive(Clone, Copy, PartialEq, Eq, PartialOrd, Ord)]
 pub enum Held {
     /// The route that was announced last.
     Route(Ann),

@@ -1,5 +1,5 @@
 /// What a retraction leaves: RFC 8966, 2.8.
-#[derive(Clone, Copy, Debug, PartialEq, Eq)]
+#[derive(Clone, Copy, PartialEq, Eq)]
 pub enum Mode {
     /// Nothing: a retracted key has no row.
     Plain,

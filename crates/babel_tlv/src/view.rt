@@ -12,7 +12,7 @@ const STATED_ID: [u8; 8] = [0, 0, 0, 0, 0, 0, 0, 1];
 
 /// Which fields of an announcement (RFC 8966, 4.6.9) count: those that are true are kept, and the
 /// others ignored.
-#[derive(Clone, Copy, Debug)]
+#[derive(Clone, Copy)]
 pub struct View {
     /// Whether the address that packets are sent to counts.
     pub next_hop: bool,

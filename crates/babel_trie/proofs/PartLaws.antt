@@ -3,6 +3,7 @@ use Rattle.std.proofs.Common.{◌≡◌, inl, inr, ℕ, ◌+◌, ◌-◌, ◌^�
 use Rattle.std.proofs.lemmas.Bool.{cases_order, false≢true}
 use Rattle.std.specs.List.{slice_get}
 use Rattle.std.specs.Option.{IfSome, IfNone}
+use Rattle.std.specs.Prelude.{Result, Ok, Err, IfOk, OnOk}
 use Rattle.std.specs.List.Sorted.{IsPartitionedBy}
 use Rattle.babel_prefix.specs.Block.{Block}
 use Rattle.babel_prefix.specs.Covers.{BlockCovers}
@@ -25,6 +26,14 @@ to_map f (y ∷ xs) x (inr t) = inr (to_map f xs x t)
 -- what is said of a value, if there is one, holds of the one that is there
 pub some_holds : {X : Type 0} (P : X → Type 0) {o : Option X} {x : X} → IfSome o P → o ≡ Some x → P x
 some_holds P holds is = subst (λ o. IfSome o P) is holds
+
+pub if_ok_then : {X E : Type 0} {P Q : X → Type 0} (r : Result X E) → IfOk r P → ((x : X) → P x → Q x) → IfOk r Q
+if_ok_then (Ok x) holds then = then x holds
+if_ok_then (Err e) holds then = tt
+
+pub on_ok_then : {X E P Q : Type 0} (r : Result X E) → OnOk r P → (P → Q) → OnOk r Q
+on_ok_then (Ok x) holds then = then holds
+on_ok_then (Err e) holds then = tt
 
 pub none_holds : {X : Type 0} {P : Type 0} {o : Option X} → IfNone o P → o ≡ None → P
 none_holds {P = P} holds is = subst (λ o. IfNone o P) is holds

@@ -2,8 +2,6 @@
 -- do: this project's own.
 use Rattle.std.specs.Prelude.{ℕ, ◌+◌, ◌*◌, ◌/◌, ◌%◌, ◌^◌, Option, Some, None}
 use Rattle.babel_trie.specs.declared.differing.Differing.{Differing}
-use Rattle.babel_trie.specs.declared.table.Loose.{Loose}
-use Rattle.babel_trie.specs.declared.table.Loose.TheVariants.{Same, Split}
 use Rattle.babel_trie.specs.declared.table.Node.{Node}
 use Rattle.babel_trie.specs.declared.table.Sources.{Sources}
 use Rattle.babel_trie.specs.declared.table.Sources.TheVariants.{Constant, Stored}
@@ -29,7 +27,3 @@ module _ {V : Type 0} where
       stirred (stirred (stirred
       (stirred (stirred (stirred 0 node.skip) (node.path % 2 ^ 64)) (node.path / 2 ^ 64))
       (mark node.outside)) (mark node.low)) (mark node.high)
-
-  abbrev pub loose_mark : (V → ℕ) → (Node V → ℕ) → Loose V → ℕ
-  loose_mark mark of_node (Same v) = mark v
-  loose_mark mark of_node (Split node) = of_node node

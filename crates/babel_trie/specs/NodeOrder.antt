@@ -9,8 +9,6 @@ use Rattle.std.proofs.Common.{ap}
 use Rattle.std.proofs.lemmas.Map.Lookups.{exact_pairs, exact_unsigned}
 use Rattle.babel_trie.specs.Sound.{node_cmp}
 use Rattle.babel_trie.specs.declared.differing.Differing.{Differing}
-use Rattle.babel_trie.specs.declared.table.Loose.{Loose}
-use Rattle.babel_trie.specs.declared.table.Loose.TheVariants.{Same, Split}
 use Rattle.babel_trie.specs.declared.table.Node.{Node}
 use Rattle.babel_trie.specs.declared.table.NodeNumber.{NodeNumber}
 use Rattle.babel_trie.specs.declared.table.Sources.{Sources}
@@ -63,18 +61,6 @@ nodes_exact {V} cmp exact a b e =
     } in n) all
 
 module _ {V : Type 0} where
-  -- tries of one value each, whose values compare as equal only where they are one
-  pub same_exact : (cmp : V → V → Ordering) → ((a b : V) → cmp a b ≡ Equal → a ≡ b) → (v w : V) →
-      cmp v w ≡ Equal →
-      let a : Loose V = Same v in let b : Loose V = Same w in a ≡ b
-  same_exact cmp exact v w e = ap Same (exact v w e)
-
-  -- tries that are nodes, which compare as equal only where they are one
-  pub split_exact : (cmp : Node V → Node V → Ordering) →
-      ((a b : Node V) → cmp a b ≡ Equal → a ≡ b) → (k m : Node V) →
-      cmp k m ≡ Equal → let a : Loose V = Split k in let b : Loose V = Split m in a ≡ b
-  split_exact cmp exact k m e = ap Split (exact k m e)
-
   -- two answers each
   pub differing_exact : (cmp : Option V → Option V → Ordering) →
       ((a b : Option V) → cmp a b ≡ Equal → a ≡ b) →

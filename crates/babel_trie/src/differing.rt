@@ -2,13 +2,20 @@
 ghost use Rattle.babel_trie.specs.Differences.{TellsApart};
 
 use crate::lawful::{LawfulOrd, are_same, stirred};
+use std::alloc::AllocError;
 
 /// The two answers for a destination and a source that two tables answer differently. `None` where
 /// a table has no row with both addresses.
-#[derive(Clone, Copy, PartialEq, Eq, PartialOrd, Ord)]
+#[derive(Copy, PartialEq, Eq, PartialOrd, Ord)]
 pub struct Differing<V> {
     pub left: Option<V>,
     pub right: Option<V>,
+}
+
+impl<V: Copy> Clone for Differing<V> {
+    fn clone(&self) -> Result<Differing<V>, AllocError> {
+        Ok(*self)
+    }
 }
 
 impl<V: LawfulOrd> LawfulOrd for Differing<V> {

@@ -8,6 +8,7 @@ ghost use Rattle.babel_trie.specs.Rows.{InOrder};
 use crate::lawful::{LawfulOrd, are_same};
 use crate::pass::{first_start, nearer_start};
 use crate::rows::{Row, Rows};
+use std::alloc::AllocError;
 
 /// Whether two rows are one.
 fn are_one<V: LawfulOrd>(row: &Row<V>, other: &Row<V>) -> bool
@@ -49,11 +50,17 @@ fn reaches<V>(row: &Row<V>, width: u8, at: u128) -> bool
 }
 
 /// The rows whose destinations, among addresses of this width, reach this one or a later one.
-#[derive(Clone, Copy)]
+#[derive(Copy)]
 pub struct Reaching<R> {
     pub rows: R,
     pub width: u8,
     pub at: u128,
+}
+
+impl<R: Copy> Clone for Reaching<R> {
+    fn clone(&self) -> Result<Reaching<R>, AllocError> {
+        Ok(*self)
+    }
 }
 
 impl<V: Copy, R: Rows<V>> Rows<V> for Reaching<R> {

@@ -39,7 +39,7 @@ fn only_value<V: Copy>(rows: &[Row<V>], len: u8) -> Option<V>
 }
 
 /// A block inside another, the trie there, and the one value beside it.
-#[derive(Clone, Copy)]
+#[derive(Drop)]
 struct Narrowed<V> {
     block: Inner,
     trie: Loose<V>,
@@ -126,8 +126,7 @@ impl<V: LawfulOrd> Table<Option<V>> {
         let (mut low, mut high) = self.halves(*trie);
         self.lay(rows.low, width, bits - 1, start, &mut low)?;
         self.lay(rows.high, width, bits - 1, rows.middle, &mut high)?;
-        self.join(&low, &high, trie)?;
-        Ok(())
+        self.join(&low, &high, trie)
     }
 
     /// Writes what rows make of the trie of a block around the block that they lie in. A row alone
@@ -169,8 +168,7 @@ impl<V: LawfulOrd> Table<Option<V>> {
         }
         *trie = narrowed.trie;
         self.lay(rows, width, block.bits, block.start, trie)?;
-        self.lead_to(trie, narrowed.beside, skip, block.path)?;
-        Ok(())
+        self.lead_to(trie, narrowed.beside, skip, block.path)
     }
 
     /// Lays rows of one destination, if there are any, over the trie of a block.
@@ -203,8 +201,7 @@ impl<V: LawfulOrd> Table<Option<V>> {
             return Ok(());
         }
         if let Some(narrowed) = narrow(rows, width, bits, start, trie) {
-            self.lay_inside(rows, width, bits, &narrowed, trie)?;
-            return Ok(());
+            return self.lay_inside(rows, width, bits, &narrowed, trie);
         }
         let (own, rest) = parts(rows, width, bits, start);
         set(own, trie);
@@ -214,12 +211,10 @@ impl<V: LawfulOrd> Table<Option<V>> {
         if let (Loose::Split(node), Some(only)) = (&*trie, rest.only_half(start)) {
             if let Some((mut inside, beside)) = self.half(node, only.low) {
                 self.lay(only.rows, width, bits - 1, only.start, &mut inside)?;
-                self.join_beside(only.low, &inside, beside, trie)?;
-                return Ok(());
+                return self.join_beside(only.low, &inside, beside, trie);
             }
         }
-        self.lay_halves(&rest, width, bits, start, trie)?;
-        Ok(())
+        self.lay_halves(&rest, width, bits, start, trie)
     }
 
     /// The trie with rows of one destination laid over it. Of one row from all sources nothing is

@@ -94,10 +94,16 @@ fn first_destination<V: Copy, R: Rows<V>>(
 
 /// What a pass comes to: a trie of sources, and how many nodes at the front of the table are enough
 /// for it and for each that comes again after a block which is open there.
-#[derive(Clone, Copy)]
+#[derive(Copy)]
 pub struct Reached<V> {
     trie: Sources<Option<V>>,
     made: usize,
+}
+
+impl<V: Copy> Clone for Reached<V> {
+    fn clone(&self) -> Result<Reached<V>, AllocError> {
+        Ok(*self)
+    }
 }
 
 /// A pass over rows in order: the change come to, the changes back after the blocks that are open,

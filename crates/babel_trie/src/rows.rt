@@ -100,7 +100,7 @@ pub fn sorted_rows<V: Copy, R: Rows<V>>(alloc: Global, rows: R) -> Result<Vec<Ro
 }
 
 /// The rows that lie in the halves of a block, and the address at which the upper half starts.
-#[derive(Clone, Copy)]
+#[derive(Drop)]
 pub struct Halves<'a, V> {
     pub low: &'a [Row<V>],
     pub high: &'a [Row<V>],
@@ -108,7 +108,7 @@ pub struct Halves<'a, V> {
 }
 
 /// The rows of one half of a block, and where it starts.
-#[derive(Clone, Copy)]
+#[derive(Drop)]
 pub struct OneHalf<'a, V> {
     pub low: bool,
     pub rows: &'a [Row<V>],

@@ -17,10 +17,16 @@ use babel_prefix::Family;
 use std::alloc::{AllocError, Global};
 
 /// What is answered for each source from this destination on.
-#[derive(Clone, Copy)]
+#[derive(Copy)]
 pub struct Change<F> {
     pub start: u128,
     pub sources: F,
+}
+
+impl<F: Copy> Clone for Change<F> {
+    fn clone(&self) -> Result<Change<F>, AllocError> {
+        Ok(*self)
+    }
 }
 
 /// What is answered for a destination.
@@ -59,12 +65,10 @@ impl<V: LawfulOrd> Table<Option<V>> {
         ensures all { most ≡ 2 ^ 64 - 1 → IfOk result IsSome }
     {
         if rows.are_in_order() {
-            let runs = self.table_runs(alloc, family.width(), rows, most)?;
-            return Ok(runs);
+            return self.table_runs(alloc, family.width(), rows, most);
         }
         let sorted = sorted_rows(alloc, rows)?;
-        let runs = self.table_runs(alloc, family.width(), sorted.as_slice(), most)?;
-        Ok(runs)
+        self.table_runs(alloc, family.width(), sorted.as_slice(), most)
     }
 
     /// All changes of the answers of these rows.

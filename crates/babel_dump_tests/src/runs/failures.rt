@@ -16,6 +16,14 @@ const CAPTURE: &str =
      00000000000000002200000022000000 \
      45000022000000000111 0000 c0000202 e000006f 1a281a28 000e0000 2a020000 1234";
 
+/// The same of one packet, whose TLV goes past its end, and what is asked of it.
+const FAULTY: (&str, &str, &str) = (
+    "show --from 192.0.2.1",
+    "d4c3b2a1020004000000000000000000000004006500000000000000000000002200000022000000 \
+     45000022000000000111 0000 c0000201 e000006f 1a281a28 000e0000 2a020002 0a05",
+    "",
+);
+
 /// What is asked, of which octets, and of which others: first of 13 dumps, then of captures.
 static ASKED: [(&str, &str, &str); 19] = [
     ("show --from 192.0.2.1", NESTED_SOURCES, ""),
@@ -68,10 +76,10 @@ const SCRIPT: Script = Script {
 };
 
 /// Each read of the dump, also the one that meets its end, is answered where it fails, before the
-/// other dump is read.
+/// other dump is read; in a capture also after a fault of its dump.
 #[test]
 fn each_read(rt: HostRuntime) -> Result<(), Fail> {
-    for (line, dump, other) in &ASKED {
+    for (line, dump, other) in ASKED.iter().chain([&FAULTY]) {
         let (dump, other) = (octets(rt.alloc(), dump)?, octets(rt.alloc(), other)?);
         for failing_read in 1..dump.len() as u64 + 2 {
             let script = Script {

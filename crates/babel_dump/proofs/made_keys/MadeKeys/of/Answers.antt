@@ -12,4 +12,5 @@ pub loop-origin-preserved : goal.loop-origin-preserved
 loop-origin-preserved c =
     making_more c.args.keys.now c.args.read.now.moment c.args.read.now.gathered c.args.tables.entries c.in-Some.origin c.in-Some.table _ c.key_of-key.result c.loop-origin.made _
     (subst (λ (left : Entries). Making c.args.keys.now c.args.read.now.moment c.args.read.now.gathered c.args.tables.entries left c.loop-origin.made) c.in-Some.ensures.steps c.loop-origin.invariant)
-    (found_so c.args.keys.now c.args.read.now.moment c.in-Some.origin c.in-Some.table c.key_of-key.result c.key_of-key.ensures.ok c.key_of-key.ensures.err) c.in_ok-push.ensures
+    (found_so c.args.keys.now c.args.read.now.moment c.args.read.now.gathered c.in-Some.origin c.in-Some.table
+    c.key_of-key.result c.key_of-key.ensures.ok c.key_of-key.ensures.err) c.in_ok-push.ensures

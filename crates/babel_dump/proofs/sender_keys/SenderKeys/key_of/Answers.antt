@@ -2,12 +2,13 @@
 use Rattle.std.proofs.Common.{◌≡◌, true, List, ℕ, ap, subst, ◌∙◌, inr}
 use Rattle.std.specs.Prelude.{None}
 use Rattle.std.proofs.lemmas.Result.{err_from_is_err_and}
+use Rattle.babel_capture.specs.Gathering.{name_of as interface_name}
 use Rattle.babel_table.specs.Counts.{Counts}
 use Rattle.babel_table.specs.Seen.{seen_rows}
 use Rattle.babel_dump.specs.Files.{name_of}
-use Rattle.babel_dump.specs.KeyText.{key_line}
+use Rattle.babel_dump.specs.KeyText.{key_in}
 use Rattle.babel_dump.specs.Octets.{AreOctets, HasTooMany}
-use Rattle.babel_dump.specs.SenderKeys.{sender_name}
+use Rattle.babel_dump.specs.SenderKeys.{origin_in}
 use Rattle.babel_dump.specs.Strict.{IsNotReadWhole, IsReadWhole}
 use Rattle.babel_dump.specs.declared.key.MadeKey.{MadeKey}
 use Rattle.babel_dump.specs.declared.reading.Reading.{Reading}
@@ -17,14 +18,14 @@ use Rattle.babel_dump.proofs.sender_keys.SenderKeys.key_of.Goals as goal
 pub returns-in_err-table-clause-err : goal.returns-in_err-table-clause-err
 returns-in_err-table-clause-err c =
     let exit = err_from_is_err_and c.from_residual.result c.from_residual.ensures.1 in
-    rw (exit.1, exit.2) (λ made whole fed. own_fault c.args.self.now made c.args.moment c.args.origin c.args.table whole fed c.in_err-table.field-0.0 c.in_err-table.ensures.fault)
+    rw (exit.1, exit.2) (λ made whole fed. own_fault c.args.self.now made c.args.read.now.moment c.args.origin c.args.table whole fed c.in_err-table.field-0.0 c.in_err-table.ensures.fault)
 
 pub returns-in_err-refuse_unread-clause-err : goal.returns-in_err-refuse_unread-clause-err
 returns-in_err-refuse_unread-clause-err c =
     let exit = err_from_is_err_and c.from_residual-in_err-refuse_unread.result c.from_residual-in_err-refuse_unread.ensures.1 in
     let fault = c.in_err-refuse_unread.field-0.0 in
-    rw (exit.1, exit.2) (λ made whole fed. own_unread c.args.self.now made c.args.moment c.args.origin c.in_ok-table.table fault
-    (own_table c.args.self.now made c.args.moment c.args.origin c.args.table whole fed c.in_default.is c.what_expired-expired.result c.what_expired-expired.ensures c.in_ok-table.table
+    rw (exit.1, exit.2) (λ made whole fed. own_unread c.args.self.now made c.args.read.now.moment c.args.origin c.in_ok-table.table fault
+    (own_table c.args.self.now made c.args.read.now.moment c.args.origin c.args.table whole fed c.in_default.is c.what_expired-expired.result c.what_expired-expired.ensures c.in_ok-table.table
     c.in_ok-table.ensures.whole c.in_ok-table.ensures.at)
     (subst (λ (r : Counts). (c.args.self.now.strict ≡ true) × IsNotReadWhole None r fault) c.report.ensures c.in_err-refuse_unread.ensures.unread))
 
@@ -35,7 +36,7 @@ returns-in_err-key-clause-err c =
     let table = c.in_ok-table.table in
     rw (exit.1, exit.2) (λ made whole fed not_memory. let found = c.in_err-key.ensures.err not_memory in inr (
       table,
-      own_table keys made c.args.moment c.args.origin c.args.table whole fed c.in_default.is c.what_expired-expired.result c.what_expired-expired.ensures table
+      own_table keys made c.args.read.now.moment c.args.origin c.args.table whole fed c.in_default.is c.what_expired-expired.result c.what_expired-expired.ensures table
           c.in_ok-table.ensures.whole c.in_ok-table.ensures.at,
       found.0,
       subst (λ (r : Reading). HasTooMany keys.form r.limits (seen_rows keys.view table.rows)) c.of-reading.ensures found.1,
@@ -46,17 +47,20 @@ returns-clause-ok c =
     let keys = c.args.self.now in
     let table = c.in_ok-table.table in
     let key = c.in_ok-key.ensures.ok in
-    let name : c.deref.result.now ≡ sender_name (name_of keys.file) c.args.origin =
-    c.deref.ensures.value ∙ c.in_ok-name.ensures ∙ ap (λ (file : List ℕ). sender_name file c.args.origin) c.name.ensures in
+    let gathered = c.args.read.now.gathered in
+    let origin = c.args.origin in
+    let named : c.deref.result.now ≡ origin_in keys.format (name_of keys.file) origin (interface_name gathered origin.place.interface) =
+    c.deref.ensures.value ∙ c.in_ok-named.ensures ∙ ap (λ (file : List ℕ). origin_in keys.format file origin c.name-name.result.now) c.name-file.ensures
+    ∙ ap (λ (name : List ℕ). origin_in keys.format (name_of keys.file) origin name) c.name-name.ensures in
     λ made whole fed. record {
       table = table;
-      is_own = own_table keys made c.args.moment c.args.origin c.args.table whole fed c.in_default.is c.what_expired-expired.result c.what_expired-expired.ensures table
+      is_own = own_table keys made c.args.read.now.moment c.args.origin c.args.table whole fed c.in_default.is c.what_expired-expired.result c.what_expired-expired.ensures table
           c.in_ok-table.ensures.whole c.in_ok-table.ensures.at;
       strict = λ strict. subst (λ (r : Counts). IsReadWhole None r) c.report.ensures (c.in_ok-refuse_unread.ensures.whole strict);
       is_key = record {
         octets = key.octets;
         are = subst (λ (r : Reading). AreOctets keys.form r keys.view 1024 table key.octets) c.of-reading.ensures key.are;
-        line_is = ap (λ (k : MadeKey). k.line.items) c.with_expired_rows.ensures ∙ key.line_is ∙ ap (key_line key.octets) name;
+        line_is = ap (λ (k : MadeKey). k.line.items) c.with_expired_rows.ensures ∙ key.line_is ∙ ap (key_in keys.format key.octets) named;
         report_is = ap (λ (k : MadeKey). k.report) c.with_expired_rows.ensures ∙ key.report_is;
         rows_is = ap (λ (k : MadeKey). k.rows) c.with_expired_rows.ensures ∙ key.rows_is;
       };

@@ -14,7 +14,7 @@ use Rattle.babel_trie.proofs.OneHalf.{only_place, only_rows, only_one, tries_by,
 use Rattle.babel_trie.proofs.PathLaws.{loose_below}
 use Rattle.babel_trie.proofs.HalfLaws.{halved, half_tries, halves_normal, set_trie}
 use Rattle.babel_trie.proofs.PlaceLaws.{place_low}
-use Rattle.babel_trie.proofs.PartLaws.{some_holds, none_holds, upper_place, upper_rows}
+use Rattle.babel_trie.proofs.PartLaws.{some_holds, none_holds, on_ok_then, upper_place, upper_rows}
 use Rattle.babel_trie.proofs.SourceLaws.{overlaid_set, overlaid_one, overlaid_joined, laid_over_set, rest_parted, one_left, one_right}
 use Rattle.babel_trie.proofs.LaidAlong.{laid_along}
 use Rattle.babel_trie.proofs.overlay.Table+Option+V.+lay.Goals as goal
@@ -42,10 +42,10 @@ lay_inside-lead_to-requires-clause-inside g t c =
     record { trie = laid.new; stands = laid.stands; fits = fits; reduced = laid.reduced c.requires.trie.reduced }
 
 pub lay_inside-returns-clause-keeps : goal.lay_inside-returns-clause-keeps
-lay_inside-returns-clause-keeps g t c i node e = c.in_ok-lead_to.ensures.keeps i node (c.in_ok-lay.ensures.keeps i node e)
+lay_inside-returns-clause-keeps g t c = on_ok_then c.lead_to.result c.lead_to.ensures.keeps (λ keeps i node e. keeps i node (c.in_ok-lay.ensures.keeps i node e))
 
 pub lay_inside-returns-clause-laid : goal.lay_inside-returns-clause-laid
-lay_inside-returns-clause-laid g t c start u inner inside =
+lay_inside-returns-clause-laid g t c = on_ok_then c.lead_to.result c.lead_to.ensures.along (λ along start u inner inside.
     let a = c.args in
     let block = a.narrowed.now.block in
     let nodes = a.self.now.nodes.items in
@@ -55,7 +55,7 @@ lay_inside-returns-clause-laid g t c start u inner inside =
     let laid = c.in_ok-lay.ensures.laid inside.inside inside.stands in
     laid_along a.width a.bits start block.bits block.start block.path a.rows.now inner nodes c.lay.new.self.nodes.items c.lead_to.new.self.nodes.items
     a.narrowed.now.trie c.lay.new.trie c.lead_to.new.trie a.narrowed.now.beside u inside fits laid
-    (c.in_ok-lead_to.ensures.along laid.new laid.stands)
+    (along laid.new laid.stands))
 
 pub lay-lay_inside-requires : goal.lay-lay_inside-requires
 lay-lay_inside-requires g t c κs within =
@@ -80,9 +80,9 @@ lay-lay_inside-requires g t c κs within =
     search rules
 
 pub lay-returns-in-Some-clause-laid : goal.lay-returns-in-Some-clause-laid
-lay-returns-in-Some-clause-laid g t c u p =
+lay-returns-in-Some-clause-laid g t c =
     let ensures = c.in-Some.ensures in
-    c.in_ok-lay_inside.ensures.laid c.args.start u ensures.inner (ensures.inside c.args.self.now.nodes.items u c.requires.normal p)
+    on_ok_then c.lay_inside.result c.lay_inside.ensures.laid (λ laid u p. laid c.args.start u ensures.inner (ensures.inside c.args.self.now.nodes.items u c.requires.normal p))
 
 pub lay-returns-in_default-rest-clause-laid : goal.lay-returns-in_default-rest-clause-laid
 lay-returns-in_default-rest-clause-laid g t c u p =
@@ -163,10 +163,10 @@ lay-join_beside-requires-clause-beside g t c =
     stored_trie (a.bits - 1) nodes c.lay.new.self.nodes.items c.in-Some-half.beside x.0 c.in_ok-lay.ensures.keeps x.1 tries.1 (omega (arith, c.requires.place.bits_in, c.requires.width))
 
 pub lay-returns-in-Some-half-clause-keeps : goal.lay-returns-in-Some-half-clause-keeps
-lay-returns-in-Some-half-clause-keeps g t c i node e = c.in_ok-join_beside.ensures.keeps i node (c.in_ok-lay.ensures.keeps i node e)
+lay-returns-in-Some-half-clause-keeps g t c = on_ok_then c.join_beside.result c.join_beside.ensures.keeps (λ keeps i node e. keeps i node (c.in_ok-lay.ensures.keeps i node e))
 
 pub lay-returns-in-Some-half-clause-laid : goal.lay-returns-in-Some-half-clause-laid
-lay-returns-in-Some-half-clause-laid g t c u p =
+lay-returns-in-Some-half-clause-laid g t c = on_ok_then c.join_beside.result c.join_beside.ensures.joins (λ joins u p.
     let a = c.args in
     let nodes = a.self.now.nodes.items in
     let nodes2 = c.lay.new.self.nodes.items in
@@ -186,7 +186,7 @@ lay-returns-in-Some-half-clause-laid g t c u p =
     laid_by a.width a.bits a.start rest.middle a.rows.now c.parts.result.0.now rest.low.now rest.high.now parts middle c.requires.one nodes
     c.set.new.trie c.in-Split-Some.node u set c.in-Split-Some.is-0 fits reduced c.in-Some-half.inside x.0 only.low only.rows.now only.start half have
     nodes2 c.join_beside.new.self.nodes.items c.lay.new.trie c.join_beside.new.whole keeps c.in_ok-lay.ensures.laid
-    (c.in_ok-join_beside.ensures.joins x.0 (Opens-grows nodes nodes2 keeps beside x.0 x.1))
+    (joins x.0 (Opens-grows nodes nodes2 keeps beside x.0 x.1)))
 
 pub lay-lay_halves-requires : goal.lay-lay_halves-requires
 lay-lay_halves-requires g t c κs within =
@@ -206,7 +206,7 @@ lay-lay_halves-requires g t c κs within =
     search rules
 
 pub lay-returns-clause-laid : goal.lay-returns-clause-laid
-lay-returns-clause-laid g t c u p =
+lay-returns-clause-laid g t c = on_ok_then c.lay_halves.result c.lay_halves.ensures.laid (λ laid u p.
     let a = c.args in
     let nodes = a.self.now.nodes.items in
     let rest = c.in-Some-rest.rest in
@@ -214,7 +214,7 @@ lay-returns-clause-laid g t c u p =
     let set = c.set.ensures.is nodes u p in
     laid_over_set a.width a.bits a.start a.rows.now c.parts.result.0.now rest.low.now rest.high.now parts c.requires.one nodes
     c.lay_halves.new.self.nodes.items c.set.new.trie c.lay_halves.new.trie u set
-    (c.in_ok-lay_halves.ensures.laid set.new set.stands)
+    (laid set.new set.stands))
 
 pub lay_halves-lay-requires : goal.lay_halves-lay-requires
 lay_halves-lay-requires g t c κs within =
@@ -288,11 +288,11 @@ lay_halves-join-requires-clause-low_normal g t c =
     IsNormalLoose-grows c.lay.new.self.nodes.items c.lay-2.new.self.nodes.items c.in_ok-lay-2.ensures.keeps c.lay.new.trie c.in_ok-lay.ensures.normal
 
 pub lay_halves-returns-clause-keeps : goal.lay_halves-returns-clause-keeps
-lay_halves-returns-clause-keeps g t c i node e =
-    c.in_ok-join.ensures.keeps i node (c.in_ok-lay-2.ensures.keeps i node (c.in_ok-lay.ensures.keeps i node e))
+lay_halves-returns-clause-keeps g t c =
+    on_ok_then c.join.result c.join.ensures.keeps (λ keeps i node e. keeps i node (c.in_ok-lay-2.ensures.keeps i node (c.in_ok-lay.ensures.keeps i node e)))
 
 pub lay_halves-returns-clause-laid : goal.lay_halves-returns-clause-laid
-lay_halves-returns-clause-laid g t c u p =
+lay_halves-returns-clause-laid g t c = on_ok_then c.join.result c.join.ensures.joins (λ joins u p.
     let a = c.args in
     let low = a.rows.now.low.now in
     let high = a.rows.now.high.now in
@@ -306,6 +306,6 @@ lay_halves-returns-clause-laid g t c u p =
     let in_low = c.in_ok-lay.ensures.laid halved.low_half halved.low_stands in
     let there = c.in_ok-lay-2.ensures.laid halved.high_half (Stands-grows nodes1 nodes2 c.in_ok-lay.ensures.keeps high_half halved.high_half halved.high_stands) in
     let in_high = subst (λ m. IsLaid a.width (a.bits - 1) m (map row_of high) nodes3 c.lay-2.new.trie halved.high_half) c.requires.middle there in
-    let joined = c.in_ok-join.ensures.joins in_low.new in_high.new (Stands-grows nodes2 nodes3 c.in_ok-lay-2.ensures.keeps c.lay.new.trie in_low.new in_low.stands) in_high.stands in
+    let joined = joins in_low.new in_high.new (Stands-grows nodes2 nodes3 c.in_ok-lay-2.ensures.keeps c.lay.new.trie in_low.new in_low.stands) in_high.stands in
     overlaid_joined a.width a.bits a.start low high c.requires.rows nodes1 nodes2 nodes3 c.join.new.self.nodes.items low_half high_half c.lay.new.trie c.lay-2.new.trie c.join.new.whole u
-    halved in_low in_high joined fits
+    halved in_low in_high joined fits)

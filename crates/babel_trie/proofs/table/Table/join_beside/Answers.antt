@@ -10,6 +10,7 @@ use Rattle.babel_trie.specs.declared.table.Sources.{Sources}
 use Rattle.babel_trie.specs.declared.table.Sources.TheVariants.{Stored}
 use Rattle.babel_trie.proofs.NumberLaws.{one_opening, Opens-grows}
 use Rattle.babel_trie.proofs.FormLaws.{Represents-in, joins_beside, opened_trie}
+use Rattle.babel_trie.proofs.PartLaws.{on_ok_then}
 use Rattle.babel_trie.proofs.PathLaws.{loose_below}
 use Rattle.babel_trie.proofs.table.Table.join_beside.Goals as goal
 
@@ -59,10 +60,10 @@ joined_by old new true inside beside first second whole by joins = subst (λ y. 
 joined_by old new false inside beside first second whole by joins = subst (λ y. Joins old y inside new whole) by.0 (subst (λ y. Joins old first y new whole) by.1 joins)
 
 pub returns-clause-joins : goal.returns-clause-joins
-returns-clause-joins g c x opens =
+returns-clause-joins g c = on_ok_then c.join.result c.join.ensures.joins (λ joins x opens.
     let old = c.args.self.now.nodes.items in
     let new = c.join.new.self.nodes.items in
     let one = one_opening old c.args.beside c.opened.result x c.opened.ensures opens in
     subst (λ (y : Loose g.row.V.Denot). JoinsBy c.args.low old c.args.inside.now y new c.join.new.whole) one
     (joined_by old new c.args.low c.args.inside.now c.opened.result c.in_order-2.result.0 c.in_order-2.result.1 c.join.new.whole
-    c.in_order-2.ensures c.in_ok-join.ensures.joins)
+    c.in_order-2.ensures joins))
