@@ -112,8 +112,9 @@ _babel_dump_options() {
             --help ;;
         extract) echo --from --interface --hex --since --until --strict --accept-cut --quiet \
             --max-octets --help ;;
-        events) echo --from --interface --since --until --expiry --ignore --to --src --v4-via-v6 \
-            --accept-cut --max-routes --json --quiet --help ;;
+        events) echo --from --interface --since --until --expiry --ignore --to --src --requests \
+            --v4-via-v6 --accept-cut --max-routes --json --quiet --within --match --source --id \
+            --short --help ;;
     esac
 }
 

@@ -116,6 +116,8 @@ __babel_dump_option 'events' -l to -x \
     -d 'Report changes of the answer for this destination, instead of route changes'
 __babel_dump_option 'events' -l src -x \
     -d 'The source of that answer, of the destination'\''s family'
+__babel_dump_option 'events' -l requests \
+    -d 'Also report the requests of each sender for routes'
 __babel_dump_option 'senders extract' -l strict \
     -d 'Reject a capture if any datagram is left out'
 __babel_dump_option 'show lookup normalise key pairs compare diff events' -l v4-via-v6 \
@@ -140,13 +142,13 @@ __babel_dump_option 'compare diff' -l other-since -x \
     -d 'The same for OTHER'
 __babel_dump_option 'compare diff' -l other-until -x \
     -d 'The same for OTHER'
-__babel_dump_option 'show pairs' -l within -x \
+__babel_dump_option 'show pairs events' -l within -x \
     -d 'Only destinations that are PREFIX or inside it'
-__babel_dump_option 'show pairs' -l match -x \
+__babel_dump_option 'show pairs events' -l match -x \
     -d 'Only destinations that contain PREFIX, which may be an address'
-__babel_dump_option 'show pairs' -l source -x \
+__babel_dump_option 'show pairs events' -l source -x \
     -d 'Only sources that are exactly PREFIX'
-__babel_dump_option 'show pairs' -l id -x \
+__babel_dump_option 'show pairs events' -l id -x \
     -d 'Only routes with this router-id: 16 hexadecimal digits, or with colons as babeld writes it'
 __babel_dump_option 'lookup normalise key pairs compare diff' -l strict \
     -d 'Reject a dump in which any TLV was ignored or a datagram left out, or that has no Update'
@@ -170,7 +172,7 @@ __babel_dump_option 'diff' -l color -x -a 'auto always never' \
     -d 'When to colour routes'
 __babel_dump_option 'show lookup key pairs compare diff senders' -l json \
     -d 'Print one JSON object per line'
-__babel_dump_option 'show lookup pairs compare diff senders' -l short \
+__babel_dump_option 'show lookup pairs compare diff senders events' -l short \
     -d 'Write addresses as RFC 5952 does, fe80::1, and leave out a source prefix of length 0'
 __babel_dump_option 'compare' -l routes \
     -d 'Compare the routes, not the answers'

@@ -188,6 +188,24 @@ class Event:
     destination: Union[Address, Prefix]
     source: Union[Address, Prefix]
     answer: Optional[Route]
+    before: Optional[Route]
+
+
+@dataclass(frozen=True)
+class Requested:
+    """Of events --requests; what is not asked for is None."""
+
+    time: str
+    sender: Address
+    interface: int
+    link: Optional[int]
+    vlans: List[int]
+    name: Optional[str]
+    event: Literal["requests"]
+    destination: Optional[Prefix]
+    source: Optional[Prefix]
+    router_id: Optional[str]
+    seqno: Optional[int]
 
 
 @dataclass(frozen=True)
@@ -201,7 +219,7 @@ class Note:
 
 
 KINDS = Row, Looked, Report, Summary, Counts, Same, Differ, Differences, Stat
-KINDS += FileKey, SenderKey, Sender, Event
+KINDS += FileKey, SenderKey, Sender, Event, Requested
 
 # What a note has besides.
 NOTES = {

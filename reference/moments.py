@@ -301,19 +301,21 @@ def stale_note(count):
 
 @dataclass
 class Event:
-    """A line: when, of which sender at which place, what, of which two prefixes or addresses, and
-    what is held then."""
+    """A line: when, of which sender at which place, what, of which two prefixes or addresses, what
+    is held then, and what was before."""
 
     time: int
     origin: tuple
     what: str
     texts: list
     held: object
+    before: object = None
 
     def text(self, names):
         words = [reader.time_text(self.time), sender_text(self.origin, names)]
         words += [self.what] + ([] if self.what == "answers" else [" from ".join(self.texts)])
         words += [what_text(self.held)] if self.held or self.what == "answers" else []
+        words += was_words(self.before, self.held) if self.what == "changes" else []
         return " ".join(words) + "\n"
 
     def json(self, names):
@@ -331,8 +333,15 @@ class Event:
                 "destination": self.texts[0],
                 "source": self.texts[1],
                 "answer": what_json(self.held),
+                "before": what_json(self.before),
             }
         )
+
+
+def was_words(before, held):
+    """The fields that differ, as they were."""
+    pairs = zip(("via", "id", "seqno", "metric"), route_words(before), route_words(held))
+    return ["was", *(f"{name} {was}" for name, was, now in pairs if was != now)]
 
 
 def sender_text(origin, names):
@@ -366,13 +375,13 @@ class Timeline:
             return
         early = [self.early[origin] for origin in sorted(self.early, key=by_sender)]
         kept = [each for each in early if each.held and each.origin not in self.lost]
-        self.events = [replace(each, time=self.since) for each in kept] + self.events
+        self.events = [replace(each, time=self.since, before=None) for each in kept] + self.events
         self.early = None
 
-    def tell(self, time, origin, what, key, route=None):
+    def tell(self, time, origin, what, key, route=None, before=None):
         if not self.pair:
-            route = seen(route, self.ignored)
-            self.add(Event(time, origin, what, key_texts(key), route))
+            held, was = seen(route, self.ignored), seen(before, self.ignored)
+            self.add(Event(time, origin, what, key_texts(key), held, was))
 
     def tell_answer(self, time, origin):
         """The answer for the pair of addresses, if it is another one than before."""
@@ -380,9 +389,10 @@ class Timeline:
             return
         rows = {key: route for key, (route, _) in self.rows.get(origin, {}).items()}
         found = seen(answer(rows, *self.pair), self.ignored)
-        if found != self.answers.get(origin):
+        before = self.answers.get(origin)
+        if found != before:
             self.answers[origin] = found
-            self.add(Event(time, origin, "answers", list(map(str_of, self.pair)), found))
+            self.add(Event(time, origin, "answers", list(map(str_of, self.pair)), found, before))
 
     def expire(self, moment):
         """All that has expired at this moment, by its own time, key, sender and place."""
@@ -396,8 +406,8 @@ class Timeline:
         for time, of_time in itertools.groupby(due, key=lambda each: each[0]):
             origins = set()
             for _, key, origin in of_time:
-                del self.rows[origin][key]
-                self.tell(time, origin, "expires", key)
+                before, _ = self.rows[origin].pop(key)
+                self.tell(time, origin, "expires", key, before=before)
                 origins.add(origin)
             for origin in sorted(origins, key=by_sender):
                 self.tell_answer(time, origin)
@@ -407,8 +417,8 @@ class Timeline:
         rows = self.rows.setdefault(origin, {})
         if word.route is None:
             for key in sorted([key for key in rows if word.key in (None, key)], key=Key.order):
-                del rows[key]
-                self.tell(time, origin, "retracts", key)
+                before, _ = rows.pop(key)
+                self.tell(time, origin, "retracts", key, before=before)
         elif not self.pair or contains_both(word.key, *self.pair):
             before = rows.get(word.key)
             span = lasts(word, self.factor)
@@ -418,7 +428,7 @@ class Timeline:
             if before is None:
                 self.tell(time, origin, "announces", word.key, word.route)
             elif seen(before[0], self.ignored) != seen(word.route, self.ignored):
-                self.tell(time, origin, "changes", word.key, word.route)
+                self.tell(time, origin, "changes", word.key, word.route, before[0])
         self.tell_answer(time, origin)
 
 

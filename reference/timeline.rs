@@ -703,6 +703,29 @@ impl Seen {
         }
     }
 
+    /// The fields that are others now.
+    fn text_of_was(self, now: Seen, out: &mut Out) {
+        out.put(b" was");
+        if let Some(hop) = self.hop.filter(|_| self.hop != now.hop) {
+            out.put(b" via ");
+            out.address(hop);
+        }
+        if let Some(id) = self.router_id.filter(|_| self.router_id != now.router_id) {
+            out.put(b" id ");
+            out.router_id(id);
+        }
+        let numbers = [
+            (" seqno ", self.seqno, now.seqno),
+            (" metric ", self.metric, now.metric),
+        ];
+        for (name, was, is) in numbers {
+            if let Some(was) = was.filter(|was| Some(*was) != is) {
+                out.put(name.as_bytes());
+                out.decimal(was.into());
+            }
+        }
+    }
+
     fn json(self, out: &mut Out) {
         out.put(b"{\"next_hop\":");
         match self.hop {
@@ -1092,7 +1115,7 @@ impl Timeline {
                 }
                 all.sort_unstable_by_key(|number| self.rows.order(*number));
                 for number in all {
-                    self.tell(time, number, "retracts");
+                    self.tell(time, number, "retracts", None);
                     self.remove(number);
                 }
                 self.tell_answer(time, sender);
@@ -1100,7 +1123,7 @@ impl Timeline {
             Word::Retracts(is_ipv6, dst, source) => {
                 let key = self.rows.key(sender, is_ipv6, dst, source);
                 if let Ok(number) = self.find(&key) {
-                    self.tell(time, number, "retracts");
+                    self.tell(time, number, "retracts", None);
                     self.remove(number);
                     self.tell_answer(time, sender);
                 }
@@ -1143,14 +1166,11 @@ impl Timeline {
     }
 
     fn renew(&mut self, time: i128, number: u32, owner: u32, stated: u32, ends: i128) {
+        let row = self.rows.list[number as usize];
+        let before = (row.owner, row.stated);
+        let is_same = before == (owner, stated)
+            || !self.sees_all && self.seen(row.owner, row.stated) == self.seen(owner, stated);
         let row = &mut self.rows.list[number as usize];
-        let is_same = (row.owner, row.stated) == (owner, stated) || {
-            let seen = |owner: u32, stated| {
-                self.view
-                    .sees(self.rows.owners.list[owner as usize], stated)
-            };
-            !self.sees_all && seen(row.owner, row.stated) == seen(owner, stated)
-        };
         (row.owner, row.stated, row.ends) = (owner, stated, ends);
         let place = row.place;
         if place == NONE {
@@ -1160,7 +1180,8 @@ impl Timeline {
             self.lift(place as usize);
         }
         if !is_same {
-            self.tell(time, number, "changes");
+            let before = self.seen(before.0, before.1);
+            self.tell(time, number, "changes", Some(before));
         }
     }
 
@@ -1198,7 +1219,7 @@ impl Timeline {
         sender.last = number;
         sender.next = sender.first;
         self.enqueue(ends, number);
-        self.tell(time, number, "announces");
+        self.tell(time, number, "announces", None);
         Ok(())
     }
 
@@ -1297,7 +1318,7 @@ impl Timeline {
         early.sort_unstable_by_key(|sender| self.origin_of(*sender));
         for sender in early {
             if let Some(seen) = self.senders[sender as usize].early {
-                self.put_answer(self.from, sender, Some(seen));
+                self.put_answer(self.from, sender, Some(seen), None);
             }
         }
     }
@@ -1365,7 +1386,7 @@ impl Timeline {
             senders.dedup();
         }
         for number in expired.drain(..) {
-            self.tell(time, number, "expires");
+            self.tell(time, number, "expires", None);
             self.remove(number);
         }
         for sender in senders {
@@ -1384,38 +1405,54 @@ impl Timeline {
         self.out.put(what.as_bytes());
     }
 
-    fn tell(&mut self, time: i128, number: u32, what: &str) {
+    fn seen(&self, owner: u32, stated: u32) -> Seen {
+        let owner = self.rows.owners.list[owner as usize];
+        self.view.sees(owner, stated)
+    }
+
+    /// Tells what happens to a row; of one that changes with what was before.
+    fn tell(&mut self, time: i128, number: u32, what: &str, changed: Option<Seen>) {
         if self.pair.is_some() || time < self.from {
             return;
         }
         let row = self.rows.list[number as usize];
         self.begin_line(time, row.key.sender, what);
-        let seen = matches!(what, "announces" | "changes").then(|| {
-            self.view
-                .sees(self.rows.owners.list[row.owner as usize], row.stated)
-        });
+        let held = self.seen(row.owner, row.stated);
+        let (after, before) = match what {
+            "announces" | "changes" => (Some(held), changed),
+            _ => (None, Some(held)),
+        };
         if self.json {
             self.out.put(b"\",\"destination\":\"");
             put_key(&mut self.out, &self.rows, number, b"\",\"source\":\"");
-            self.end_json(seen);
+            self.end_json(after, before);
         } else {
             self.out.text.push(b' ');
             put_key(&mut self.out, &self.rows, number, b" from ");
-            if let Some(seen) = seen {
+            if let Some(after) = after {
                 self.out.text.push(b' ');
-                seen.text(&mut self.out);
+                after.text(&mut self.out);
+                if let Some(before) = before {
+                    before.text_of_was(after, &mut self.out);
+                }
             }
         }
         self.out.end_line();
     }
 
-    fn end_json(&mut self, seen: Option<Seen>) {
+    fn end_json(&mut self, after: Option<Seen>, before: Option<Seen>) {
         self.out.put(b"\",\"answer\":");
+        self.value(after);
+        self.out.put(b",\"before\":");
+        self.value(before);
+        self.out.text.push(b'}');
+    }
+
+    fn value(&mut self, seen: Option<Seen>) {
         match seen {
             Some(seen) => seen.json(&mut self.out),
             None => self.out.put(b"null"),
         }
-        self.out.text.push(b'}');
     }
 
     /// Tells the answer for the pair, if it is another one than before.
@@ -1426,21 +1463,20 @@ impl Timeline {
         let best = self.senders[sender as usize].matching.last_key_value();
         let seen = best.map(|(_, number)| {
             let row = &self.rows.list[*number as usize];
-            self.view
-                .sees(self.rows.owners.list[row.owner as usize], row.stated)
+            self.seen(row.owner, row.stated)
         });
         if seen == self.senders[sender as usize].told {
             return;
         }
-        self.senders[sender as usize].told = seen;
+        let before = std::mem::replace(&mut self.senders[sender as usize].told, seen);
         if time >= self.from {
-            self.put_answer(time, sender, seen);
+            self.put_answer(time, sender, seen, before);
         } else if !self.has_come {
             self.senders[sender as usize].early = seen;
         }
     }
 
-    fn put_answer(&mut self, time: i128, sender: u32, seen: Option<Seen>) {
+    fn put_answer(&mut self, time: i128, sender: u32, seen: Option<Seen>, before: Option<Seen>) {
         let Some((to, src)) = self.pair else { return };
         self.begin_line(time, sender, "answers");
         if self.json {
@@ -1448,7 +1484,7 @@ impl Timeline {
             self.out.address(to);
             self.out.put(b"\",\"source\":\"");
             self.out.address(src);
-            self.end_json(seen);
+            self.end_json(seen, before);
         } else {
             self.out.text.push(b' ');
             match seen {

@@ -30,6 +30,7 @@ import extract
 from checks import DRILL, ROUTERS, TOP, Tally, built_program
 
 import moments
+import says
 import timed
 from agree import SENDERS
 
@@ -45,6 +46,9 @@ PAIRS = 3
 SEED = 1
 RANDOM = 40
 RANDOM_LONG = 400
+# Of the TLVs of random packets, so many in each, every other one is a request.
+RANDOM_TLVS = 30
+ROUTE_REQUEST, SEQNO_REQUEST = 9, 10
 KEYS = 400
 UPDATES = 60
 START = bytes.fromhex("060a0000 0200000000000001 07060100 c0000201")
@@ -76,10 +80,31 @@ def line_of(event):
     where = where.replace(f" {place[0]}", f" {place[0]} ({name})", 1) if name else where
     words = [event["time"], event["sender"]] + ([] if where == "interface 0" else [where])
     words.append(event["event"])
+    if event["event"] == "requests":
+        return " ".join([*words, request_text(*what_asked(event))])
     if event["event"] == "answers":
         return " ".join([*words, what_text(event["answer"])])
     words.append(f"{event['destination']} from {event['source']}")
-    return " ".join(words + ([what_text(event["answer"])] if event["answer"] else []))
+    words += [what_text(event["answer"])] if event["answer"] else []
+    return " ".join(words + (was_words(event) if event["event"] == "changes" else []))
+
+
+def was_words(event):
+    """Of what was held before, the fields that differ."""
+    names = zip(("via", "id", "seqno", "metric"), event["before"].items())
+    differ = [(name, was) for name, (field, was) in names if was != event["answer"][field]]
+    return ["was", *(f"{name} {was}" for name, was in differ)] if differ else []
+
+
+def what_asked(event):
+    return [event[name] for name in ("destination", "source", "router_id", "seqno")]
+
+
+def request_text(destination, source, router_id, seqno):
+    if destination is None:
+        return "all"
+    end = "" if router_id is None else f" id {router_id} seqno {seqno}"
+    return f"{destination} from {source}{end}"
 
 
 def place_of(event):
@@ -137,12 +162,13 @@ def is_early(found, events):
 
 def replayed(events):
     """After each event of a sender its time and the rows that it leaves; a problem where an event
-    changes nothing, or can't be."""
+    changes nothing, can't be, or says that something else was held before."""
     rows = {}
     for event in events:
         key, kind = f"{event['destination']} from {event['source']}", event["event"]
         held, after = rows.get(key), event["answer"] and what_text(event["answer"])
-        if CHANGES[kind] != (held is not None) or held == after:
+        before = event["before"] and what_text(event["before"])
+        if CHANGES[kind] != (held is not None) or held == after or held != before:
             yield event["time"], {}, f"it {kind} {key}, which was {held} before"
         rows.pop(key, None)
         if after:
@@ -221,9 +247,11 @@ def check_answers(program, words, capture, origin, times, pair, moments, opening
     if problem:
         yield problem
     states = [(event["time"], what_text(event["answer"])) for event in events]
-    for before, after in zip([(None, "none"), *states], states):
-        if before[1] == after[1]:
-            yield f"{' '.join(asked)}: told twice at {after[0]}: {after[1]}"
+    before = "none"
+    for event, (time, after) in zip(events, states):
+        if after == before or what_text(event["before"]) != before:
+            yield f"{' '.join(asked)}: told at {time}: {after}, which was {before} before"
+        before = after
     for moment in moments:
         if not any(time <= moment for time in times):
             continue
@@ -255,10 +283,42 @@ def check_since(program, words, capture, events, moments):
         given, problem = events_of(program, asked, capture)
         given.sort(key=lambda event: event["time"])
         early = [event for event in events if event["time"] < since and event["event"] == "answers"]
-        wanted = [{**event, "time": since} for event in early[-1:] if event["answer"]]
+        early = [event for event in early[-1:] if event["answer"]]
+        wanted = [{**event, "time": since, "before": None} for event in early]
         wanted += [event for event in events if event["time"] >= since]
         if problem or given != wanted:
             yield f"events {' '.join(asked)}: {problem} {given} in place of {wanted}"
+
+
+def check_filters(program, words, capture, events, some):
+    """A filter keeps the events of its keys, or from or to its router-id, and no others."""
+    for one in some:
+        key = one["destination"], one["source"]
+        filters = {
+            ("--within", key[0]): lambda event: is_within(event["destination"], key[0]),
+            ("--match", key[0]): lambda event: is_within(key[0], event["destination"]),
+            ("--source", key[1]): lambda event: event["source"] == key[1],
+        }
+        router_id = next(iter(ids_of(one)))
+        if router_id:
+            filters["--id", router_id] = lambda event: router_id in ids_of(event)
+        for asked, keeps in filters.items():
+            given, problem = events_of(program, [*words, *asked], capture)
+            given.sort(key=lambda event: event["time"])
+            wanted = list(filter(keeps, events))
+            if problem or given != wanted:
+                yield f"events {' '.join(asked)}: {problem} {given} in place of {wanted}"
+
+
+def is_within(inner, outer):
+    """Whether a prefix is another, or inside it."""
+    inner, outer = map(ipaddress.ip_network, (inner, outer))
+    return inner.version == outer.version and inner.subnet_of(outer)
+
+
+def ids_of(event):
+    """The router-ids of the routes before and after an event."""
+    return {route["router_id"] for route in (event["answer"], event["before"]) if route}
 
 
 def problems_of(program, capture, factor, options, most, pool):
@@ -279,6 +339,8 @@ def problems_of(program, capture, factor, options, most, pool):
     events.sort(key=lambda event: event["time"])
     few = moments_of(found, events, rng, most // 4)
     jobs = [check(program, words, capture, events, few) for check in (check_until, check_since)]
+    some = rng.sample(events, min(1, len(events)))
+    jobs.append(check_filters(program, words, capture, events, some))
     for origin, times in origins.items():
         if is_refused(octets, window, origin):
             continue
@@ -350,6 +412,86 @@ def check_captures(program, captures, tally, most, options=OPTIONS):
     return replayed_captures
 
 
+def requested(kind, body, via_v6):
+    """What a TLV requests, as the members of its line of JSON have it, or None: RFC 8966, 4.6.10,
+    4.6.11; RFC 9079, 7.3, 7.4; RFC 9229, 2.3."""
+    fixed = {ROUTE_REQUEST: 2, SEQNO_REQUEST: 14}.get(kind)
+    if fixed is None or len(body) < fixed:
+        return None
+    encoding, length, rest = body[0], body[1], body[fixed:]
+    family = {1: 4, 2: 6, 4: 4 if via_v6 else None}.get(encoding)
+    end = says.octets_for(length)
+    try:
+        if kind == ROUTE_REQUEST and encoding == 0 and length == 0:
+            says.source_of("wildcard", rest)
+            return [None] * 4
+        if family is None or length > says.WIDTH[family] or len(rest) < end:
+            return None
+        source = says.source_of(family, rest[end:])
+    except says.Ignored:
+        return None
+    prefixes = says.prefix_from(family, length, rest[:end]), source
+    texts = [says.text_of_prefix(family, prefix) for prefix in prefixes]
+    of_router = [body[6:14].hex(), says.number(body[2:4])]
+    return texts + (of_router if kind == SEQNO_REQUEST else [None, None])
+
+
+def requests_of(octets, via_v6):
+    """What the packets of a capture request, with their times and senders."""
+    found = find(octets, reader.Window())
+    for (place, *sender), packet, record in found.sent:
+        front = [reader.time_text(found.records[record][1]), reader.text_of(*sender), place]
+        for _, kind, body in says.tlvs_of(4, packet[4:])[0]:
+            request = requested(kind, body, via_v6)
+            if request is not None:
+                yield [*front, *request]
+
+
+def random_requests(rng):
+    """Packets of two senders, of requests, and of Updates and other TLVs among them."""
+    time = made.TIME
+    for turn in range(UPDATES):
+        stems = [says.octets_of(rng, 16) for _ in range(2)]
+        taste = says.Taste((0, 1, 1, 2, 2, 3, 4, 5), (0,), (0, 8, 15, 16, 31, 32), stems)
+        tlvs = []
+        for _ in range(RANDOM_TLVS):
+            update = says.random_update(rng, taste)
+            kind = rng.choice((6, 8, ROUTE_REQUEST, ROUTE_REQUEST, SEQNO_REQUEST, SEQNO_REQUEST))
+            body = says.random_body(rng, taste, kind)
+            if kind in (ROUTE_REQUEST, SEQNO_REQUEST):
+                fixed = says.octets_of(rng, 12 if kind == SEQNO_REQUEST else 0)
+                width = says.WIDTH[6 if update[0] == 2 else 4]
+                whole = taste.stems[0][: says.octets_for(update[2])]
+                body = update[:1] + update[2:3] + fixed + whole
+                body += says.random_sub_tlvs(rng, taste, width)
+                body = says.mostly(rng, 9, body, bytes(2) + body[2:], body[: rng.randrange(20)])
+            tlvs.append(bytes((kind, len(body))) + body)
+        packet = b"".join(tlvs)
+        packet = b"\x2a\2" + made.number(len(packet)) + packet
+        sender = rng.choice(("fe80::1", "fe80::2"))
+        yield made.Record(made.ethernet(made.ip(sender, made.udp(packet))), time=time + turn)
+
+
+def check_requests(program, capture, tally):
+    """With `--requests` there are, beside the other lines, those of each request; from a moment on,
+    too."""
+    found = find(capture.read_bytes(), reader.Window())
+    for words in [], ["--v4-via-v6"]:
+        asked_for = ["--requests", *words]
+        events, problem = events_of(program, asked_for, capture)
+        others, _ = events_of(program, words, capture)
+        asked = [event for event in events if event["event"] == "requests"]
+        fronts = [[event["time"], event["sender"], place_of(event)] for event in asked]
+        told = [front + what_asked(event) for front, event in zip(fronts, asked)]
+        wanted = list(requests_of(capture.read_bytes(), "--v4-via-v6" in words))
+        problem = problem or ("" if told == wanted else f"{told} in place of {wanted}")
+        problem = problem or ("" if [e for e in events if e not in asked] == others else "others")
+        events.sort(key=lambda event: event["time"])
+        times = moments_of(found, events, random.Random(SEED), PAIRS)
+        problem = problem or "\n".join(check_since(program, asked_for, capture, events, times))
+        tally.check(f"requests in {capture.name}, {' '.join(words)}", problem)
+
+
 def check_picture(program, capture, tally):
     """The picture of a capture's events has a bar for each time that a route was held, and one for
     each next hop."""
@@ -402,6 +544,10 @@ def check(tally, long):
     with tempfile.TemporaryDirectory() as folder:
         most = 10 * MOMENTS if long else MOMENTS
         check_captures(program, captures_of(pathlib.Path(folder), long), tally, most)
+        path = pathlib.Path(folder) / "requests.pcap"
+        path.write_bytes(made.pcap(list(random_requests(random.Random(SEED)))))
+        for capture in (*CAPTURES, path):
+            check_requests(program, capture, tally)
 
 
 def main():

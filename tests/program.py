@@ -270,7 +270,7 @@ def check_options(program, tally):
 COMPLETED = (
     ("babel-dump nor", ["normalise"]),
     ("babel-dump key --ro", ["--routes"]),
-    ("babel-dump events --ma", ["--max-routes"]),
+    ("babel-dump events --ma", ["--match", "--max-routes"]),
     ("babel-dump show x.pcap --from f", ["fe80::1", "fe80::2"]),
     ("babel-dump compare x.pcap now.pcap --other-from f", ["fe80::1"]),
     ("babel-dump show x.dump --from f", []),

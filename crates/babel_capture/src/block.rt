@@ -142,6 +142,7 @@ fn ends_well(order: Order, block: &[u8]) -> bool
 }
 
 /// A packet of the interface with this number.
+#[inline(always)]
 fn read_packet<'a>(
     before: &Context,
     at: u64,
@@ -178,6 +179,7 @@ fn read_packet<'a>(
 
 /// A packet that is read, or skipped for its time; a fault where none can be read by the first
 /// one's.
+#[inline(always)]
 fn read_by<'a>(before: &Context, at: u64, packet: Packet<'a>) -> Result<Block<'a>, Fault>
     ensures ok { IfOk result (λ block. read_by before.now.window before.now.start at (captured_of
         packet.entry) ≡ Ok (content_of block)) }
@@ -344,6 +346,7 @@ fn read_interface<'a>(
 
 /// A block with a packet of the interface that has this number in the section: an enhanced packet
 /// block, or the block that it replaced.
+#[inline(always)]
 fn read_numbered<'a>(
     before: &Context,
     at: u64,
@@ -378,6 +381,7 @@ fn packet_stamp(order: Order, block: &[u8]) -> Stamp
 }
 
 /// Such a block, of which so many octets are the packet's.
+#[inline(always)]
 fn read_kept<'a>(
     before: &Context,
     at: u64,

@@ -63,6 +63,7 @@ impl Tally {
 
     /// With one packet more, with these Updates, and whether octets come after its body; `None` if
     /// its packets, their octets or their Updates are more than 2^64 - 1.
+    #[inline(always)]
     fn with(
         self,
         time: Option<Time>,
@@ -155,6 +156,7 @@ impl Tallies {
 
     /// Counts a packet with these Updates, which is in the block at this offset, and whether octets
     /// come after its body.
+    #[inline(always)]
     fn add(
         &mut self,
         at: u64,

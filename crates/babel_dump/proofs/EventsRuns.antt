@@ -1,7 +1,6 @@
 -- What records tell, one after another.
 use Rattle.std.proofs.Common.{◌≡◌, ℕ, ◌≤◌, List, [], ◌∷◌, ◌++◌, map, Option, None, Some, refl, sym, ap, subst, ◌∙◌, append_assoc, arith}
 use Rattle.std.specs.Prelude.{IfSome}
-use Rattle.std.specs.List.Sorted.{IsStrictlySortedBy}
 use Rattle.std.proofs.lemmas.List.{append-nil, map-append}
 use Rattle.babel_capture.specs.declared.tallies.Origin.{Origin}
 use Rattle.babel_capture.specs.Counts.{Made}
@@ -14,6 +13,7 @@ use Rattle.babel_timeline.specs.declared.telling.Telling.TheVariants as tellings
 use Rattle.babel_timeline.specs.Accounts.{Said}
 use Rattle.babel_timeline.specs.Rows.{Rows}
 use Rattle.babel_timeline.specs.Telling.{AreAnswers, AskedFor, IsTold, Tells, TellsEnds}
+use Rattle.babel_timeline.proofs.AccountLaws.{begins}
 use Rattle.babel_timeline.proofs.TellingLaws.{ends_tell, expired_account, tells_then}
 use Rattle.babel_dump.specs.EventsRun.{AreInOrder, AreSaid, AreTold, AreUpTo, HaveTold, IsSaid, Says, asked_by}
 use Rattle.babel_dump.specs.Speakers.{speaker_cmp, speaker_exact}
@@ -94,22 +94,13 @@ told_none (Some pair) = record {
 module _ (events : Events) where
   -- no records tell nothing
   pub told_of_none : HaveTold events None [] [] []
-  unfolding IsStrictlySortedBy
   told_of_none = record {
     said = [];
     are_said = refl;
     changes = [];
     account = λ order. record {
       moment = 0;
-      account = record {
-        rising = tt;
-        told = λ subject. refl;
-        turns = λ before after told split. absurd (not_nil before after told split);
-        past = tt;
-        left = λ subject here. refl;
-        gone = λ subject gone. absurd gone;
-        ahead = λ subject time ends. absurd (let bad : None ≡ Some ends.row = ends.held in cc);
-      };
+      account = begins speaker_cmp speaker_total speaker_exact events.expiry;
       reached = λ time up bound. omega arith;
     };
     are_told = told_none (asked_by events);

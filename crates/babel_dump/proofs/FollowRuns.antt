@@ -1,11 +1,8 @@
 -- A capture that is followed, read by read, to its end.
-use Rattle.std.proofs.Common.{ℕ, ◌<◌, List, [], ◌++◌, take, map, flat_map, Result, Ok, Err, IfOk, refl, sym, ap, ◌∙◌}
-use Rattle.std.proofs.lemmas.Grind.{flat_map-append}
-use Rattle.std.proofs.lemmas.List.{map-append}
-use Rattle.std.proofs.KnownBytes.{Appends-nil, Appends-trans}
+use Rattle.std.proofs.Common.{ℕ, ◌<◌, List, [], ◌++◌, take, Result, Ok, Err, IfOk, refl}
+use Rattle.std.proofs.KnownBytes.{Appends-nil}
 use Rattle.babel_timeline.specs.declared.telling.Telling.{Telling}
 use Rattle.babel_dump.specs.Device.{Gave, InputState, IsSpent, OutputState}
-use Rattle.babel_dump.specs.EventText.{event_in}
 use Rattle.babel_dump.specs.EventsRun.{AreLines, TellsEvents, WroteLines}
 use Rattle.babel_dump.specs.Followed.{Ends, Goes, HasFollowed, IsFollowed}
 use Rattle.babel_dump.specs.Run.{Output, output}
@@ -15,32 +12,15 @@ use Rattle.babel_dump.specs.declared.events_outcome.EventsOutcome.{EventsOutcome
 use Rattle.babel_dump.specs.declared.speaker.Speaker.{Speaker}
 use Rattle.babel_dump.specs.declared.trouble.Trouble.{Trouble}
 use Rattle.babel_dump.proofs.Devices.{gave_itself, gave_more, gave_none}
+use Rattle.babel_dump.proofs.EventLineLaws.{wrote_both}
 
 -- ---- lines
 
 lines_none : (events : Events) → AreLines events [] []
 lines_none events = record { named = []; are = refl; text_is = refl }
 
-lines_more : (events : Events) (told more : List (Telling Speaker)) (text next : List ℕ) → AreLines events told text → AreLines events more next → AreLines events (told ++ more) (text ++ next)
-lines_more events told more text next one two =
-    let line : List ℕ × Telling Speaker → List ℕ = λ one. event_in events.format events.view events.pair one.0 one.1 in
-    record {
-      named = one.named ++ two.named;
-      are = map-append (λ (one : List ℕ × Telling Speaker). one.1) one.named two.named ∙ ap (λ (t : List (Telling Speaker)). t ++ map (λ one. one.1) two.named) one.are
-          ∙ ap (λ (t : List (Telling Speaker)). told ++ t) two.are;
-      text_is = ap (λ (t : List ℕ). t ++ next) one.text_is ∙ ap (λ (t : List ℕ). flat_map line one.named ++ t) two.text_is ∙ sym (flat_map-append line one.named two.named);
-    }
-
 wrote_none : (events : Events) (w : OutputState) → WroteLines events [] (output w w)
 wrote_none events w = record { text = []; lines = lines_none events; wrote = Appends-nil w.taken }
-
-wrote_more : (events : Events) (told more : List (Telling Speaker)) (u v w : OutputState) → WroteLines events told (output u v) → WroteLines events more (output v w)
-    → WroteLines events (told ++ more) (output u w)
-wrote_more events told more u v w one two = record {
-  text = one.text ++ two.text;
-  lines = lines_more events told more one.text two.text one.lines two.lines;
-  wrote = Appends-trans u.taken v.taken w.taken one.text two.text one.wrote two.wrote;
-}
 
 -- ---- read by read
 
@@ -64,7 +44,7 @@ goes_on : (events : Events) (old new : Followed) (u v w : OutputState) (fed more
     → Goes events (fed ++ more) [] (output u w) new
 goes_on events old new u v w fed more first goes =
     let next = goes fed first.more first.is_followed in
-    record { more = first.more ++ next.more; is_followed = next.is_followed; wrote = wrote_more events first.more next.more u v w first.wrote next.wrote }
+    record { more = first.more ++ next.more; is_followed = next.is_followed; wrote = wrote_both events u v w first.more next.more first.wrote next.wrote }
 
 -- one more read
 pub followed_more : (events : Events) (old new : Followed) (a b c : InputState) (u v w : OutputState) (more : List ℕ) → IsFollowedSoFar events a b (output u v) old
@@ -100,5 +80,5 @@ followed_ended events followed a b u v w (Ok answer) has ends =
       gave = has.gave;
       written = first.more ++ end.more;
       tells = end.tells;
-      wrote = wrote_more events first.more end.more u v w first.wrote end.wrote;
+      wrote = wrote_both events u v w first.more end.more first.wrote end.wrote;
     }

@@ -19,7 +19,6 @@ use Rattle.std.proofs.lemmas.List.Folds.{list_any-append}
 use Rattle.babel_prefix.proofs.Insertion.{equal_of, lookup-insert}
 use Rattle.babel_capture.specs.declared.missed.Missed.{Missed}
 use Rattle.babel_capture.specs.declared.tallies.Origin.{Origin}
-use Rattle.babel_capture.specs.declared.window.Moment.{Moment}
 use Rattle.babel_capture.specs.Counts.{Made}
 use Rattle.babel_capture.specs.Findings.{missed_in}
 use Rattle.babel_capture.specs.Findings.{octets_found, origin_found}
@@ -35,7 +34,8 @@ use Rattle.babel_timeline.specs.declared.teller.Teller.{Teller}
 use Rattle.babel_timeline.specs.declared.telling.Telling.{Telling}
 use Rattle.babel_timeline.specs.Telling.{TellsEnds}
 use Rattle.babel_dump.specs.EventText.{speaker_of}
-use Rattle.babel_dump.specs.EventsRun.{AreTlvsOf, HaveTold, HaveToldSo, OpensRightly, Step, asked_by, first_time, have_come, is_heard, is_lost, is_of, made_in, packets_heard, since_in, speaker_at, told_from, told_in, unlost, written_in}
+use Rattle.babel_dump.specs.EventText.{time_of as time_told}
+use Rattle.babel_dump.specs.EventsRun.{AreTlvsOf, HaveTold, HaveToldSo, OpensRightly, Step, asked_by, first_time, have_come, is_from, is_heard, is_lost, is_of, made_in, packets_heard, requests_made, since_in, speaker_at, told_from, told_in, unlost, written_in}
 use Rattle.babel_dump.specs.Followed.{HasHeard, HearsPacket, HearsRecord, IsHeardOf, Suits, TellsFrom, TellsNext, unlost_by}
 use Rattle.babel_dump.specs.Speakers.{speaker_cmp, speaker_exact}
 use Rattle.babel_dump.specs.declared.events_job.Events.{Events}
@@ -229,18 +229,19 @@ module _ (events : Events) where
       no_step [] step back split = let bad : [] ≡ step ∷ back = split in cc
       no_step (first ∷ front) step back split = let bad : [] ≡ first ∷ (front ++ step ∷ back) = split in cc
 
-  written_more : (since : Option Moment) (before : List Made) (steps : List Step) (step : Step) → written_in since before (steps ++ step ∷ [])
-      ≡ written_in since before steps ++ unlost (before ++ made_in steps) (step.opening ++ told_from (since_in since ((before ++ made_in steps) ++ step.made ∷ [])) step.told)
-  written_more since before [] step =
-      let here : List Made → Tellings = λ made. unlost made (step.opening ++ told_from (since_in since (made ++ step.made ∷ [])) step.told) in
-      append-nil (here before) ∙ ap here (sym (append-nil before))
-  written_more since before (first ∷ steps) step =
-      let here : List Made → Tellings = λ made. unlost made (step.opening ++ told_from (since_in since (made ++ step.made ∷ [])) step.told) in
+  -- what is written of a step, behind these records
+  abbrev written_of : Step → List Made → Tellings
+  written_of step made = unlost made (step.opening ++ told_from (since_in events.since (made ++ step.made ∷ [])) (step.told ++ requests_made events step.made))
+
+  written_more : (before : List Made) (steps : List Step) (step : Step)
+      → written_in events before (steps ++ step ∷ []) ≡ written_in events before steps ++ written_of step (before ++ made_in steps)
+  written_more before [] step = append-nil (written_of step before) ∙ ap (written_of step) (sym (append-nil before))
+  written_more before (first ∷ steps) step =
       let made = before ++ first.made ∷ [] in
-      let one : Tellings = unlost before (first.opening ++ told_from (since_in since made) first.told) in
-      ap (λ (t : Tellings). one ++ t) (written_more since made steps step
-      ∙ ap (λ (m : List Made). written_in since made steps ++ here m) (append_assoc before (first.made ∷ []) (made_in steps)))
-      ∙ sym (append_assoc one (written_in since made steps) (here (before ++ made_in (first ∷ steps))))
+      let one : Tellings = written_of first before in
+      ap (λ (t : Tellings). one ++ t) (written_more made steps step
+      ∙ ap (λ (m : List Made). written_in events made steps ++ written_of step m) (append_assoc before (first.made ∷ []) (made_in steps)))
+      ∙ sym (append_assoc one (written_in events made steps) (written_of step (before ++ made_in (first ∷ steps))))
 
   pub unlost_is : (made : List Made) (written : Tellings) (old : Hearing) (was : HasHeard events made written old) (told : Tellings) → unlost_by old.lost told ≡ unlost (made_in was.steps) told
   unlost_is made written old was told = ap (λ (p : Speaker → Bool). filter (λ t. not (p (speaker_of t))) told) (fun_ext was.lost)
@@ -251,16 +252,16 @@ module _ (events : Events) where
         → (let since = since_in events.since (made_in was.steps ++ one ∷ []) in TellsFrom since (have_come since (made_in was.steps)) (time_of one.came) (told_in was.steps) told new.since printed)
         → ((speaker : Speaker) → contains speaker_cmp new.lost speaker
         ≡ contains speaker_cmp old.lost speaker || is_of speaker (option_map (λ (m : Missed). m.origin) (missed_in one.what)))
-        → HasHeard events (made ++ one ∷ []) (written ++ unlost_by old.lost printed) new
+        → HasHeard events (made ++ one ∷ []) (written ++ unlost_by old.lost (printed ++ told_from new.since.moment (requests_made events one))) new
     has_heard_more told hears untimed printed from lost = record {
       suits = hears.suits;
       steps = steps;
       are_made = made_is ∙ ap (λ (m : List Made). m ++ one ∷ []) was.are_made;
       each = each;
       have_told = have;
-      written_is = ap (λ (t : Tellings). t ++ unlost_by old.lost printed) was.written_is
-          ∙ ap (λ (t : Tellings). written_in events.since [] was.steps ++ t) (unlost_is made written old was printed ∙ ap (unlost (made_in was.steps)) from.told_is)
-          ∙ sym (written_more events.since [] was.steps step);
+      written_is = ap (λ (t : Tellings). t ++ unlost_by old.lost all) was.written_is
+          ∙ ap (λ (t : Tellings). written_in events [] was.steps ++ t) (unlost_is made written old was all ∙ ap (unlost (made_in was.steps)) all_is)
+          ∙ sym (written_more [] was.steps step);
       opens = opens;
       awaits = subst (λ (m : List Made). AwaitsAfter events.since m (told_in steps) new.since) (sym made_is)
           (subst (λ (t : Tellings). AwaitsAfter events.since (made_in was.steps ++ one ∷ []) t new.since) (sym told_is)
@@ -275,6 +276,21 @@ module _ (events : Events) where
 
         steps : List Step
         steps = was.steps ++ step ∷ []
+
+        requests : Tellings
+        requests = requests_made events one
+
+        all : Tellings
+        all = printed ++ told_from new.since.moment requests
+
+        since : Option ℕ
+        since = since_in events.since (made_in was.steps ++ one ∷ [])
+
+        all_is : all ≡ from.opening ++ told_from since (told ++ requests)
+        all_is = ap (λ (t : Tellings). t ++ told_from new.since.moment requests) from.told_is
+            ∙ ap (λ (s : Option ℕ). (from.opening ++ told_from since told) ++ told_from s requests) from.awaits.moment
+            ∙ append_assoc from.opening (told_from since told) (told_from since requests)
+            ∙ ap (λ (t : Tellings). from.opening ++ t) (sym (filter-append (λ (t : Telling Speaker). is_from since (time_told t)) told requests))
 
         made_is : made_in steps ≡ made_in was.steps ++ one ∷ []
         made_is = map-append (λ (s : Step). s.made) was.steps (step ∷ [])
@@ -348,7 +364,8 @@ module _ (events : Events) where
   pub heard_and_lost : (made : List Made) (one : Made) (before told told_too : Tellings) (old mid new : Hearing) → mid.lost ≡ old.lost → (new.teller ≡ mid.teller) × (new.since ≡ mid.since)
       → (missed : Option Missed) → missed ≡ missed_in one.what → (came : Option ℕ) → came ≡ time_of one.came
       → (Suits events old.teller → HearsRecord events one old.teller mid.teller mid.heard.items) → (came ≡ None → mid.heard.items ≡ [])
-      → TellsNext events.since came old.since mid.heard.items mid.since mid.printed.items → told_too ≡ told ++ unlost_by old.lost mid.printed.items
+      → TellsNext events.since came old.since mid.heard.items mid.since mid.printed.items
+      → told_too ≡ told ++ unlost_by old.lost (mid.printed.items ++ told_from mid.since.moment (requests_made events one))
       → ((speaker : Speaker) → contains speaker_cmp new.lost speaker ≡ contains speaker_cmp mid.lost speaker || is_of speaker (option_map (λ (m : Missed). m.origin) missed))
       → HasHeard events made (before ++ told) old → HasHeard events (made ++ one ∷ []) (before ++ told_too) new
   heard_and_lost made one before told told_too old mid new lost same missed is came time hears untimed from told_is lose was =
@@ -356,7 +373,9 @@ module _ (events : Events) where
       let since = since_in events.since (made_in was.steps ++ one ∷ []) in
       let begun = awaits_begun events.since (made_in was.steps) one came time (told_in was.steps) old.since was.quiet was.awaits in
       let tells = from since (have_come since (made_in was.steps)) (told_in was.steps) begun in
-      subst (λ (t : Tellings). HasHeard events (made ++ one ∷ []) t new) (append_assoc before told (unlost_by old.lost printed) ∙ ap (λ (t : Tellings). before ++ t) (sym told_is))
+      let requests : Tellings = requests_made events one in
+      subst (λ (t : Tellings). HasHeard events (made ++ one ∷ []) t new) (append_assoc before told (unlost_by old.lost (printed ++ told_from new.since.moment requests))
+      ∙ ap (λ (k : Since). before ++ (told ++ unlost_by old.lost (printed ++ told_from k.moment requests))) same.1 ∙ ap (λ (t : Tellings). before ++ t) (sym told_is))
       (has_heard_more made (before ++ told) one old new was mid.heard.items
       (subst (λ (t : Teller Speaker). HearsRecord events one old.teller t mid.heard.items) (sym same.0) (hears was.suits)) (λ none. untimed (time ∙ none)) printed
       (subst (λ (k : Since). TellsFrom since (have_come since (made_in was.steps)) (time_of one.came) (told_in was.steps) mid.heard.items k printed) (sym same.1)

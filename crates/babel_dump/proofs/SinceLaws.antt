@@ -17,7 +17,6 @@ use Rattle.babel_capture.specs.declared.window.Moment.{Moment}
 use Rattle.babel_capture.specs.Counts.{Made}
 use Rattle.babel_capture.specs.Times.{time_of}
 use Rattle.babel_tlv.specs.Route.{Announcement}
-use Rattle.babel_timeline.specs.declared.change.Change.{Change}
 use Rattle.babel_timeline.specs.declared.telling.Telling.{Telling}
 use Rattle.babel_timeline.specs.declared.telling.Telling.TheVariants as tellings
 use Rattle.babel_timeline.specs.Telling.{answer_after, answered}
@@ -149,31 +148,32 @@ answer_kept cmp order old new sender answer put is updates speaker =
     ∙ ap (λ (b : Bool). cond b answer (get speaker_cmp old speaker)) (is_at-sym speaker_total sender speaker)
 
 module _ (moment : ℕ) (earlier : Tellings) (old new : Since) (was : HasAnswers earlier old) where
-  -- a change is no answer
-  pub change_kept : (change : Change Speaker) → new ≡ old → HasAnswers (earlier ++ told_early (Some moment) (tellings.Change change ∷ [])) new
-  change_kept change same speaker = ap (λ (k : Since). lookup (is_at (speaker_cmp speaker)) k.answers.entries) same ∙ was speaker ∙ sym (by (nat_le moment change.time))
+  -- what is no answer
+  pub other_kept : (told : Telling Speaker) → ((speaker : Speaker) (answer : Option Announcement) → answer_after speaker_cmp speaker answer told ≡ answer) → new ≡ old
+      → HasAnswers (earlier ++ told_early (Some moment) (told ∷ [])) new
+  other_kept told none same speaker = ap (λ (k : Since). lookup (is_at (speaker_cmp speaker)) k.answers.entries) same ∙ was speaker ∙ sym (by (nat_le moment (time_told told)))
     where
-      by : (b : Bool) → answered speaker_cmp (earlier ++ cond (not b) (tellings.Change change ∷ []) []) speaker ≡ answered speaker_cmp earlier speaker
+      by : (b : Bool) → answered speaker_cmp (earlier ++ cond (not b) (told ∷ []) []) speaker ≡ answered speaker_cmp earlier speaker
       by true = ap (λ (t : Tellings). answered speaker_cmp t speaker) (append-nil earlier)
-      by false = fold-append (answer_after speaker_cmp speaker) None earlier (tellings.Change change ∷ [])
+      by false = fold-append (answer_after speaker_cmp speaker) None earlier (told ∷ []) ∙ none speaker (answered speaker_cmp earlier speaker)
 
-  module _ (time : ℕ) (sender : Speaker) (answer : Option Announcement) where
+  module _ (time : ℕ) (sender : Speaker) (answer before : Option Announcement) where
     -- an answer of the moment or later is not kept
-    pub late_kept : moment ≤ time → new ≡ old → HasAnswers (earlier ++ told_early (Some moment) (tellings.Answer time sender answer ∷ [])) new
+    pub late_kept : moment ≤ time → new ≡ old → HasAnswers (earlier ++ told_early (Some moment) (tellings.Answer time sender answer before ∷ [])) new
     late_kept le same speaker =
         let late : nat_le moment time ≡ true = grind arith in
         ap (λ (k : Since). lookup (is_at (speaker_cmp speaker)) k.answers.entries) same ∙ was speaker
-        ∙ sym (ap (λ (b : Bool). answered speaker_cmp (earlier ++ cond (not b) (tellings.Answer time sender answer ∷ []) []) speaker) late ∙ ap (λ (t : Tellings). answered speaker_cmp t speaker) (append-nil earlier))
+        ∙ sym (ap (λ (b : Bool). answered speaker_cmp (earlier ++ cond (not b) (tellings.Answer time sender answer before ∷ []) []) speaker) late ∙ ap (λ (t : Tellings). answered speaker_cmp t speaker) (append-nil earlier))
 
     pub early_kept : time < moment
         → ((speaker : Speaker) → lookup (is_at (speaker_cmp speaker)) new.answers.entries
         ≡ cond (is_at (speaker_cmp speaker) sender) answer (lookup (is_at (speaker_cmp speaker)) old.answers.entries))
-        → HasAnswers (earlier ++ told_early (Some moment) (tellings.Answer time sender answer ∷ [])) new
+        → HasAnswers (earlier ++ told_early (Some moment) (tellings.Answer time sender answer before ∷ [])) new
     early_kept lt puts speaker =
         let early : nat_le moment time ≡ false = grind arith in
         puts speaker ∙ ap (cond (is_at (speaker_cmp speaker) sender) answer) (was speaker)
-        ∙ sym (ap (λ (b : Bool). answered speaker_cmp (earlier ++ cond (not b) (tellings.Answer time sender answer ∷ []) []) speaker) early
-        ∙ fold-append (answer_after speaker_cmp speaker) None earlier (tellings.Answer time sender answer ∷ []))
+        ∙ sym (ap (λ (b : Bool). answered speaker_cmp (earlier ++ cond (not b) (tellings.Answer time sender answer before ∷ []) []) speaker) early
+        ∙ fold-append (answer_after speaker_cmp speaker) None earlier (tellings.Answer time sender answer before ∷ []))
 
 -- of the next telling too
 pub early_next : (moment : ℕ) (heard : Tellings) (i : ℕ) (one : Telling Speaker) → i < length heard → one ≡ get_or heard i one → (earlier : Tellings)

@@ -110,7 +110,7 @@ record HasEnded (events : Events) (made : List Made) (moment : Option ℕ) (step
   all_last : IfSome moment (λ m. AllLast speaker_cmp events.expiry m rows)
   opening : Tellings
   opens : OpensBy (since_in events.since (made_in steps)) moment (made_in steps) (told_in steps ++ ended) opening
-  written_is : written ≡ written_in events.since [] steps ++ unlost (made_in steps) (opening ++ told_from (since_in events.since (made_in steps)) ended)
+  written_is : written ≡ written_in events [] steps ++ unlost (made_in steps) (opening ++ told_from (since_in events.since (made_in steps)) ended)
 
 -- a moment does not come where there is no time
 never_opens : (since : Option ℕ) (made : List Made) (told : Tellings) → OpensBy since None made told []
@@ -130,7 +130,7 @@ ended_by_then events made told None old new same was = record {
   all_last = tt;
   opening = [];
   opens = never_opens (since_in events.since (made_in was.steps)) (made_in was.steps) (told_in was.steps ++ []);
-  written_is = ap (λ (f : Follower). told ++ f.told.items) same ∙ was.written_is ∙ sym (append-nil (written_in events.since [] was.steps));
+  written_is = ap (λ (f : Follower). told ++ f.told.items) same ∙ was.written_is ∙ sym (append-nil (written_in events [] was.steps));
 }
 ended_by_then events made told (Some moment) old new ends was = record {
   ended = ends.ended;
@@ -141,7 +141,7 @@ ended_by_then events made told (Some moment) old new ends was = record {
   opens = from.opens;
   written_is = ap (λ (t : Tellings). told ++ t) ends.written ∙ sym (append_assoc told old.follower.told.items (unlost_by old.follower.hearing.lost ends.printed))
       ∙ ap (λ (t : Tellings). t ++ unlost_by old.follower.hearing.lost ends.printed) was.written_is
-      ∙ ap (λ (t : Tellings). written_in events.since [] was.steps ++ t)
+      ∙ ap (λ (t : Tellings). written_in events [] was.steps ++ t)
       (unlost_is events made (told ++ old.follower.told.items) old.follower.hearing was ends.printed ∙ ap (unlost (made_in was.steps)) from.told_is);
 }
   where

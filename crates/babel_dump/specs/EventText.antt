@@ -1,10 +1,14 @@
 -- The lines that `events` writes: this project's own. A place, a prefix, an address and a route are
 -- written as in the lines of the other commands.
-use Rattle.std.specs.Prelude.{ℕ, Bool, true, not, if◌then◌else◌, List, [], ◌∷◌, ◌++◌, codes}
-use Rattle.std.specs.Prelude.{Option, None, Some}
+use Rattle.std.specs.Prelude.{ℕ, Bool, true, not, ◌&&◌, ◌==◌, if◌then◌else◌, List, [], ◌∷◌, ◌++◌}
+use Rattle.std.specs.Prelude.{Option, None, Some, codes}
 use Rattle.std.specs.Fmt.{decimal}
 use Rattle.std.specs.Option.{option_map}
 use Rattle.std.specs.Ordering.{is_eq}
+use Rattle.std.specs.Str.{bytes_eq}
+use Rattle.hex.specs.Hex.{encode_lower}
+use Rattle.babel_prefix.specs.Address.{Address}
+use Rattle.babel_prefix.specs.Width.{same_family}
 use Rattle.babel_capture.specs.Place.{place_on}
 use Rattle.babel_capture.specs.Tallies.{place_cmp}
 use Rattle.babel_capture.specs.Times.{within_years}
@@ -12,16 +16,17 @@ use Rattle.babel_capture.specs.declared.place.Place.{Place}
 use Rattle.babel_tlv.specs.declared.held.Held.{Held}
 use Rattle.babel_tlv.specs.declared.held.Held.TheVariants as helds
 use Rattle.babel_tlv.specs.declared.view.View.{View}
-use Rattle.babel_tlv.specs.Route.{RouteKey, Announcement}
-use Rattle.babel_timeline.specs.Changes.{held_after}
+use Rattle.babel_tlv.specs.Route.{Announcement}
+use Rattle.babel_timeline.specs.Changes.{held_after, held_before}
 use Rattle.babel_timeline.specs.declared.change.ChangeKind.{ChangeKind}
 use Rattle.babel_timeline.specs.declared.change.ChangeKind.TheVariants as kinds
 use Rattle.babel_timeline.specs.declared.telling.Telling.{Telling}
 use Rattle.babel_timeline.specs.declared.telling.Telling.TheVariants as tellings
 use Rattle.babel_dump.specs.CaptureText.{link_text, name_json, name_text, place_json, vlans_text}
 use Rattle.babel_dump.specs.JsonText.{addressed_json, answer_json}
+use Rattle.babel_dump.specs.RequestText.{key_text, request_json, request_text}
 use Rattle.babel_dump.specs.RunText.{announcement_text, answer_text, newline}
-use Rattle.babel_dump.specs.Spelling.{address_text, from_prefix, prefix_text}
+use Rattle.babel_dump.specs.Spelling.{address_text, prefix_text}
 use Rattle.babel_dump.specs.TimeText.{time_json, time_or}
 use Rattle.babel_dump.specs.declared.addr_pair.AddrPair.{AddrPair}
 use Rattle.babel_dump.specs.declared.format.Format.{Format}
@@ -34,26 +39,36 @@ use Rattle.babel_dump.specs.declared.spelling.Spelling.{Spelling}
 -- when it was, and of whom it is told
 abbrev pub time_of : Telling Speaker → ℕ
 time_of (tellings.Change change) = change.time
-time_of (tellings.Answer time sender answer) = time
+time_of (tellings.Answer time sender answer before) = time
+time_of (tellings.Request time sender request) = time
 
 abbrev pub speaker_of : Telling Speaker → Speaker
 speaker_of (tellings.Change change) = change.subject.sender
-speaker_of (tellings.Answer time sender answer) = sender
+speaker_of (tellings.Answer time sender answer before) = sender
+speaker_of (tellings.Request time sender request) = sender
 
 -- what is held after it, or answered from then on
 abbrev pub held_from : Telling Speaker → Option Held
 held_from (tellings.Change change) = option_map helds.Route (held_after change.kind)
-held_from (tellings.Answer time sender answer) = option_map helds.Route answer
+held_from (tellings.Answer time sender answer before) = option_map helds.Route answer
+held_from (tellings.Request time sender request) = None
+
+-- what was held before it, or answered until then
+abbrev pub held_until : Telling Speaker → Option Held
+held_until (tellings.Change change) = option_map helds.Route (held_before change.kind)
+held_until (tellings.Answer time sender answer before) = option_map helds.Route before
+held_until (tellings.Request time sender request) = None
 
 abbrev pub kind_verb : ChangeKind → List ℕ
 kind_verb (kinds.Announced ann) = codes "announces"
-kind_verb (kinds.Changed ann) = codes "changes"
-kind_verb kinds.Retracted = codes "retracts"
-kind_verb kinds.Expired = codes "expires"
+kind_verb (kinds.Changed before now) = codes "changes"
+kind_verb (kinds.Retracted before) = codes "retracts"
+kind_verb (kinds.Expired before) = codes "expires"
 
 abbrev pub verb : Telling Speaker → List ℕ
 verb (tellings.Change change) = kind_verb change.kind
-verb (tellings.Answer time sender answer) = codes "answers"
+verb (tellings.Answer time sender answer before) = codes "answers"
+verb (tellings.Request time sender request) = codes "requests"
 
 -- ---- text
 
@@ -73,21 +88,45 @@ event_front spelling name told =
     time_or (within_years (time_of told)) ++ codes " "
     ++ address_text spelling (speaker_of told).sender ++ interface_text (speaker_of told).place name
 
--- ` DST from SRC`
-abbrev pub key_text : Spelling → RouteKey → List ℕ
-key_text spelling key = codes " " ++ prefix_text spelling key.dst ++ from_prefix spelling key.src
-
 -- ` via NEXTHOP id ROUTERID seqno N metric N`, or nothing where nothing is held any more
 abbrev pub after_text : Spelling → View → Option Announcement → List ℕ
 after_text spelling view None = []
 after_text spelling view (Some ann) = codes " " ++ announcement_text spelling view ann
 
--- of a change ` DST from SRC` and what is held after it; of an answer that, or ` none`
+-- whether two addresses are one
+abbrev pub is_same_address : Address → Address → Bool
+is_same_address address other =
+    same_family address.family other.family && (address.bits == other.bits)
+
+-- a field's name and its text, unless it is the same now
+abbrev pub unless_same : (same : Bool) → (name text : List ℕ) → List ℕ
+unless_same same name text = if same then [] else name ++ text
+
+-- ` via NEXTHOP id ROUTERID seqno N metric N`, of the fields that are others now. A field that is
+-- ignored is the same.
+abbrev pub differing_text : Spelling → (before now : Announcement) → List ℕ
+differing_text spelling before now =
+    unless_same (is_same_address before.next_hop now.next_hop) (codes " via ")
+    (address_text spelling before.next_hop)
+    ++ unless_same (bytes_eq before.router_id now.router_id) (codes " id ")
+    (encode_lower before.router_id)
+    ++ unless_same (before.seqno == now.seqno) (codes " seqno ") (decimal before.seqno)
+    ++ unless_same (before.metric == now.metric) (codes " metric ") (decimal before.metric)
+
+-- ` was`, and of what was held the fields that are others now, where something else was held
+abbrev pub was_text : Spelling → ChangeKind → List ℕ
+was_text spelling (kinds.Changed before now) = codes " was" ++ differing_text spelling before now
+was_text spelling kind = []
+
+-- of a change ` DST from SRC`, what is held after it, and what was before; of an answer that, or
+-- ` none`; and what is requested
 abbrev pub told_text : Spelling → View → Telling Speaker → List ℕ
 told_text spelling view (tellings.Change change) =
     key_text spelling change.subject.key ++ after_text spelling view (held_after change.kind)
-told_text spelling view (tellings.Answer time sender answer) =
+    ++ was_text spelling change.kind
+told_text spelling view (tellings.Answer time sender answer before) =
     codes " " ++ answer_text spelling view (option_map helds.Route answer)
+told_text spelling view (tellings.Request time sender request) = request_text spelling request
 
 -- ` link N vlan N.N VERB `, and what is told
 abbrev pub event_end : Spelling → View → Telling Speaker → List ℕ
@@ -116,20 +155,31 @@ asked_json spelling None = codes "\"destination\":null,\"source\":null"
 asked_json spelling (Some pair) =
     addressed_json (address_text spelling pair.dst) (address_text spelling pair.src)
 
-abbrev pub told_json : Spelling → Option AddrPair → Telling Speaker → List ℕ
-told_json spelling pair (tellings.Change change) =
+-- `,"answer":ANSWER,"before":ANSWER`
+abbrev pub answers_json : Spelling → View → Telling Speaker → List ℕ
+answers_json spelling view told =
+    codes ",\"answer\":" ++ answer_json spelling view (held_from told)
+    ++ codes ",\"before\":" ++ answer_json spelling view (held_until told)
+
+-- of a change and an answer, of what it is and these two; of a request, what is requested
+abbrev pub told_json : Spelling → View → Option AddrPair → Telling Speaker → List ℕ
+told_json spelling view pair (tellings.Change change) =
     addressed_json (prefix_text spelling change.subject.key.dst)
     (prefix_text spelling change.subject.key.src)
-told_json spelling pair (tellings.Answer time sender answer) = asked_json spelling pair
+    ++ answers_json spelling view (tellings.Change change)
+told_json spelling view pair (tellings.Answer time sender answer before) =
+    asked_json spelling pair
+    ++ answers_json spelling view (tellings.Answer time sender answer before)
+told_json spelling view pair (tellings.Request time sender request) = request_json spelling request
 
--- `,"event":"VERB","destination":"DST","source":"SRC","answer":ANSWER}`
+-- `,"event":"VERB","destination":"DST","source":"SRC","answer":ANSWER,"before":ANSWER}`
 abbrev pub event_end_json : Spelling → View → Option AddrPair → Telling Speaker → List ℕ
 event_end_json spelling view pair told =
-    codes ",\"event\":\"" ++ verb told ++ codes "\"," ++ told_json spelling pair told
-    ++ codes ",\"answer\":" ++ answer_json spelling view (held_from told) ++ codes "}" ++ newline
+    codes ",\"event\":\"" ++ verb told ++ codes "\"," ++ told_json spelling view pair told
+    ++ codes "}" ++ newline
 
 -- `{"time":"TIME","sender":"ADDRESS","interface":N,"link":N,"vlans":[N,N],"name":"NAME"`, and then
--- `,"event":"VERB","destination":"DST","source":"SRC","answer":ANSWER}`
+-- `,"event":"VERB","destination":"DST","source":"SRC","answer":ANSWER,"before":ANSWER}`
 abbrev pub event_json :
     Spelling → View → Option AddrPair → (name : List ℕ) → Telling Speaker → List ℕ
 event_json spelling view pair name told =

@@ -1,8 +1,9 @@
 -- What `events` tells of a capture, and what it promises: this project's own. Who does not use the
 -- command needs none of this page.
-use Rattle.std.specs.Prelude.{ℕ, ◌≡◌, ◌+◌, ◌≤◌, ◌^◌, Bool, true, false, not, ◌&&◌, List, []}
+use Rattle.std.specs.Prelude.{ℕ, ◌≡◌, ◌+◌, ◌≤◌, ◌^◌, Bool, true, false, not, ◌&&◌, ◌||◌, List, []}
 use Rattle.std.specs.Prelude.{◌∷◌, ◌++◌}
-use Rattle.std.specs.Prelude.{Option, None, Some, IfSome, length, map, nat_le, if◌then◌else◌}
+use Rattle.std.specs.Prelude.{Option, None, Some, IfSome, is_none, length, map, nat_le}
+use Rattle.std.specs.Prelude.{if◌then◌else◌}
 use Rattle.std.specs.BTreeMap.{is_at}
 use Rattle.std.specs.Io.KnownBytes.{Appends}
 use Rattle.std.specs.List.{AllByRecursion, filter, flat_map, list_any}
@@ -25,6 +26,8 @@ use Rattle.babel_capture.specs.declared.window.Moment.{Moment}
 use Rattle.babel_tlv.specs.Context.{first_context}
 use Rattle.babel_tlv.specs.Framing.{ArePlaced, TlvAt, packet_octets}
 use Rattle.babel_tlv.specs.Route.{Announcement}
+use Rattle.babel_tlv.specs.declared.request.Request.{Request}
+use Rattle.babel_tlv.specs.declared.request.Request.TheVariants as requests
 use Rattle.babel_tlv.specs.Says.{sayings}
 use Rattle.babel_table.specs.Counts.{counts_of}
 use Rattle.babel_table.specs.Counts.{Counts as Report}
@@ -33,12 +36,17 @@ use Rattle.babel_timeline.specs.declared.change.Change.{Change}
 use Rattle.babel_timeline.specs.declared.telling.Telling.{Telling}
 use Rattle.babel_timeline.specs.declared.telling.Telling.TheVariants as tellings
 use Rattle.babel_timeline.specs.Accounts.{IsAccount, Said}
+use Rattle.babel_timeline.specs.RequestsTold.{requests_told}
 use Rattle.babel_timeline.specs.Rows.{AllLast, Rows}
 use Rattle.babel_timeline.specs.Telling.{AreAnswers, AskedFor, answered, said_of}
 use Rattle.babel_dump.specs.CaptureRun.{IsOutcomeOf}
 use Rattle.babel_dump.specs.CaptureText.{senders_status}
 use Rattle.babel_dump.specs.Device.{GaveOctets, InputState}
 use Rattle.babel_dump.specs.EventText.{event_in, speaker_of}
+use Rattle.babel_dump.specs.Filter.{if_asked, keeps_key}
+use Rattle.babel_dump.specs.declared.filter.Filter.{Filter}
+use Rattle.std.specs.Str.{bytes_eq}
+use Rattle.babel_timeline.specs.Changes.{held_after, held_before}
 use Rattle.babel_dump.specs.EventText.{time_of as time_told}
 use Rattle.babel_dump.specs.Run.{Output}
 use Rattle.babel_dump.specs.declared.addr_pair.AddrPair.{AddrPair}
@@ -86,6 +94,26 @@ AreSaid events [] said = said ≡ []
 AreSaid events (one ∷ made) said =
     (here : List (Said Speaker)) × (later : List (Said Speaker)) × (said ≡ here ++ later)
     × Says events (time_of one.came) one.what here × AreSaid events made later
+
+-- ---- what is requested
+
+-- a sender at a place, as one who speaks
+abbrev pub speaker_at : Origin → Speaker
+speaker_at origin = record { sender = origin.sender; place = origin.place }
+
+-- what a packet of a sender at a place, which came at this time, requests, if that is asked for
+abbrev pub requests_asked : Events → ℕ → Origin → (packet : List ℕ) → List (Telling Speaker)
+requests_asked events time origin packet = if events.requests
+    then requests_told events.limits.via_v6 (speaker_at origin) time packet else []
+
+-- what a record's packet requests, where it has one, and a time
+abbrev pub requests_found : Events → Option ℕ → Found → List (Telling Speaker)
+requests_found events (Some time) (found place sender packet has_trailer) =
+    requests_asked events time (record { place = place; sender = sender }) packet
+requests_found events time what = []
+
+abbrev pub requests_made : Events → Made → List (Telling Speaker)
+requests_made events one = requests_found events (time_of one.came) one.what
 
 -- ---- in order
 
@@ -179,9 +207,9 @@ has_come since time = false
 abbrev pub have_come : Option ℕ → List Made → Bool
 have_come since made = list_any (λ one. has_come since (time_of one.came)) made
 
--- what a sender answers, told at a time
+-- what a sender answers, told at a time, after nothing
 abbrev pub answer_told : ℕ → Speaker × Announcement → Telling Speaker
-answer_told time answer = tellings.Answer time answer.0 (Some answer.1)
+answer_told time answer = tellings.Answer time answer.0 (Some answer.1) None
 
 -- each sender's last answer before the moment, if that is a route, told at it: by sender
 pub record AreJustBefore (since : ℕ) (told opening : List (Telling Speaker)) : Type 0 where
@@ -209,10 +237,6 @@ OpensRightly events before step =
     (made_in before) (told_in before ++ step.told) step.opening
 
 -- ---- whose it is
-
--- a sender at a place, as one who speaks
-abbrev pub speaker_at : Origin → Speaker
-speaker_at origin = record { sender = origin.sender; place = origin.place }
 
 -- there is a sender, and it is this one
 abbrev pub is_of : Speaker → Option Origin → Bool
@@ -261,22 +285,46 @@ is_lost made speaker =
 abbrev pub unlost : List Made → List (Telling Speaker) → List (Telling Speaker)
 unlost made told = filter (λ one. not (is_lost made (speaker_of one))) told
 
--- of what records told, behind these, that from the moment on of senders that were not lost before
-abbrev pub written_in : Option Moment → List Made → List Step → List (Telling Speaker)
-written_in since before [] = []
-written_in since before (step ∷ later) =
+-- of what records told, behind these, and of what they request, that from the moment on of senders
+-- that were not lost before
+abbrev pub written_in : Events → List Made → List Step → List (Telling Speaker)
+written_in events before [] = []
+written_in events before (step ∷ later) =
     let made = before ++ step.made ∷ [] in
-    unlost before (step.opening ++ told_from (since_in since made) step.told)
-    ++ written_in since made later
+    let told = step.told ++ requests_made events step.made in
+    unlost before (step.opening ++ told_from (since_in events.since made) told)
+    ++ written_in events made later
 
--- the text is the lines of what is told, each with a name for its interface
+-- there is a route, and it has this router-id
+abbrev pub is_with : List ℕ → Option Announcement → Bool
+is_with id None = false
+is_with id (Some ann) = bytes_eq ann.router_id id
+
+-- whether the filter keeps what is requested: for a key that it keeps, of the router-id that it asks
+-- for, if it does; for all keys, if it asks for none
+abbrev pub keeps_request : Filter → Request → Bool
+keeps_request filter requests.All = is_none filter.router_id
+keeps_request filter (requests.Route key) = keeps_key filter key && is_none filter.router_id
+keeps_request filter (requests.Seqno key router_id seqno) =
+    keeps_key filter key && if_asked filter.router_id (bytes_eq router_id)
+
+-- whether the filter keeps what is told: a change for a key that it keeps, from or to the router-id
+-- that it asks for; a request that it keeps; each answer
+abbrev pub keeps_told : Filter → Telling Speaker → Bool
+keeps_told filter (tellings.Change told) =
+    keeps_key filter told.subject.key && if_asked filter.router_id
+    (λ id. is_with id (held_before told.kind) || is_with id (held_after told.kind))
+keeps_told filter (tellings.Answer time sender answer before) = true
+keeps_told filter (tellings.Request time sender request) = keeps_request filter request
+
+-- the text is the lines of what is told and the filter keeps, each with a name for its interface
 pub record AreLines (events : Events) (told : List (Telling Speaker)) (text : List ℕ) : Type 0 where
   pub named : List (List ℕ × Telling Speaker)
-  pub are : map (λ one. one.1) named ≡ told
+  pub are : map (λ one. one.1) named ≡ filter (keeps_told events.filter) told
   pub text_is : text
       ≡ flat_map (λ one. event_in events.format events.view events.pair one.0 one.1) named
 
--- the writer took the lines of what is told
+-- the writer took the lines of what is told and the filter keeps
 pub record WroteLines (events : Events) (told : List (Telling Speaker)) (writer : Output) :
     Type 0 where
   pub text : List ℕ
@@ -290,9 +338,10 @@ moment_read events blocks gathering =
     gathering.report.timing.latest
 
 -- The octets are a capture, whose records told what they say, one after another; and then all that
--- ends by the moment that it was read to is told. Of it this is written: what is told of the moment
--- or later that is asked for, behind the answers just before it; of a sender nothing more once a
--- datagram of it was left out that lacks something. The answer is of what was read.
+-- ends by the moment that it was read to is told. Of it, and of what each record requests, if that is
+-- asked for, this is written: what is told of the moment or later that is asked for, behind the
+-- answers just before it; of a sender nothing more once a datagram of it was left out that lacks
+-- something. The answer is of what was read.
 pub record TellsCapture (events : Events) (octets : List ℕ) (written : List (Telling Speaker))
     (answer : EventsOutcome) : Type 0 where
   pub gathering : Gathering
@@ -317,7 +366,7 @@ pub record TellsCapture (events : Events) (octets : List ℕ) (written : List (T
       (if gathering.report.timing.has_untimed then None
       else moment_read events is_read.is_read.blocks gathering)
       (made_in steps) (told_in steps ++ ended) opening
-  pub written_is : written ≡ written_in events.since [] steps
+  pub written_is : written ≡ written_in events [] steps
       ++ unlost (made_in steps) (opening ++ told_from (since_in events.since (made_in steps)) ended)
   pub senders : map (λ heard. heard.origin) answer.senders.items ≡ keys_of gathering.senders
   pub heard : AllByRecursion (IsHeardSender events (made_in steps) gathering) answer.senders.items

@@ -1,7 +1,7 @@
 -- How far a capture was followed, and what was heard of its senders.
 use Rattle.std.specs.Prelude.{ℕ, ◌≡◌, Bool, false, not, ◌&&◌, ◌||◌, List, [], ◌∷◌, ◌++◌}
 use Rattle.std.specs.Prelude.{Option, None, Some}
-use Rattle.std.specs.Prelude.{length}
+use Rattle.std.specs.Prelude.{if◌then◌else◌, length}
 use Rattle.std.specs.BTreeMap.{is_at}
 use Rattle.std.specs.BTreeSet.{BTreeSet, contains}
 use Rattle.std.specs.List.{filter, flat_map}
@@ -23,7 +23,7 @@ use Rattle.babel_dump.specs.Device.{GaveOctets, InputState}
 use Rattle.babel_dump.specs.EventText.{event_in, speaker_of}
 use Rattle.babel_dump.specs.EventsRun.{HaveTold, HaveToldSo, IsReportOf, IsSaid, Step}
 use Rattle.babel_dump.specs.EventsRun.{TellsCapture, WroteLines, asked_by, followed_by}
-use Rattle.babel_dump.specs.EventsRun.{followed_extent, is_lost, made_in, packets_heard}
+use Rattle.babel_dump.specs.EventsRun.{followed_extent, is_lost, keeps_told, made_in, packets_heard}
 use Rattle.babel_dump.specs.EventsRun.{Opens, OpensRightly, first_time, has_come, have_come}
 use Rattle.babel_dump.specs.EventsRun.{since_at, since_in, speaker_at, told_early, told_from}
 use Rattle.babel_dump.specs.EventsRun.{told_in}
@@ -104,7 +104,7 @@ pub record HasHeard (events : Events) (made : List Made) (written : List (Tellin
   pub are_made : made_in steps ≡ made
   pub each : (front back : List Step) → steps ≡ front ++ back → HaveToldSo events front
   pub have_told : HaveTold events None (made_in steps) (told_in steps) hearing.teller.timeline.rows
-  pub written_is : written ≡ written_in events.since [] steps
+  pub written_is : written ≡ written_in events [] steps
   pub opens : (front back : List Step) (step : Step) → steps ≡ front ++ step ∷ back
       → OpensRightly events front step
   pub awaits : Awaits (since_in events.since (made_in steps))
@@ -142,10 +142,11 @@ pub record IsFollowed (events : Events) (fed : List ℕ) (written : List (Tellin
   pub has_heard : HasHeard events read.leads.gathered.made (written ++ followed.follower.told.items)
       followed.follower.hearing
 
--- the line of what is told, with the name of its interface
+-- the line of what is told, with the name of its interface, if the filter keeps it
 abbrev pub named_event : Events → Gathering → Telling Speaker → List ℕ
-named_event events gathering told = event_in events.format events.view events.pair
-    (name_of gathering (speaker_of told).place.interface) told
+named_event events gathering told =
+    if keeps_told events.filter told then event_in events.format events.view events.pair
+    (name_of gathering (speaker_of told).place.interface) told else []
 
 -- it was followed so far, and the writer took the lines of what is told besides
 pub record Goes (events : Events) (fed : List ℕ) (written : List (Telling Speaker))

@@ -17,7 +17,7 @@ module _ {W : Type 0} (state : W → OutputState) where
   -- the device counts one failure more, and the buffer has room for a line once it is empty
   pub record CanWrite (lines : PairLines W) : Type 0 where
     pub few_failures : (state lines.writer.now).failures < 2 ^ 64 - 1
-    pub room : 384 ≤ vec_capacity lines.buffer.now
+    pub room : 512 ≤ vec_capacity lines.buffer.now
 
   -- of the lines of these pairs the device took all but what the buffer has
   pub record HasLines (start lines : PairLines W) (pairs : List Pair) : Type 0 where

@@ -134,6 +134,7 @@ const AFTER_EVENTS: &str = after_help!(
     examples:
     "events x.pcap",
     "events --expiry 3.5 --from fe80::1 x.pcap",
+    "events --requests --from fe80::1 x.pcap",
     "events --to 10.1.2.3 --src 0.0.0.0 --json x.pcap";
     "0  done",
     "1  there are no Babel packets"
@@ -168,7 +169,7 @@ pub(crate) const OF_DUMPS: [&str; 7] = [
 pub(crate) const OF_TWO: [&str; 2] = ["compare", "diff"];
 
 /// Those that take filters.
-pub(crate) const FILTERED: [&str; 2] = ["show", "pairs"];
+pub(crate) const FILTERED: [&str; 3] = ["show", "pairs", "events"];
 
 /// Those that read captures alone; and without limits on routes.
 pub(crate) const OF_CAPTURES: [&str; 3] = ["senders", "extract", "events"];

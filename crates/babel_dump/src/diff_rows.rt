@@ -32,7 +32,7 @@ pub(crate) fn write_diff<W: ByteOut>(
 ) -> Result<(), WriteFailed>
     requires few_failures { (W.state writer.old).failures < 2 ^ 64 - 1 }
     requires empty { buffer.old.items ≡ [] }
-    requires room { 384 ≤ vec_capacity buffer.old }
+    requires room { 512 ≤ vec_capacity buffer.old }
     ensures { WroteFront (output (W.state writer.old) (W.state writer.new))
         (diff_lines diff.now) buffer.new.items result }
 {
@@ -50,7 +50,7 @@ fn write_changes<W: ByteOut>(
 ) -> Result<(), WriteFailed>
     requires few_failures { (W.state writer.old).failures < 2 ^ 64 - 1 }
     requires empty { buffer.old.items ≡ [] }
-    requires room { 384 ≤ vec_capacity buffer.old }
+    requires room { 512 ≤ vec_capacity buffer.old }
     ensures { WroteFront (output (W.state writer.old) (W.state writer.new))
         (flat_map (change_text style view) list.now) buffer.new.items result }
 {
@@ -74,11 +74,11 @@ fn write_row<W: ByteOut>(
     buffer: &mut Vec<u8>,
 ) -> Result<(), WriteFailed>
     requires few_failures { (W.state writer.old).failures < 2 ^ 64 - 1 }
-    requires room { 384 ≤ vec_capacity buffer.old }
+    requires room { 512 ≤ vec_capacity buffer.old }
     ensures front { WroteFront (output (W.state writer.old) (W.state writer.new))
         (buffer.old.items ++ marked_row style view side key held)
         buffer.new.items result }
-    ensures room { OnOk result (384 ≤ vec_capacity buffer.new) }
+    ensures room { OnOk result (512 ≤ vec_capacity buffer.new) }
 {
     make_room(writer, buffer)?;
     push_row(buffer, style, view, side, key, held);

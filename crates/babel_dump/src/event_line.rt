@@ -32,11 +32,11 @@ pub fn write_event<W: ByteOut>(
     buffer: &mut Vec<u8>,
 ) -> Result<(), WriteFailed>
     requires few_failures { (W.state writer.old).failures < 2 ^ 64 - 1 }
-    requires room { 384 ≤ vec_capacity buffer.old }
+    requires room { 512 ≤ vec_capacity buffer.old }
     ensures front { WroteFront (output (W.state writer.old) (W.state writer.new))
         (buffer.old.items ++ event_in format view pair name.now told.now)
         buffer.new.items result }
-    ensures room { OnOk result (384 ≤ vec_capacity buffer.new) }
+    ensures room { OnOk result (512 ≤ vec_capacity buffer.new) }
 {
     make_room(writer, buffer)?;
     push_to_name(buffer, format, name, told);
@@ -48,10 +48,10 @@ pub fn write_event<W: ByteOut>(
 
 /// Appends a line up to the octets of its interface's name.
 fn push_to_name(buffer: &mut Vec<u8>, format: Format, name: &[u8], told: &Telling<Speaker>)
-    requires { HasRoom buffer.old 384 }
+    requires { HasRoom buffer.old 512 }
     ensures text { buffer.new.items
         ≡ buffer.old.items ++ event_to_name format name.now told.now }
-    ensures room { TookRoom buffer.old buffer.new 384 }
+    ensures room { TookRoom buffer.old buffer.new 512 }
 {
     match format {
         Format::Text(spelling) => push_event_front(buffer, spelling, name, told),
@@ -69,10 +69,10 @@ fn push_after_name(
     name: &[u8],
     told: &Telling<Speaker>,
 )
-    requires { HasRoom buffer.old 384 }
+    requires { HasRoom buffer.old 512 }
     ensures text { buffer.new.items
         ≡ buffer.old.items ++ event_after_name format view pair name.now told.now }
-    ensures room { TookRoom buffer.old buffer.new 384 }
+    ensures room { TookRoom buffer.old buffer.new 512 }
 {
     push_text(buffer, closing(format, name));
     match format {

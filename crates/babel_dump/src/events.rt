@@ -29,6 +29,7 @@ use crate::push_event::speaker_of;
 use crate::says::Says;
 use crate::slice_buffer::SliceBuffer;
 use crate::speaker::Speaker;
+use crate::told_filter::keeps_told;
 use crate::trouble::Trouble;
 use crate::write::{WriteFailed, write_text};
 use babel_capture::{Capture, Fault, Gathered, Origin, Wanted};
@@ -81,7 +82,7 @@ impl<'a> Followed<'a> {
         ensures none { IfOk result (IsFollowed events.now [] []) }
         ensures told { IfOk result (λ followed. followed.follower.told.items ≡ []) }
         ensures empty { IfOk result (λ followed. followed.buffer.items ≡ []) }
-        ensures room { IfOk result (λ followed. 384 ≤ vec_capacity followed.buffer) }
+        ensures room { IfOk result (λ followed. 512 ≤ vec_capacity followed.buffer) }
     {
         let buffer = SliceBuffer::new(alloc)?.into_octets();
         let (sender, place) = (events.sender, events.place);
@@ -108,10 +109,10 @@ impl<'a> Followed<'a> {
         requires none { IsFollowed events.now [] [] self.old }
         requires told { self.old.follower.told.items ≡ [] }
         requires empty { self.old.buffer.items ≡ [] }
-        requires room { 384 ≤ vec_capacity self.old.buffer }
+        requires room { 512 ≤ vec_capacity self.old.buffer }
         ensures told { OnOk result (self.new.follower.told.items ≡ []) }
         ensures empty { OnOk result (self.new.buffer.items ≡ []) }
-        ensures room { OnOk result (384 ≤ vec_capacity self.new.buffer) }
+        ensures room { OnOk result (512 ≤ vec_capacity self.new.buffer) }
         ensures failures { OnOk result ((W.state writer.new).failures
             ≡ (W.state writer.old).failures) }
         ensures flushes { OnOk result ((W.state writer.new).flushes
@@ -143,10 +144,10 @@ impl<'a> Followed<'a> {
         requires few_flushes { (W.state writer.old).flushes < 2 ^ 64 - 1 }
         requires told { self.old.follower.told.items ≡ [] }
         requires empty { self.old.buffer.items ≡ [] }
-        requires room { 384 ≤ vec_capacity self.old.buffer }
+        requires room { 512 ≤ vec_capacity self.old.buffer }
         ensures told { OnOk result (self.new.follower.told.items ≡ []) }
         ensures empty { OnOk result (self.new.buffer.items ≡ []) }
-        ensures room { OnOk result (384 ≤ vec_capacity self.new.buffer) }
+        ensures room { OnOk result (512 ≤ vec_capacity self.new.buffer) }
         ensures failures { OnOk result ((W.state writer.new).failures
             ≡ (W.state writer.old).failures) }
         ensures flushes { OnOk result ((W.state writer.new).flushes
@@ -189,14 +190,14 @@ impl<'a> Followed<'a> {
         requires few_failures { (W.state writer.old).failures < 2 ^ 64 - 1 }
         requires few_flushes { (W.state writer.old).flushes < 2 ^ 64 - 1 }
         requires empty { self.old.buffer.items ≡ [] }
-        requires room { 384 ≤ vec_capacity self.old.buffer }
+        requires room { 512 ≤ vec_capacity self.old.buffer }
         ensures same { (self.new.capture ≡ self.old.capture)
             × (self.new.follower.events.now ≡ self.old.follower.events.now)
             × (self.new.follower.hearing ≡ self.old.follower.hearing)
             × (self.new.follower.fault ≡ self.old.follower.fault) }
         ensures told { OnOk result (self.new.follower.told.items ≡ []) }
         ensures empty { OnOk result (self.new.buffer.items ≡ []) }
-        ensures room { OnOk result (384 ≤ vec_capacity self.new.buffer) }
+        ensures room { OnOk result (512 ≤ vec_capacity self.new.buffer) }
         ensures failures { OnOk result ((W.state writer.new).failures
             ≡ (W.state writer.old).failures) }
         ensures flushes { OnOk result ((W.state writer.new).flushes
@@ -225,7 +226,7 @@ impl<'a> Followed<'a> {
         requires few_flushes { (W.state writer.old).flushes < 2 ^ 64 - 1 }
         requires told { self.old.follower.told.items ≡ [] }
         requires empty { self.old.buffer.items ≡ [] }
-        requires room { 384 ≤ vec_capacity self.old.buffer }
+        requires room { 512 ≤ vec_capacity self.old.buffer }
         ensures { IfOk result (λ answer. (fed : List ℕ) (told : List (TellingSaid SpeakerSaid))
             → IsFollowed events.now fed told self.old → Ends events.now fed told
             (output (W.state writer.old) (W.state writer.new)) answer) }
@@ -325,7 +326,8 @@ impl<'a> Followed<'a> {
     }
 }
 
-/// Writes the lines of what was told, but for the last of them, which the buffer has.
+/// Writes the lines of what was told and the filter keeps, but for the last of them, which the
+/// buffer has.
 fn write_told<W: ByteOut>(
     writer: &mut W,
     events: &Events,
@@ -335,20 +337,41 @@ fn write_told<W: ByteOut>(
 ) -> Result<(), WriteFailed>
     requires few_failures { (W.state writer.old).failures < 2 ^ 64 - 1 }
     requires empty { buffer.old.items ≡ [] }
-    requires room { 384 ≤ vec_capacity buffer.old }
+    requires room { 512 ≤ vec_capacity buffer.old }
     ensures front { WroteFront (output (W.state writer.old) (W.state writer.new))
         (flat_map (named_event events.now gathered.now) told.now) buffer.new.items result }
-    ensures room { OnOk result (384 ≤ vec_capacity buffer.new) }
+    ensures room { OnOk result (512 ≤ vec_capacity buffer.new) }
 {
     for telling in told {
-        let name = gathered.name(speaker_of(telling).place.interface);
+        write_kept(writer, events, gathered, telling, buffer)?;
+    }
+    Ok(())
+}
+
+/// Writes the line of what is told, if the filter keeps it, after what the buffer has, but for the
+/// last of both, which the buffer has then.
+fn write_kept<W: ByteOut>(
+    writer: &mut W,
+    events: &Events,
+    gathered: &Gathered,
+    told: &Telling<Speaker>,
+    buffer: &mut Vec<u8>,
+) -> Result<(), WriteFailed>
+    requires few_failures { (W.state writer.old).failures < 2 ^ 64 - 1 }
+    requires room { 512 ≤ vec_capacity buffer.old }
+    ensures front { WroteFront (output (W.state writer.old) (W.state writer.new))
+        (buffer.old.items ++ named_event events.now gathered.now told.now) buffer.new.items result }
+    ensures room { OnOk result (512 ≤ vec_capacity buffer.new) }
+{
+    if keeps_told(&events.filter, told) {
+        let name = gathered.name(speaker_of(told).place.interface);
         write_event(
             writer,
             events.format,
             events.view,
             events.pair,
             name,
-            telling,
+            told,
             buffer,
         )?;
     }

@@ -1,5 +1,6 @@
 use crate::addr_pair::AddrPair;
 use crate::factor::Factor;
+use crate::filter::Filter;
 use crate::format::Format;
 use crate::job::DumpFile;
 use babel_capture::{Moment, Place, Window};
@@ -31,6 +32,11 @@ pub struct Events {
     pub view: View,
     /// The addresses of which the answer is told in place of the rows: `--to`, `--src`.
     pub pair: Option<AddrPair>,
+    /// Which changes are told: those for a key that it keeps, from or to the router-id that it asks
+    /// for: `--within`, `--match`, `--source`, `--id`.
+    pub filter: Filter,
+    /// Whether it is told, too, what senders request: `--requests`.
+    pub requests: bool,
     pub format: Format,
     pub file: DumpFile,
     /// Whether no note comes after the lines: `--quiet`.

@@ -6,7 +6,7 @@ use babel_prefix::Prefix;
 use babel_table::Table;
 use babel_tlv::{Held, Key};
 
-/// Which rows are shown: those for which all holds that is asked for.
+/// Which rows are shown, or told of: those for which all holds that is asked for.
 #[derive(Clone, Copy)]
 pub struct Filter {
     /// The destination is this prefix, or a longer one in it: `--within`.
@@ -50,7 +50,7 @@ impl Filter {
     }
 
     /// Whether it keeps rows with this key, if their router-id is kept.
-    fn keeps_key(&self, key: &Key) -> bool
+    pub(crate) fn keeps_key(&self, key: &Key) -> bool
         ensures { result ≡ keeps_key self.now key.now }
     {
         let src = key.src();

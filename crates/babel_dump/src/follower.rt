@@ -56,7 +56,7 @@ impl<'a> Follower<'a> {
         }
     }
 
-    /// Hears a record.
+    /// Hears a record, and then what it requests.
     fn hear(&mut self, told: &Record<'_>) -> Result<(), Unheard>
         ensures same { (self.new.events.now ≡ self.old.events.now)
             × (self.new.fault ≡ self.old.fault) }
@@ -67,6 +67,7 @@ impl<'a> Follower<'a> {
             self.new.hearing) }
     {
         self.hearing.hear_record(self.events, told, &mut self.told)?;
+        self.hearing.request(self.events, told, &mut self.told)?;
         self.hearing.lose(told, &mut self.lost)?;
         Ok(())
     }

@@ -1,6 +1,6 @@
 //! What the senders of a capture say, heard record by record, and what is told of it.
 ghost use Rattle.std.specs.Prelude.{◌≡◌, ◌++◌, ◌||◌, ◌^◌, ◌<◌, ◌≤◌, ◌∷◌, List, [], IfOk};
-ghost use Rattle.std.specs.Prelude.{IfSome, OnOk, Some, None};
+ghost use Rattle.std.specs.Prelude.{IfSome, OnOk, Some, None, ◌&&◌, not};
 ghost use Rattle.std.specs.BTreeSet.{contains};
 ghost use Rattle.std.specs.Option.{option_map};
 ghost use Rattle.babel_capture.specs.declared.missed.Missed.{Missed as MissedSaid};
@@ -8,7 +8,8 @@ ghost use Rattle.babel_capture.specs.Counts.{Made};
 ghost use Rattle.babel_capture.specs.Sinking.{IsTold, missed_said};
 ghost use Rattle.babel_timeline.specs.Hearing.{report_of};
 ghost use Rattle.babel_timeline.specs.declared.telling.Telling.{Telling as TellingSaid};
-ghost use Rattle.babel_dump.specs.EventsRun.{is_of};
+ghost use Rattle.babel_dump.specs.EventsRun.{is_from, is_of, requests_asked, requests_made};
+ghost use Rattle.babel_dump.specs.EventsRun.{told_from};
 ghost use Rattle.babel_dump.specs.Followed.{EndsBy, HasHeard, HearsPacket, HearsRecord, Suits};
 ghost use Rattle.babel_dump.specs.Followed.{TellsNext, TellsThen, unlost_by};
 ghost use Rattle.babel_dump.specs.Speakers.{speaker_cmp};
@@ -23,7 +24,7 @@ use crate::speaker::Speaker;
 use babel_capture::{BabelPacket, Missed, Origin, Record, Said, Time};
 use babel_prefix::Addr;
 use babel_table::Report;
-use babel_timeline::{Teller, Telling};
+use babel_timeline::{Teller, Telling, tell_requests};
 use babel_tlv::{Fault as DumpFault, Start};
 use std::alloc::{AllocError, Global};
 use std::collections::BTreeSet;
@@ -204,6 +205,63 @@ impl Hearing {
             }
         }
         Ok(())
+    }
+
+    /// Adds what the record's packet requests, where it has one, and a time.
+    pub(crate) fn request(
+        &self,
+        events: &Events,
+        said: &Record<'_>,
+        told: &mut Vec<Telling<Speaker>>,
+    ) -> Result<(), AllocError>
+        ensures { OnOk result ((one : Made) → IsTold one said.now → told.new.items
+            ≡ told.old.items ++ unlost_by self.now.lost
+            (told_from self.now.since.moment (requests_made events.now one))) }
+    {
+        let Some(time) = said.time else {
+            return Ok(());
+        };
+        let time = time.nanoseconds();
+        match &said.said {
+            Said::Packet(packet) => self.add_requests(events, time, packet, told),
+            _ => Ok(()),
+        }
+    }
+
+    /// Adds what a packet requests, if that is told.
+    fn add_requests(
+        &self,
+        events: &Events,
+        time: u128,
+        packet: &BabelPacket<'_>,
+        told: &mut Vec<Telling<Speaker>>,
+    ) -> Result<(), AllocError>
+        ensures { OnOk result (told.new.items ≡ told.old.items ++ unlost_by self.now.lost
+            (told_from self.now.since.moment
+            (requests_asked events.now time packet.now.origin packet.now.octets.now))) }
+    {
+        let Origin { place, sender } = packet.origin;
+        let speaker = Speaker { sender, place };
+        if !self.tells_requests(events, time, &speaker) {
+            return Ok(());
+        }
+        tell_requests(events.limits.via_v6(), speaker, time, packet.octets, told)
+    }
+
+    /// Whether it is told what a sender requests then: where that is asked for, from the moment on,
+    /// and while the sender is not lost.
+    fn tells_requests(&self, events: &Events, time: u128, speaker: &Speaker) -> bool
+        ensures { result ≡ (events.now.requests && is_from self.now.since.moment time
+            && not (contains speaker_cmp self.now.lost speaker.now)) }
+    {
+        events.requests && self.since.is_from(time) && !self.is_lost(speaker)
+    }
+
+    /// Whether no more is told of a sender.
+    fn is_lost(&self, speaker: &Speaker) -> bool
+        ensures { result ≡ contains speaker_cmp self.now.lost speaker.now }
+    {
+        self.lost.contains(speaker)
     }
 
     /// Tells no more of the sender whose datagram the record left out since it lacks something, if it

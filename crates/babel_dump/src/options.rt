@@ -314,6 +314,12 @@ pub(crate) static READ: &[OptionRow] = &[
         ..SRC
     },
     OptionRow {
+        id: "requests",
+        help: "Also report the requests of each sender for routes",
+        commands: &["events"],
+        ..FLAG
+    },
+    OptionRow {
         help: "Reject a capture if any datagram is left out",
         commands: &OF_OCTETS,
         ..STRICT
@@ -445,7 +451,9 @@ pub(crate) static PRINTED: &[OptionRow] = &[
         id: "short",
         help: "Write addresses as RFC 5952 does, fe80::1, and leave out a source prefix of length \
                0",
-        commands: &["show", "lookup", "pairs", "compare", "diff", "senders"],
+        commands: &[
+            "show", "lookup", "pairs", "compare", "diff", "senders", "events",
+        ],
         ..FLAG
     },
     OptionRow {

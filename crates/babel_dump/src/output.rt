@@ -35,9 +35,9 @@ pub(crate) trait Line: Copy {
     ghost text: { Format → View → Self → List ℕ };
 
     fn push(self, buffer: &mut Vec<u8>, format: Format, view: View)
-        requires { HasRoom buffer.old 384 }
+        requires { HasRoom buffer.old 512 }
         ensures text { buffer.new.items ≡ buffer.old.items ++ text format view self }
-        ensures room { TookRoom buffer.old buffer.new 384 };
+        ensures room { TookRoom buffer.old buffer.new 512 };
 }
 
 /// What is answered for a destination and a source.
@@ -87,9 +87,9 @@ impl Line for Difference {
 
 /// Appends a row of a table: a line.
 pub(crate) fn push_line(buffer: &mut Vec<u8>, format: Format, view: View, key: Key, held: Held)
-    requires { HasRoom buffer.old 384 }
+    requires { HasRoom buffer.old 512 }
     ensures text { buffer.new.items ≡ buffer.old.items ++ line_in format view (key, held) }
-    ensures room { TookRoom buffer.old buffer.new 384 }
+    ensures room { TookRoom buffer.old buffer.new 512 }
 {
     match format {
         Format::Text(spelling) => push_pair_line(buffer, spelling, view, key, held),
@@ -99,9 +99,9 @@ pub(crate) fn push_line(buffer: &mut Vec<u8>, format: Format, view: View, key: K
 
 /// Appends a sender's line up to the octets of its interface's name.
 pub(crate) fn push_to_name(buffer: &mut Vec<u8>, format: Format, origin: Origin, name: &[u8])
-    requires { HasRoom buffer.old 384 }
+    requires { HasRoom buffer.old 512 }
     ensures text { buffer.new.items ≡ buffer.old.items ++ to_name format origin name.now }
-    ensures room { TookRoom buffer.old buffer.new 384 }
+    ensures room { TookRoom buffer.old buffer.new 512 }
 {
     match format {
         Format::Text(spelling) => push_sender_front(buffer, spelling, origin),
@@ -118,10 +118,10 @@ pub(crate) fn push_after_name(
     tally: Tally,
     name: &[u8],
 )
-    requires { HasRoom buffer.old 384 }
+    requires { HasRoom buffer.old 512 }
     ensures text { buffer.new.items
         ≡ buffer.old.items ++ after_name format (origin, tally) name.now }
-    ensures room { TookRoom buffer.old buffer.new 384 }
+    ensures room { TookRoom buffer.old buffer.new 512 }
 {
     push_text(buffer, closing(format, name));
     match format {

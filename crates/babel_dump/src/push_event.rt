@@ -1,9 +1,10 @@
 //! Lines of `events`, part by part, appended to a buffer that has room for them.
 ghost use Rattle.std.specs.Prelude.{◌≡◌, ◌+◌, ◌++◌, ◌≤◌, length};
-ghost use Rattle.babel_timeline.specs.Changes.{held_after};
-ghost use Rattle.babel_dump.specs.EventText.{after_text, asked_json, event_end, event_end_json};
-ghost use Rattle.babel_dump.specs.EventText.{event_front, event_front_json, held_from};
-ghost use Rattle.babel_dump.specs.EventText.{interface_text, key_text, kind_verb, speaker_of};
+ghost use Rattle.babel_timeline.specs.Changes.{held_after, held_before};
+ghost use Rattle.babel_dump.specs.EventText.{after_text, answers_json, asked_json, event_end};
+ghost use Rattle.babel_dump.specs.EventText.{event_end_json, event_front, event_front_json};
+ghost use Rattle.babel_dump.specs.EventText.{held_from, held_until, interface_text, kind_verb};
+ghost use Rattle.babel_dump.specs.EventText.{speaker_of};
 ghost use Rattle.babel_dump.specs.EventText.{tells_place, time_of, told_json, told_text, verb};
 ghost use Rattle.babel_dump.specs.Slices.{HasRoom, TookRoom};
 
@@ -11,14 +12,16 @@ use crate::addr_pair::AddrPair;
 use crate::push::{
     push_announcement, push_answer, push_decimal, push_link, push_marked, push_octet, push_text,
 };
-use crate::push_addr::{push_addr, push_from, push_prefix};
+use crate::push_addr::push_addr;
 use crate::push_json::{push_addressed, push_answer_json, push_place_json};
+use crate::push_request::{push_key, push_request, push_request_json};
 use crate::push_time::{push_time_json, push_time_or};
+use crate::push_was::push_was;
 use crate::speaker::Speaker;
 use crate::spelling::Spelling;
 use babel_capture::{Place, Time};
 use babel_timeline::{ChangeKind, Telling};
-use babel_tlv::{Ann, Held, Key, View};
+use babel_tlv::{Ann, Held, View};
 
 /// Appends a line of text up to the name of the interface.
 pub(crate) fn push_event_front(
@@ -46,9 +49,9 @@ pub(crate) fn push_event_end(
     view: View,
     told: &Telling<Speaker>,
 )
-    requires { HasRoom buffer.old 257 }
+    requires { HasRoom buffer.old 351 }
     ensures text { buffer.new.items ≡ buffer.old.items ++ event_end spelling view told.now }
-    ensures room { TookRoom buffer.old buffer.new 257 }
+    ensures room { TookRoom buffer.old buffer.new 351 }
 {
     let place = speaker_of(told).place;
     push_link(buffer, place.link);
@@ -85,17 +88,15 @@ pub(crate) fn push_event_end_json(
     pair: Option<AddrPair>,
     told: &Telling<Speaker>,
 )
-    requires { HasRoom buffer.old 265 }
+    requires { HasRoom buffer.old 389 }
     ensures text { buffer.new.items
         ≡ buffer.old.items ++ event_end_json spelling view pair told.now }
-    ensures room { TookRoom buffer.old buffer.new 265 }
+    ensures room { TookRoom buffer.old buffer.new 389 }
 {
     push_text(buffer, r#","event":""#);
     push_text(buffer, verb(told));
     push_text(buffer, r#"","#);
-    push_told_json(buffer, spelling, pair, told);
-    push_text(buffer, r#","answer":"#);
-    push_answer_json(buffer, spelling, view, held_from(told));
+    push_told_json(buffer, spelling, view, pair, told);
     push_text(buffer, "}");
     push_octet(buffer, b'\n');
 }
@@ -106,7 +107,7 @@ pub(crate) fn time_of(told: &Telling<Speaker>) -> u128
 {
     match told {
         Telling::Change(change) => change.time,
-        Telling::Answer { time, .. } => *time,
+        Telling::Answer { time, .. } | Telling::Request { time, .. } => *time,
     }
 }
 
@@ -116,7 +117,7 @@ pub(crate) fn speaker_of(told: &Telling<Speaker>) -> Speaker
 {
     match told {
         Telling::Change(change) => change.subject.sender,
-        Telling::Answer { sender, .. } => *sender,
+        Telling::Answer { sender, .. } | Telling::Request { sender, .. } => *sender,
     }
 }
 
@@ -127,17 +128,41 @@ fn held_from(told: &Telling<Speaker>) -> Option<Held>
     let answer = match told {
         Telling::Change(change) => held_after(change.kind),
         Telling::Answer { answer, .. } => *answer,
+        Telling::Request { .. } => None,
+    };
+    Some(Held::Route(answer?))
+}
+
+/// What was held before it, or answered until then.
+fn held_until(told: &Telling<Speaker>) -> Option<Held>
+    ensures { result ≡ held_until told.now }
+{
+    let answer = match told {
+        Telling::Change(change) => held_before(change.kind),
+        Telling::Answer { before, .. } => *before,
+        Telling::Request { .. } => None,
     };
     Some(Held::Route(answer?))
 }
 
 /// What is held after a change.
-fn held_after(kind: ChangeKind) -> Option<Ann>
+pub(crate) fn held_after(kind: ChangeKind) -> Option<Ann>
     ensures { result ≡ held_after kind }
 {
     match kind {
-        ChangeKind::Announced(ann) | ChangeKind::Changed(ann) => Some(ann),
-        ChangeKind::Retracted | ChangeKind::Expired => None,
+        ChangeKind::Announced(now) | ChangeKind::Changed { now, .. } => Some(now),
+        ChangeKind::Retracted(_) | ChangeKind::Expired(_) => None,
+    }
+}
+
+/// What was held before a change.
+pub(crate) fn held_before(kind: ChangeKind) -> Option<Ann>
+    ensures { result ≡ held_before kind }
+{
+    match kind {
+        ChangeKind::Announced(_) => None,
+        ChangeKind::Changed { before, .. } => Some(before),
+        ChangeKind::Retracted(before) | ChangeKind::Expired(before) => Some(before),
     }
 }
 
@@ -149,6 +174,7 @@ fn verb(told: &Telling<Speaker>) -> &'static str
     match told {
         Telling::Change(change) => kind_verb(change.kind),
         Telling::Answer { .. } => "answers",
+        Telling::Request { .. } => "requests",
     }
 }
 
@@ -159,9 +185,9 @@ fn kind_verb(kind: ChangeKind) -> &'static str
 {
     match kind {
         ChangeKind::Announced(_) => "announces",
-        ChangeKind::Changed(_) => "changes",
-        ChangeKind::Retracted => "retracts",
-        ChangeKind::Expired => "expires",
+        ChangeKind::Changed { .. } => "changes",
+        ChangeKind::Retracted(_) => "retracts",
+        ChangeKind::Expired(_) => "expires",
     }
 }
 
@@ -186,31 +212,22 @@ fn push_interface(buffer: &mut Vec<u8>, place: Place, name: &[u8])
 
 /// Appends what is told.
 fn push_told(buffer: &mut Vec<u8>, spelling: Spelling, view: View, told: &Telling<Speaker>)
-    requires { HasRoom buffer.old 186 }
+    requires { HasRoom buffer.old 280 }
     ensures text { buffer.new.items ≡ buffer.old.items ++ told_text spelling view told.now }
-    ensures room { TookRoom buffer.old buffer.new 186 }
+    ensures room { TookRoom buffer.old buffer.new 280 }
 {
     match told {
         Telling::Change(change) => {
             push_key(buffer, spelling, change.subject.key);
             push_after(buffer, spelling, view, held_after(change.kind));
+            push_was(buffer, spelling, change.kind);
         }
         Telling::Answer { .. } => {
             push_text(buffer, " ");
             push_answer(buffer, spelling, view, held_from(told));
         }
+        Telling::Request { request, .. } => push_request(buffer, spelling, request),
     }
-}
-
-/// Appends a key.
-fn push_key(buffer: &mut Vec<u8>, spelling: Spelling, key: Key)
-    requires { HasRoom buffer.old 97 }
-    ensures text { buffer.new.items ≡ buffer.old.items ++ key_text spelling key }
-    ensures room { TookRoom buffer.old buffer.new 97 }
-{
-    push_text(buffer, " ");
-    push_prefix(buffer, spelling, key.dst());
-    push_from(buffer, spelling, key.src());
 }
 
 /// Appends what is held after a change, under a view, or nothing where nothing is.
@@ -225,24 +242,44 @@ fn push_after(buffer: &mut Vec<u8>, spelling: Spelling, view: View, after: Optio
     }
 }
 
-/// Appends a destination and a source: two members of an object.
+/// Appends what is told, and of a change and an answer what is held and what was: members of an
+/// object.
 fn push_told_json(
     buffer: &mut Vec<u8>,
     spelling: Spelling,
+    view: View,
     pair: Option<AddrPair>,
     told: &Telling<Speaker>,
 )
-    requires { HasRoom buffer.old 118 }
-    ensures text { buffer.new.items ≡ buffer.old.items ++ told_json spelling pair told.now }
-    ensures room { TookRoom buffer.old buffer.new 118 }
+    requires { HasRoom buffer.old 366 }
+    ensures text { buffer.new.items ≡ buffer.old.items ++ told_json spelling view pair told.now }
+    ensures room { TookRoom buffer.old buffer.new 366 }
 {
     match told {
         Telling::Change(change) => {
             let key = change.subject.key;
             push_addressed(buffer, spelling, key.dst(), key.src());
+            push_answers(buffer, spelling, view, told);
         }
-        Telling::Answer { .. } => push_asked(buffer, spelling, pair),
+        Telling::Answer { .. } => {
+            push_asked(buffer, spelling, pair);
+            push_answers(buffer, spelling, view, told);
+        }
+        Telling::Request { request, .. } => push_request_json(buffer, spelling, request),
     }
+}
+
+/// Appends what is held after it, or answered from then on, and what was before: two members of an
+/// object.
+fn push_answers(buffer: &mut Vec<u8>, spelling: Spelling, view: View, told: &Telling<Speaker>)
+    requires { HasRoom buffer.old 248 }
+    ensures text { buffer.new.items ≡ buffer.old.items ++ answers_json spelling view told.now }
+    ensures room { TookRoom buffer.old buffer.new 248 }
+{
+    push_text(buffer, r#","answer":"#);
+    push_answer_json(buffer, spelling, view, held_from(told));
+    push_text(buffer, r#","before":"#);
+    push_answer_json(buffer, spelling, view, held_until(told));
 }
 
 /// Appends the destination and the source that are asked for: two members of an object.

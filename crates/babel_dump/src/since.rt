@@ -6,8 +6,8 @@ ghost use Rattle.std.specs.List.Sorted.{IsStrictlySortedBy};
 ghost use Rattle.std.specs.Map.{keys_of, lookup};
 ghost use Rattle.std.specs.Option.{option_or};
 ghost use Rattle.babel_timeline.specs.declared.telling.Telling.{Telling as TellingSaid};
-ghost use Rattle.babel_dump.specs.EventsRun.{answer_told, has_come, since_at, told_early};
-ghost use Rattle.babel_dump.specs.EventsRun.{told_from};
+ghost use Rattle.babel_dump.specs.EventsRun.{answer_told, has_come, is_from, since_at};
+ghost use Rattle.babel_dump.specs.EventsRun.{told_early, told_from};
 ghost use Rattle.babel_dump.specs.Followed.{ComesBy, HasAnswers, TellsThen};
 ghost use Rattle.babel_dump.specs.Speakers.{speaker_cmp};
 ghost use Rattle.babel_dump.specs.declared.speaker.Speaker.{Speaker as SpeakerSaid};
@@ -89,6 +89,16 @@ impl Since {
         self.moment = self.moment.or(since_at(since, came));
     }
 
+    /// Whether a time is of the moment or later, where there is one.
+    pub(crate) fn is_from(&self, time: u128) -> bool
+        ensures { result ≡ is_from self.now.moment time }
+    {
+        match self.moment {
+            Some(moment) => moment <= time,
+            None => true,
+        }
+    }
+
     /// Takes what a sender answers.
     fn put(&mut self, sender: Speaker, answer: Option<Ann>) -> Result<(), AllocError>
         ensures same { (self.new.moment ≡ self.old.moment)
@@ -120,10 +130,12 @@ impl Since {
     {
         match told {
             Telling::Change(_) => Ok(()),
+            Telling::Request { .. } => Ok(()),
             Telling::Answer {
                 time,
                 sender,
                 answer,
+                ..
             } => {
                 if moment <= *time {
                     return Ok(());

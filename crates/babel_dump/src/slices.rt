@@ -156,7 +156,7 @@ fn write_rows<W: ByteOut>(
 ) -> Result<(), WriteFailed>
     requires few_failures { (W.state writer.old).failures < 2 ^ 64 - 1 }
     requires empty { buffer.old.items ≡ [] }
-    requires room { 384 ≤ vec_capacity buffer.old }
+    requires room { 512 ≤ vec_capacity buffer.old }
     ensures { WroteFront (output (W.state writer.old) (W.state writer.new))
         (lines_of format rows) buffer.new.items result }
 {
@@ -187,7 +187,7 @@ fn write_table<W: ByteOut>(
 ) -> Result<(), WriteFailed>
     requires few_failures { (W.state writer.old).failures < 2 ^ 64 - 1 }
     requires empty { buffer.old.items ≡ [] }
-    requires room { 384 ≤ vec_capacity buffer.old }
+    requires room { 512 ≤ vec_capacity buffer.old }
     ensures { WroteFront (output (W.state writer.old) (W.state writer.new))
         (pairs_in format view (kept_rows filter.now table.now.rows)) buffer.new.items result }
 {
@@ -209,11 +209,11 @@ pub(crate) fn write_kept<W: ByteOut>(
     buffer: &mut Vec<u8>,
 ) -> Result<(), WriteFailed>
     requires few_failures { (W.state writer.old).failures < 2 ^ 64 - 1 }
-    requires room { 384 ≤ vec_capacity buffer.old }
+    requires room { 512 ≤ vec_capacity buffer.old }
     ensures front { WroteFront (output (W.state writer.old) (W.state writer.new))
         (buffer.old.items ++ pairs_in format view (kept_rows filter.now ((key, held) ∷ [])))
         buffer.new.items result }
-    ensures room { OnOk result (384 ≤ vec_capacity buffer.new) }
+    ensures room { OnOk result (512 ≤ vec_capacity buffer.new) }
 {
     if filter.keeps(&key, &held) {
         make_room(writer, buffer)?;
@@ -234,7 +234,7 @@ fn write_pairs<W: ByteOut>(
 ) -> Result<(), WriteFailed>
     requires few_failures { (W.state writer.old).failures < 2 ^ 64 - 1 }
     requires empty { buffer.old.items ≡ [] }
-    requires room { 384 ≤ vec_capacity buffer.old }
+    requires room { 512 ≤ vec_capacity buffer.old }
     ensures { WroteFront (output (W.state writer.old) (W.state writer.new))
         (pairs_in format view (kept_rows filter pairs)) buffer.new.items result }
 {
@@ -258,7 +258,7 @@ fn write_lines<W: ByteOut, L: Line>(
 ) -> Result<(), WriteFailed>
     requires few_failures { (W.state writer.old).failures < 2 ^ 64 - 1 }
     requires empty { buffer.old.items ≡ [] }
-    requires room { 384 ≤ vec_capacity buffer.old }
+    requires room { 512 ≤ vec_capacity buffer.old }
     ensures { WroteFront (output (W.state writer.old) (W.state writer.new))
         (flat_map (L.text format view) lines.now) buffer.new.items result }
 {
@@ -278,7 +278,7 @@ fn write_senders<W: ByteOut>(
 ) -> Result<(), WriteFailed>
     requires few_failures { (W.state writer.old).failures < 2 ^ 64 - 1 }
     requires empty { buffer.old.items ≡ [] }
-    requires room { 384 ≤ vec_capacity buffer.old }
+    requires room { 512 ≤ vec_capacity buffer.old }
     ensures { WroteFront (output (W.state writer.old) (W.state writer.new))
         (senders_in format gathered.now) buffer.new.items result }
 {
@@ -316,11 +316,11 @@ fn write_sender<W: ByteOut>(
     buffer: &mut Vec<u8>,
 ) -> Result<(), WriteFailed>
     requires few_failures { (W.state writer.old).failures < 2 ^ 64 - 1 }
-    requires room { 384 ≤ vec_capacity buffer.old }
+    requires room { 512 ≤ vec_capacity buffer.old }
     ensures front { WroteFront (output (W.state writer.old) (W.state writer.new))
         (buffer.old.items ++ sender_in format name.now (origin.now, tally.now))
         buffer.new.items result }
-    ensures room { OnOk result (384 ≤ vec_capacity buffer.new) }
+    ensures room { OnOk result (512 ≤ vec_capacity buffer.new) }
 {
     make_room(writer, buffer)?;
     push_to_name(buffer, format, *origin, name);
@@ -339,7 +339,7 @@ pub(crate) fn write_name<W: ByteOut>(
     buffer: &mut Vec<u8>,
 ) -> Result<(), WriteFailed>
     requires few_failures { (W.state writer.old).failures < 2 ^ 64 - 1 }
-    requires room { 384 ≤ vec_capacity buffer.old }
+    requires room { 512 ≤ vec_capacity buffer.old }
     ensures front { WroteFront (output (W.state writer.old) (W.state writer.new))
         (buffer.old.items ++ escaped (escape format) name.now) buffer.new.items result }
     ensures room { vec_capacity buffer.old ≤ vec_capacity buffer.new }
@@ -355,10 +355,10 @@ pub(crate) fn write_name<W: ByteOut>(
 /// Writes what the buffer has where it has no room for a line more.
 pub(crate) fn make_room<W: ByteOut>(writer: &mut W, buffer: &mut Vec<u8>) -> Result<(), WriteFailed>
     requires few_failures { (W.state writer.old).failures < 2 ^ 64 - 1 }
-    requires room { 384 ≤ vec_capacity buffer.old }
+    requires room { 512 ≤ vec_capacity buffer.old }
     ensures front { WroteFront (output (W.state writer.old) (W.state writer.new))
         buffer.old.items buffer.new.items result }
-    ensures room { OnOk result (HasRoom buffer.new 384) }
+    ensures room { OnOk result (HasRoom buffer.new 512) }
     ensures capacity { vec_capacity buffer.old ≤ vec_capacity buffer.new }
 {
     if buffer.capacity() - buffer.len() >= LONGEST_LINE {

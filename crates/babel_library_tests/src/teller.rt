@@ -34,9 +34,9 @@ fn brief(telling: &Telling<u64>) -> Brief {
     };
     let (metric, kind) = match change.kind {
         ChangeKind::Announced(ann) => (ann.metric(), 'a'),
-        ChangeKind::Changed(ann) => (ann.metric(), 'c'),
-        ChangeKind::Retracted => (0, 'r'),
-        ChangeKind::Expired => (0, 'x'),
+        ChangeKind::Changed { now, .. } => (now.metric(), 'c'),
+        ChangeKind::Retracted(_) => (0, 'r'),
+        ChangeKind::Expired(_) => (0, 'x'),
     };
     let len = change.subject.key.dst().len();
     (

@@ -80,11 +80,11 @@ module _ {S : Type 0} (cmp : S → S → Ordering) (total : IsTotalOrder cmp) (e
         anew = are.anew;
       }
 
-      more : (time : ℕ) (other : S) (own : Bool) → is_at (cmp other) sender ≡ own → answered cmp (told ++ tellings.Answer time sender answer ∷ []) other ≡ cond own answer (answered cmp told other)
+      more : (time : ℕ) (other : S) (own : Bool) → is_at (cmp other) sender ≡ own → answered cmp (told ++ tellings.Answer time sender answer before ∷ []) other ≡ cond own answer (answered cmp told other)
       more time other own e =
-          fold-append (answer_after cmp other) None told (tellings.Answer time sender answer ∷ []) ∙ ap (λ (b : Bool). cond b answer (answered cmp told other)) e
+          fold-append (answer_after cmp other) None told (tellings.Answer time sender answer before ∷ []) ∙ ap (λ (b : Bool). cond b answer (answered cmp told other)) e
 
-      pub answers_anew : (time : ℕ) → answer ≢ before → AreAnswers cmp pair (told ++ tellings.Answer time sender answer ∷ []) after
+      pub answers_anew : (time : ℕ) → answer ≢ before → AreAnswers cmp pair (told ++ tellings.Answer time sender answer before ∷ []) after
       answers_anew time differs = record {
         last = λ other. elim (sender_or cmp total exact other sender) [
           | inl at ↦
@@ -94,10 +94,10 @@ module _ {S : Type 0} (cmp : S → S → Ordering) (total : IsTotalOrder cmp) (e
               subst (λ (a : Option Announcement). IsAnswer cmp pair after other a) (sym (more time other false miss))
               (by_sender other (λ at. let hit : is_at (cmp other) sender ≡ true = sender_same cmp total other sender at in cc))
         ];
-        anew = λ front back one split. elim (snoc_split told (tellings.Answer time sender answer) front one back split) [
+        anew = λ front back one split. elim (snoc_split told (tellings.Answer time sender answer before) front one back split) [
           | inl at ↦
               subst (λ (o : Telling S). AnswersAnew cmp front o) (sym at.1)
-              (subst (λ (f : List (Telling S)). answered cmp f sender ≢ answer) (sym at.0) (λ bad. differs (sym bad ∙ told_last)))
+              (ap (λ (f : List (Telling S)). answered cmp f sender) at.0 ∙ told_last, λ bad. differs (sym bad))
           | inr inner ↦ are.anew front inner.rest one inner.whole
         ];
       }
@@ -116,8 +116,8 @@ module _ {S : Type 0} (cmp : S → S → Ordering) (total : IsTotalOrder cmp) (e
           (answers_stay cmp total exact pair rows after sender others before tells.0 was tells.1 told are same.0),
     )
     | inr other ↦ (
-      tellings.Answer time sender tells.0 ∷ [],
-      other.1 ∙ ap (λ (t : List (Telling S)). t ++ tellings.Answer time sender tells.0 ∷ []) (is ∙ append-nil old),
+      tellings.Answer time sender tells.0 before ∷ [],
+      other.1 ∙ ap (λ (t : List (Telling S)). t ++ tellings.Answer time sender tells.0 before ∷ []) (is ∙ append-nil old),
       λ told are. answers_anew cmp total exact pair rows after sender others before tells.0 was tells.1 told are time other.0,
     )
   ]

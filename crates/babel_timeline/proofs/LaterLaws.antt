@@ -6,8 +6,6 @@ use Rattle.std.specs.List.{AllByRecursion, filter}
 use Rattle.std.proofs.lemmas.List.Sums.{fold-append}
 use Rattle.babel_tlv.specs.Route.{Announcement}
 use Rattle.babel_timeline.specs.declared.change.Change.{Change}
-use Rattle.babel_timeline.specs.declared.subject.Subject.{Subject}
-use Rattle.babel_timeline.specs.Accounts.{EachTurns}
 use Rattle.babel_timeline.specs.Changes.{before, from_on, held_after, up_to}
 use Rattle.babel_timeline.specs.Laws as laws
 use Rattle.babel_timeline.specs.Rows.{subject_cmp}

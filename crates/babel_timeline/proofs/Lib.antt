@@ -1,5 +1,7 @@
 pub mod Subjects
 pub mod WordLaws
+pub mod HeldLaws
+pub mod MadeLaws
 pub mod AccountLaws
 pub mod KeptLaws
 pub mod EdgeLaws
@@ -11,3 +13,5 @@ pub mod TakingLaws
 pub mod HearingLaws
 pub mod PlaceLaws
 pub mod LaterLaws
+pub mod WatchLaws
+pub mod CountLaws

@@ -1,11 +1,10 @@
 -- What a packet's TLVs say is taken, one after the other.
 use Rattle.std.proofs.Common.{◌≡◌, ℕ, ◌≤◌, Bool, true, false, cond, List, [], ◌∷◌, ◌++◌, Option, Some, None, Result, Ok, Err}
-use Rattle.std.proofs.Common.{refl, sym, ap, subst, ◌∙◌, append_assoc}
+use Rattle.std.proofs.Common.{refl, sym, ap, subst, ◌∙◌, append_assoc, arith}
 use Rattle.std.specs.Prelude.{IfNone, IfSome, OnOk, if◌then◌else◌, option_to_list}
 use Rattle.std.specs.declared.cmp.Ordering.{Ordering}
 use Rattle.std.specs.Cmp.{IsTotalOrder}
 use Rattle.std.specs.BTreeMap.{insert_entry}
-use Rattle.std.specs.Option.{option_map}
 use Rattle.std.proofs.lemmas.List.{append-nil}
 use Rattle.std.proofs.lemmas.Map.Lookups.{CmpEqualImpliesEq}
 use Rattle.babel_tlv.specs.declared.event.Event.{Event}
@@ -28,14 +27,16 @@ use Rattle.babel_timeline.specs.declared.row.Row.{Row}
 use Rattle.babel_timeline.specs.declared.subject.Subject.{Subject}
 use Rattle.babel_timeline.specs.declared.telling.Telling.{Telling}
 use Rattle.babel_timeline.specs.Accounts.{IsAccount, IsLeft, Said, said, word_on}
-use Rattle.babel_timeline.specs.Changes.{TellsAnnouncement, change}
+use Rattle.babel_timeline.specs.Changes.{TellsAnnouncement, change, ending}
 use Rattle.babel_timeline.specs.Laws.{without}
 use Rattle.babel_timeline.specs.Rows.{AllLast, HasNone, IsFirstOf, Rows, row_at, subject_cmp}
 use Rattle.babel_timeline.specs.Taking.{OthersStay, Takes, TellsAnswer, changes_told}
 use Rattle.babel_timeline.specs.Telling.{AskedFor, IsAnswer, IsTold, Tells, TellsEnds, counts, said_of, seen_event}
 use Rattle.babel_timeline.proofs.AccountLaws.{announcing, each, leaving, left, retracting, silence}
 use Rattle.babel_timeline.proofs.AnswerLaws.{told_anew}
-use Rattle.babel_timeline.proofs.TellingLaws.{changes_then, ends_tell, others_inserted, others_without, tells_then, told_no, waiting}
+use Rattle.babel_timeline.proofs.HeldLaws.{all_other, each_other}
+use Rattle.babel_timeline.proofs.MadeLaws.{made_other}
+use Rattle.babel_timeline.proofs.TellingLaws.{changes_then, ends_tell, others_inserted, others_without, tells_then, told_no}
 use Rattle.babel_timeline.proofs.WordLaws.{word_more}
 
 -- of a sender, of whom all is retracted, some rows went so far
@@ -89,14 +90,14 @@ module _ {S : Type 0} (cmp : S → S → Ordering) (total : IsTotalOrder cmp) (e
       (announced_takes rows subject (record { ann = seen; when = row.when }) told old new last tells is))
 
   pub retracted_takes : (rows after : Rows S) (subject : Subject S) (when : Stamp) (time : ℕ) (told : Option (Change S)) (old new : List (Telling S)) → AllLast cmp factor when.time rows → time ≡ when.time
-      → after ≡ without cmp subject rows → told ≡ option_map (λ (row : Row). change time subject kinds.Retracted) (row_at cmp rows subject) → new ≡ old ++ changes_told asked (option_to_list told)
+      → after ≡ without cmp subject rows → told ≡ ending kinds.Retracted time subject (row_at cmp rows subject) → new ≡ old ++ changes_told asked (option_to_list told)
       → Takes cmp factor asked subject.sender (said subject.sender when (events.Retract subject.key) ∷ []) when.time rows after old new
   retracted_takes rows after subject when time told old new last timely gone tells is =
       subst (λ (r : Rows S). Takes cmp factor asked subject.sender (said subject.sender when (events.Retract subject.key) ∷ []) when.time rows r old new) (sym gone) (record {
-        changes = option_to_list (option_map (λ (row : Row). change when.time subject kinds.Retracted) (row_at cmp rows subject));
+        changes = option_to_list (ending kinds.Retracted when.time subject (row_at cmp rows subject));
         account = λ all moment before le account. retracting cmp total exact factor all moment before rows subject when account (le, last);
         told = is ∙ ap (λ (t : Option (Change S)). old ++ changes_told asked (option_to_list t))
-            (tells ∙ ap (λ (n : ℕ). option_map (λ (row : Row). change n subject kinds.Retracted) (row_at cmp rows subject)) timely);
+            (tells ∙ ap (λ (n : ℕ). ending kinds.Retracted n subject (row_at cmp rows subject)) timely);
         others = others_without cmp total exact rows subject;
       })
 
@@ -106,9 +107,8 @@ module _ {S : Type 0} (cmp : S → S → Ordering) (total : IsTotalOrder cmp) (e
   silent_takes rows sender when event old last quiet = record {
     changes = [];
     account = λ all moment before le account.
-        let all_said : List (Said S) = all ++ said sender when event ∷ [] in
-        subst (λ (cs : List (Change S)). IsAccount cmp factor None all_said when.time cs rows) (sym (append-nil before))
-        (waiting cmp total exact factor all_said moment when.time before rows le last (silence cmp total exact factor all moment before rows sender when event account quiet));
+        subst (λ (cs : List (Change S)). IsAccount cmp factor None (all ++ said sender when event ∷ []) when.time cs rows) (sym (append-nil before))
+        (silence cmp total exact factor all moment before rows sender when event account (le, last) quiet);
     told = told_no cmp total exact factor asked old asked;
     others = λ other apart. refl;
   }
@@ -133,17 +133,16 @@ module _ {S : Type 0} (cmp : S → S → Ordering) (total : IsTotalOrder cmp) (e
     others = λ other apart. refl;
   }
 
-  pub leaves-next : (sender : S) (when : Stamp) (rows now after : Rows S) (subject : Subject S) (old mid new : List (Telling S)) → LeavesTo cmp factor asked sender when rows now old mid → IsFirstOf cmp sender now subject
-      → after ≡ without cmp subject now → new ≡ mid ++ changes_told asked (change when.time subject kinds.Retracted ∷ []) → LeavesTo cmp factor asked sender when rows after old new
-  leaves-next sender when rows now after subject old mid new leaves first gone told =
-      let one : Change S = change when.time subject kinds.Retracted in
+  pub leaves-next : (sender : S) (when : Stamp) (rows now after : Rows S) (subject : Subject S) (one : Change S) (old mid new : List (Telling S)) → LeavesTo cmp factor asked sender when rows now old mid → IsFirstOf cmp sender now subject
+      → after ≡ without cmp subject now → Some one ≡ ending kinds.Retracted when.time subject (row_at cmp now subject) → new ≡ mid ++ changes_told asked (one ∷ []) → LeavesTo cmp factor asked sender when rows after old new
+  leaves-next sender when rows now after subject one old mid new leaves first gone is told =
       record {
         changes = leaves.changes ++ one ∷ [];
         account = λ all moment before le account.
             let all_said : List (Said S) = all ++ said sender when events.RetractAll ∷ [] in
             let here = leaves.account all moment before le account in
-            let gone_on = each cmp total exact factor all_said when.time (before ++ leaves.changes) now subject
-            (subst (λ (s : S). IsAccount cmp factor (Some s) all_said when.time (before ++ leaves.changes) now) (sym first.own) here) first.held in
+            let gone_on = each cmp total exact factor all_said when.time (before ++ leaves.changes) now subject one
+            (subst (λ (s : S). IsAccount cmp factor (Some s) all_said when.time (before ++ leaves.changes) now) (sym first.own) here) is in
             subst (λ (r : Rows S). IsAccount cmp factor (Some sender) all_said when.time (before ++ (leaves.changes ++ one ∷ [])) r) (sym gone)
             (subst (λ (cs : List (Change S)). IsAccount cmp factor (Some sender) all_said when.time cs (without cmp subject now)) (append_assoc before leaves.changes (one ∷ []))
             (subst (λ (s : S). IsAccount cmp factor (Some s) all_said when.time ((before ++ leaves.changes) ++ one ∷ []) (without cmp subject now)) first.own gone_on));
@@ -180,6 +179,10 @@ module _ {S : Type 0} (cmp : S → S → Ordering) (total : IsTotalOrder cmp) (e
           left = λ other stays. subst (λ (w : Option Word). IsLeft factor when.time (row_at cmp after other) w) (sym (same all other)) (here.left other stays);
           gone = λ other gone. absurd gone;
           ahead = here.ahead;
+          heard = all_other (λ (s : Said S). s.told.when.time ≤ when.time) all (said sender when (events.Ignored reason)) (said sender when events.Nothing) (omega arith) here.heard;
+          each = each_other cmp factor when.time all (before ++ takes.changes) (said sender when (events.Ignored reason)) (said sender when events.Nothing) refl refl here.each;
+          made = made_other factor all sender when reason (said sender when events.Nothing) (before ++ takes.changes) here.made;
+          leaves = tt;
         };
     told = takes.told;
     others = takes.others;
@@ -227,12 +230,15 @@ module _ {S : Type 0} (cmp : S → S → Ordering) (total : IsTotalOrder cmp) (e
       })
 
   -- what is held for a subject ends, and is told
-  pub end_tells : (rows after : Rows S) (time : ℕ) (subject at : Subject S) (before : Option Announcement) (old mid new : List (Telling S)) → subject ≡ at → IfNone asked (before ≡ None)
-      → IfSome asked (λ pair. IsAnswer cmp pair rows subject.sender before) → after ≡ without cmp subject rows → mid ≡ old ++ changes_told asked (change time subject kinds.Expired ∷ [])
-      → TellsAnswer cmp asked after time subject.sender before mid new → IsTold cmp asked (change time at kinds.Expired ∷ []) rows after old new
-  end_tells rows after time subject at before old mid new same none was gone is tells =
-      subst (λ (s : Subject S). IsTold cmp asked (change time s kinds.Expired ∷ []) rows after old new) same
-      (told_anew cmp total exact asked (change time subject kinds.Expired ∷ []) rows after time subject.sender before old mid new none was is
+  pub end_tells : (rows after : Rows S) (time : ℕ) (subject at : Subject S) (row : Row) (one : Change S) (before : Option Announcement) (old mid new : List (Telling S)) → subject ≡ at → row_at cmp rows subject ≡ Some row
+      → Some one ≡ ending kinds.Expired time at (row_at cmp rows at) → IfNone asked (before ≡ None) → IfSome asked (λ pair. IsAnswer cmp pair rows subject.sender before)
+      → after ≡ without cmp subject rows → mid ≡ old ++ changes_told asked (change time subject (kinds.Expired row.ann) ∷ [])
+      → TellsAnswer cmp asked after time subject.sender before mid new → IsTold cmp asked (one ∷ []) rows after old new
+  end_tells rows after time subject at row one before old mid new same held ends none was gone is tells =
+      let goes : Change S = change time subject (kinds.Expired row.ann) in
+      let both : Some one ≡ Some goes = ends ∙ ap (λ (s : Subject S). ending kinds.Expired time s (row_at cmp rows s)) (sym same) ∙ ap (ending kinds.Expired time subject) held in
+      subst (λ (t : Change S). IsTold cmp asked (t ∷ []) rows after old new) (let here : goes ≡ one = cc in here)
+      (told_anew cmp total exact asked (goes ∷ []) rows after time subject.sender before old mid new none was is
       (λ other apart. ap (λ (r : Rows S). row_at cmp r other) gone ∙ others_without cmp total exact rows subject other apart) tells)
 
   -- ---- the TLVs of a body

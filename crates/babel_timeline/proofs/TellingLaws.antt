@@ -17,12 +17,13 @@ use Rattle.babel_timeline.specs.declared.subject.Subject.{Subject}
 use Rattle.babel_timeline.specs.declared.telling.Telling.{Telling}
 use Rattle.babel_timeline.specs.declared.telling.Telling.TheVariants as tellings
 use Rattle.babel_timeline.specs.Accounts.{IsAccount, Said, word_on}
-use Rattle.babel_timeline.specs.Changes.{change}
+use Rattle.babel_timeline.specs.Changes.{change, ending}
 use Rattle.babel_timeline.specs.Laws.{without}
 use Rattle.babel_timeline.specs.Rows.{AllLast, EndsFirst, IsFirstOf, Rows, row_at, subject_cmp}
 use Rattle.babel_timeline.specs.Taking.{OthersStay, changes_told}
 use Rattle.babel_timeline.specs.Telling.{AllEnd, AreAnswers, AskedFor, IsTold, KeepsAccount, Tells, TellsEnds}
-use Rattle.babel_timeline.proofs.AccountLaws.{expiring, left_later, past_later}
+use Rattle.babel_timeline.proofs.AccountLaws.{each_by, expiring, left_later}
+use Rattle.babel_timeline.proofs.HeldLaws.{all_later}
 use Rattle.babel_timeline.proofs.Subjects.{becomes_cases, becomes_inserted, same_or, subject_exact}
 
 -- ---- rows that go
@@ -92,10 +93,14 @@ module _ {S : Type 0} (cmp : S → S → Ordering) (total : IsTotalOrder cmp) (e
       rising = account.rising;
       told = account.told;
       turns = account.turns;
-      past = past_later moment later changes le account.past;
+      past = all_later (λ (t : Change S). t.time) moment later changes le account.past;
       left = λ subject here. left_later factor moment later (row_at cmp rows subject) (word_on cmp all subject) le (account.left subject here);
       gone = account.gone;
       ahead = λ subject time ends. let after : later < time = last subject time ends in omega (arith, after);
+      heard = all_later (λ (s : Said S). s.told.when.time) moment later all le account.heard;
+      each = each_by cmp total exact factor all moment later changes rows account last;
+      made = account.made;
+      leaves = tt;
     }
 
     ended : (until : ℕ) (changes : List (Change S)) (rows after : Rows S) → AllEnd cmp factor until rows changes after → (all : List (Said S)) (moment : ℕ) (before : List (Change S)) → moment ≤ until
@@ -104,11 +109,9 @@ module _ {S : Type 0} (cmp : S → S → Ordering) (total : IsTotalOrder cmp) (e
         subst (λ (cs : List (Change S)). IsAccount cmp factor None all until cs after) (sym (append-nil before))
         (subst (λ (r : Rows S). IsAccount cmp factor None all until before r) ends.0 (waiting all moment until before rows le ends.1 account))
     ended until (told ∷ later) rows after ends all moment before le account =
-        let one : Change S = change told.time told.subject kinds.Expired in
-        subst (λ (cs : List (Change S)). IsAccount cmp factor None all until cs after)
-        (append_assoc before (one ∷ []) later ∙ ap (λ (t : Change S). before ++ t ∷ later) (sym ends.2))
-        (ended until later (without cmp told.subject rows) after ends.3 all told.time (before ++ one ∷ []) ends.1
-        (expiring cmp total exact factor all moment before rows told.subject told.time account ends.0))
+        subst (λ (cs : List (Change S)). IsAccount cmp factor None all until cs after) (append_assoc before (told ∷ []) later)
+        (ended until later (without cmp told.subject rows) after ends.3 all told.time (before ++ told ∷ []) ends.1
+        (expiring cmp total exact factor all moment before rows told.subject told.time told account ends.0 ends.2))
 
     -- what ends keeps an account
     pub ends_keep : (until : ℕ) (changes : List (Change S)) (rows after : Rows S) → AllEnd cmp factor until rows changes after → KeepsAccount cmp factor [] until rows changes after
@@ -184,14 +187,16 @@ module _ {S : Type 0} (cmp : S → S → Ordering) (total : IsTotalOrder cmp) (e
       ends-begin until rows old = record { changes = []; leads = λ later after ends. ends; told = is_told-no asked rows old }
 
       pub ends-next : (until time : ℕ) (rows now after : Rows S) (subject : Subject S) (old mid new : List (Telling S)) → EndsTo cmp factor asked until rows now old mid → EndsFirst cmp factor now subject time → time ≤ until
-          → after ≡ without cmp subject now → IsTold cmp asked (change time subject kinds.Expired ∷ []) now after mid new → EndsTo cmp factor asked until rows after old new
+          → after ≡ without cmp subject now → ((one : Change S) → Some one ≡ ending kinds.Expired time subject (row_at cmp now subject) → IsTold cmp asked (one ∷ []) now after mid new)
+          → EndsTo cmp factor asked until rows after old new
       ends-next until time rows now after subject old mid new ends first le is told =
-          let one : Change S = change time subject kinds.Expired in
+          let one : Change S = change time subject (kinds.Expired first.ends.row.ann) in
+          let is_one : Some one ≡ ending kinds.Expired time subject (row_at cmp now subject) = sym (ap (ending kinds.Expired time subject) first.ends.held) in
           record {
             changes = ends.changes ++ one ∷ [];
             leads = λ later last rest. subst (λ (cs : List (Change S)). AllEnd cmp factor until rows cs last) (sym (append_assoc ends.changes (one ∷ []) later))
-                (ends.leads (one ∷ later) last (first, le, refl, subst (λ (r : Rows S). AllEnd cmp factor until r later last) is rest));
-            told = is_told-then asked rows now after ends.changes (one ∷ []) old mid new ends.told told;
+                (ends.leads (one ∷ later) last (first, le, is_one, subst (λ (r : Rows S). AllEnd cmp factor until r later last) is rest));
+            told = is_told-then asked rows now after ends.changes (one ∷ []) old mid new ends.told (told one is_one);
           }
 
       pub ends-end : (until : ℕ) (rows now : Rows S) (old new : List (Telling S)) → AllLast cmp factor until now → EndsTo cmp factor asked until rows now old new → TellsEnds cmp factor asked until rows now old new

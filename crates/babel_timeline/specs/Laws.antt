@@ -1,7 +1,6 @@
 -- What keeps an account, and what it tells: laws of the definitions.
-use Rattle.std.specs.Prelude.{◌≡◌, ◌↔◌, ℕ, ◌≤◌, List, [], ◌∷◌, ◌++◌, Option, Some, None, IsSome}
+use Rattle.std.specs.Prelude.{◌≡◌, ◌↔◌, ℕ, ◌≤◌, List, [], ◌∷◌, ◌++◌, Option, Some, None}
 use Rattle.std.specs.Prelude.{option_to_list}
-use Rattle.std.specs.Option.{option_map}
 use Rattle.std.specs.declared.cmp.Ordering.{Ordering}
 use Rattle.std.specs.BTreeMap.{insert_entry, is_at}
 use Rattle.std.specs.Map.{remove_entry}
@@ -14,8 +13,8 @@ use Rattle.babel_timeline.specs.declared.change.Change.{Change}
 use Rattle.babel_timeline.specs.declared.change.ChangeKind.TheVariants as kinds
 use Rattle.babel_timeline.specs.declared.row.Row.{Row}
 use Rattle.babel_timeline.specs.declared.subject.Subject.{Subject}
-use Rattle.babel_timeline.specs.Accounts.{IsAccount, IsHeldAt, Said, said, said_by}
-use Rattle.babel_timeline.specs.Changes.{TellsAnnouncement, before, change, from_on, told_by}
+use Rattle.babel_timeline.specs.Accounts.{IsAccount, IsHeldAt, Said, SayEach, said, said_by}
+use Rattle.babel_timeline.specs.Changes.{TellsAnnouncement, before, ending, from_on, told_by}
 use Rattle.babel_timeline.specs.Changes.{turned_by, up_to}
 use Rattle.babel_timeline.specs.Rows.{AllLast, EndsFirst, HasNone, Rows, row_at, subject_cmp}
 
@@ -53,7 +52,7 @@ module _ {S : Type 0} (cmp : S → S → Ordering) (factor : Option ℕ) where
       (rows : Rows S) (subject : Subject S) (when : Stamp)
       → Account None all moment changes rows → IsTime moment when.time rows
       → Account None (all ++ said subject.sender when (events.Retract subject.key) ∷ []) when.time
-      (changes ++ option_to_list (option_map (λ row. change when.time subject kinds.Retracted)
+      (changes ++ option_to_list (ending kinds.Retracted when.time subject
       (row_at cmp rows subject)))
       (without cmp subject rows)
 
@@ -67,10 +66,10 @@ module _ {S : Type 0} (cmp : S → S → Ordering) (factor : Option ℕ) where
 
   abbrev pub EachRetractedKeepsAccount : Type 0
   EachRetractedKeepsAccount = (all : List (Said S)) (moment : ℕ) (changes : List (Change S))
-      (rows : Rows S) (subject : Subject S)
-      → Account (Some subject.sender) all moment changes rows → IsSome (row_at cmp rows subject)
-      → Account (Some subject.sender) all moment
-      (changes ++ change moment subject kinds.Retracted ∷ []) (without cmp subject rows)
+      (rows : Rows S) (subject : Subject S) (told : Change S)
+      → Account (Some subject.sender) all moment changes rows
+      → Some told ≡ ending kinds.Retracted moment subject (row_at cmp rows subject)
+      → Account (Some subject.sender) all moment (changes ++ told ∷ []) (without cmp subject rows)
 
   abbrev pub AllRetractedKeepsAccount : Type 0
   AllRetractedKeepsAccount = (all : List (Said S)) (moment : ℕ) (changes : List (Change S))
@@ -82,17 +81,23 @@ module _ {S : Type 0} (cmp : S → S → Ordering) (factor : Option ℕ) where
   abbrev pub SilenceKeepsAccount : Type 0
   SilenceKeepsAccount = (all : List (Said S)) (moment : ℕ) (changes : List (Change S))
       (rows : Rows S) (sender : S) (when : Stamp) (event : Event)
-      → Account None all moment changes rows
+      → Account None all moment changes rows → IsTime moment when.time rows
       → ((key : RouteKey) (old : Option Word) → word_after modes.Plain 0 key when event old ≡ old)
-      → Account None (all ++ said sender when event ∷ []) moment changes rows
+      → Account None (all ++ said sender when event ∷ []) when.time changes rows
 
   -- what ends first
   abbrev pub ExpiringKeepsAccount : Type 0
   ExpiringKeepsAccount = (all : List (Said S)) (moment : ℕ) (changes : List (Change S))
-      (rows : Rows S) (subject : Subject S) (time : ℕ)
+      (rows : Rows S) (subject : Subject S) (time : ℕ) (told : Change S)
       → Account None all moment changes rows → EndsFirst cmp factor rows subject time
-      → Account None all time (changes ++ change time subject kinds.Expired ∷ [])
-      (without cmp subject rows)
+      → Some told ≡ ending kinds.Expired time subject (row_at cmp rows subject)
+      → Account None all time (changes ++ told ∷ []) (without cmp subject rows)
+
+  -- before the moment of an account, the changes up to each earlier one say what is held then, of
+  -- what was said up to it
+  abbrev pub ChangesSayEach : Type 0
+  ChangesSayEach = (all : List (Said S)) (moment : ℕ) (changes : List (Change S)) (rows : Rows S)
+      → Account None all moment changes rows → SayEach cmp factor moment all changes
 
   -- once all that ends by a moment has been told of, the changes say what is held at that moment
   abbrev pub ChangesSayWhatIsHeld : Type 0

@@ -8,3 +8,5 @@ pub mod Telling
 pub mod BestAnswers
 pub mod Taking
 pub mod Hearing
+pub mod RequestsTold
+pub mod Silence

@@ -32,7 +32,7 @@ module _ {S : Type 0} (cmp : S → S → Ordering) where
   TellsAnswer (Some pair) rows time sender before old new =
       (answer : Option Announcement) × IsAnswer cmp pair rows sender answer
       × (((answer ≡ before) × (new ≡ old))
-      ⊎ ((answer ≢ before) × (new ≡ old ++ tellings.Answer time sender answer ∷ [])))
+      ⊎ ((answer ≢ before) × (new ≡ old ++ tellings.Answer time sender answer before ∷ [])))
 
   -- what a sender says then is taken, and its changes are told
   pub record Takes (factor : Option ℕ) (asked : AskedFor) (sender : S) (more : List (Said S))

@@ -21,9 +21,9 @@ use Rattle.babel_timeline.specs.declared.row.Row.{Row}
 use Rattle.babel_timeline.specs.declared.telling.Telling.{Telling}
 use Rattle.babel_timeline.specs.declared.telling.Telling.TheVariants as tellings
 use Rattle.babel_timeline.specs.Accounts.{IsAccount, Said, said}
-use Rattle.babel_timeline.specs.Changes.{change}
+use Rattle.babel_timeline.specs.Changes.{ending}
 use Rattle.babel_timeline.specs.Laws.{without}
-use Rattle.babel_timeline.specs.Rows.{AllLast, EndsFirst, HasNoneUpTo, IsLastUpTo, Rows}
+use Rattle.babel_timeline.specs.Rows.{AllLast, EndsFirst, HasNoneUpTo, IsLastUpTo, Rows, row_at}
 
 -- ---- what is said
 
@@ -69,8 +69,9 @@ module _ {S : Type 0} (cmp : S → S → Ordering) where
   -- what the sender answered last, and nothing before
   abbrev pub answer_after : S → Option Announcement → Telling S → Option Announcement
   answer_after sender old (tellings.Change told) = old
-  answer_after sender old (tellings.Answer time other answer) =
+  answer_after sender old (tellings.Answer time other answer before) =
       if is_at (cmp sender) other then answer else old
+  answer_after sender old (tellings.Request time other request) = old
 
   abbrev pub answered : List (Telling S) → S → Option Announcement
   answered told sender = fold (answer_after sender) None told
@@ -82,13 +83,15 @@ module _ {S : Type 0} (cmp : S → S → Ordering) where
   IsAnswer pair rows sender (Some ann) =
       (row : Row) × IsLastUpTo cmp sender (key_alone pair) rows row × (row.ann ≡ ann)
 
-  -- an answer, and another one than that before
+  -- an answer, with that before, which is another one
   abbrev pub AnswersAnew : List (Telling S) → Telling S → Type 0
-  AnswersAnew before (tellings.Change told) = ⊥
-  AnswersAnew before (tellings.Answer time sender answer) = answered before sender ≢ answer
+  AnswersAnew earlier (tellings.Change told) = ⊥
+  AnswersAnew earlier (tellings.Answer time sender answer before) =
+      (answered earlier sender ≡ before) × (before ≢ answer)
+  AnswersAnew earlier (tellings.Request time sender request) = ⊥
 
-  -- the tellings are answers, the last of each sender is what it answers, and none tells the same
-  -- again
+  -- the tellings are answers, the last of each sender is what it answers, and each tells that
+  -- before it, and another one
   pub record AreAnswers (pair : Address × Address) (told : List (Telling S)) (rows : Rows S)
       : Type 0 where
     pub last : (sender : S) → IsAnswer pair rows sender (answered told sender)
@@ -113,7 +116,7 @@ module _ {S : Type 0} (cmp : S → S → Ordering) where
     AllEnd until rows [] after = (rows ≡ after) × AllLast cmp factor until rows
     AllEnd until rows (told ∷ later) after =
         EndsFirst cmp factor rows told.subject told.time × (told.time ≤ until)
-        × (told ≡ change told.time told.subject kinds.Expired)
+        × (Some told ≡ ending kinds.Expired told.time told.subject (row_at cmp rows told.subject))
         × AllEnd until (without cmp told.subject rows) later after
 
     -- with what is said until this time, and these changes, an account stays one

@@ -7,11 +7,11 @@ pub enum ChangeKind {
     /// Nothing was held, and now this is.
     Announced(Ann),
     /// Something else was held, and now this is.
-    Changed(Ann),
-    /// Nothing is held any more, since the sender says so.
-    Retracted,
-    /// Nothing is held any more, since the sender did not announce it again in time.
-    Expired,
+    Changed { before: Ann, now: Ann },
+    /// This was held, and nothing is any more, since the sender says so.
+    Retracted(Ann),
+    /// This was held, and nothing is any more, since the sender did not announce it again in time.
+    Expired(Ann),
 }
 
 /// That what is held for a subject changes.

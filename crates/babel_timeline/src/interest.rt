@@ -1,6 +1,6 @@
 //! What is told of what senders hold.
-ghost use Rattle.std.specs.Prelude.{◌≡◌, ◌+◌, ◌<◌, ◌^◌, ◌∷◌, ◌++◌, [], List, length};
-ghost use Rattle.std.specs.Prelude.{IfNone, IfOk, IfSome, None, Ok, OnOk, slice_index};
+ghost use Rattle.std.specs.Prelude.{◌≡◌, ◌+◌, ◌<◌, ◌^◌, ◌∷◌, ◌++◌, [], List, Some, length};
+ghost use Rattle.std.specs.Prelude.{IfNone, IfOk, IfSome, IsSome, None, Ok, OnOk, slice_index};
 ghost use Rattle.babel_tlv.specs.declared.event.Event.TheVariants as events;
 ghost use Rattle.babel_tlv.specs.declared.start.Start.{Start as StartValue};
 ghost use Rattle.babel_tlv.specs.Context.{context_after, first_context};
@@ -11,13 +11,14 @@ ghost use Rattle.babel_tlv.specs.Framing.{TlvAt, tlvs_of};
 ghost use Rattle.babel_tlv.specs.Says.{said as said_at, sayings_after};
 ghost use Rattle.babel_tlv.specs.Views.{seen_announcement};
 ghost use Rattle.babel_table.specs.Moments.{told_at, told_from, update_interval};
+ghost use Rattle.babel_timeline.specs.declared.change.Change.{Change as ChangeSaid};
 ghost use Rattle.babel_timeline.specs.declared.change.ChangeKind.TheVariants as kinds;
 ghost use Rattle.babel_timeline.specs.Accounts.{said};
-ghost use Rattle.babel_timeline.specs.Changes.{change};
+ghost use Rattle.babel_timeline.specs.Changes.{ending};
 ghost use Rattle.babel_timeline.specs.Hearing.{CountsMore};
 ghost use Rattle.babel_timeline.specs.Kept.{expiring};
 ghost use Rattle.babel_timeline.specs.Laws.{without};
-ghost use Rattle.babel_timeline.specs.Rows.{AllLast};
+ghost use Rattle.babel_timeline.specs.Rows.{AllLast, row_at};
 ghost use Rattle.babel_timeline.specs.Taking.{KeepsBounds, Takes, TellsAnswer, changes_told};
 ghost use Rattle.babel_timeline.specs.Telling.{IsAnswer, IsTold, Tells, TellsEnds, counts};
 ghost use Rattle.babel_timeline.specs.Telling.{said_of, seen_event};
@@ -127,6 +128,7 @@ impl Interest {
                 time,
                 sender,
                 answer,
+                before,
             })?;
         }
         Ok(())
@@ -139,21 +141,24 @@ impl Interest {
         first: &Expiry<S>,
         told: &mut Vec<Telling<S>>,
     ) -> Result<(), AllocError>
+        requires { IsSome (row_at S.cmp timeline.old.rows (expiring first.now)) }
         ensures rows { timeline.new ≡ record timeline.old {
           rows = without S.cmp (expiring first.now) timeline.old.rows;
         } }
-        ensures told { OnOk result (IsTold S.cmp self.now.asked
-            (change first.now.time (expiring first.now) kinds.Expired ∷ [])
-            timeline.old.rows timeline.new.rows told.old.items told.new.items) }
+        ensures told { OnOk result ((change : ChangeSaid S) → Some change ≡ ending kinds.Expired
+            first.now.time (expiring first.now)
+            (row_at S.cmp timeline.old.rows (expiring first.now))
+            → IsTold S.cmp self.now.asked (change ∷ []) timeline.old.rows timeline.new.rows
+            told.old.items told.new.items) }
     {
         let time = first.time;
         let subject = first.subject();
         let before = self.answer(timeline, subject.sender);
-        timeline.take(&subject);
+        let row = timeline.take(&subject).unwrap();
         let change = Change {
             time,
             subject,
-            kind: ChangeKind::Expired,
+            kind: ChangeKind::Expired(row.ann),
         };
         self.tell(change, told)?;
         self.tell_answer(timeline, time, subject.sender, before, told)

@@ -4,11 +4,13 @@
 ghost use Rattle.std.specs.Prelude.{ℕ, Option};
 ghost use Rattle.babel_timeline.specs.BestAnswers.{AnswersAreBest, RowsAnswerBest};
 ghost use Rattle.babel_timeline.specs.Laws.{AllRetractedKeepsAccount, AnnouncingKeepsAccount};
-ghost use Rattle.babel_timeline.specs.Laws.{BeginsAccount, ChangesSayWhatIsHeld};
+ghost use Rattle.babel_timeline.specs.Laws.{BeginsAccount, ChangesSayEach, ChangesSayWhatIsHeld};
 ghost use Rattle.babel_timeline.specs.Laws.{EachRetractedKeepsAccount, ExpiringKeepsAccount};
 ghost use Rattle.babel_timeline.specs.Laws.{LaterChangesTurnRows};
 ghost use Rattle.babel_timeline.specs.Laws.{RetractingAllKeepsAccount, RetractingKeepsAccount};
 ghost use Rattle.babel_timeline.specs.Laws.{SilenceKeepsAccount};
+ghost use Rattle.babel_timeline.specs.Silence.{BeginsWatch, HelloKeepsWatch, SilenceKeepsWatch};
+ghost use Rattle.babel_timeline.specs.Silence.{SilentAreTold};
 
 use crate::sender::Sender;
 
@@ -29,9 +31,11 @@ pub fn accounts_are_kept_by_wildcards<S: Sender>()
     ensures ended { (factor : Option ℕ) → AllRetractedKeepsAccount S.cmp factor }
 {}
 
-/// Once all that ends by a moment has been told, the changes say exactly what is held then.
+/// Once all that ends by a moment has been told, the changes say exactly what is held then; and so do
+/// those up to each earlier moment.
 pub fn changes_say_what_is_held<S: Sender>()
-    ensures { (factor : Option ℕ) → ChangesSayWhatIsHeld S.cmp factor }
+    ensures at_last { (factor : Option ℕ) → ChangesSayWhatIsHeld S.cmp factor }
+    ensures each { (factor : Option ℕ) → ChangesSayEach S.cmp factor }
 {}
 
 /// The changes from a moment on turn what was held just before it into what is held at each later
@@ -45,4 +49,14 @@ pub fn later_changes_turn_rows<S: Sender>()
 pub fn answers_are_best<S: Sender>()
     ensures rows { RowsAnswerBest S.cmp }
     ensures said { (factor : Option ℕ) → AnswersAreBest S.cmp factor }
+{}
+
+/// RFC 8966, 3.4.1, appendix A.1: where times do not run backwards, and all are told that fall silent
+/// by a time, exactly those senders have been told to be silent of which the last Hello came 3.5
+/// times its Interval before it, or earlier.
+pub fn silent_are_told<S: Sender>()
+    ensures begun { BeginsWatch S.cmp }
+    ensures hello { HelloKeepsWatch S.cmp }
+    ensures silence { SilenceKeepsWatch S.cmp }
+    ensures told { SilentAreTold S.cmp }
 {}

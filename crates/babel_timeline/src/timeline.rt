@@ -4,14 +4,14 @@ ghost use Rattle.std.specs.Prelude.{IfSome, IsSome, IsTrue, MatchOption, OnErr, 
 ghost use Rattle.std.specs.BTreeMap.{insert_entry, is_at};
 ghost use Rattle.std.specs.BTreeMap.Range.{IsLeBy};
 ghost use Rattle.std.specs.Map.{remove_entry};
-ghost use Rattle.std.specs.Option.{option_map};
 ghost use Rattle.babel_tlv.specs.Keys.{key_cmp};
 ghost use Rattle.babel_tlv.specs.Route.{RouteKey};
-ghost use Rattle.babel_timeline.specs.Changes.{TellsAnnouncement, change};
+ghost use Rattle.babel_timeline.specs.Changes.{TellsAnnouncement, ending};
 ghost use Rattle.babel_timeline.specs.Kept.{AreQueued, IsBy, expiring};
 ghost use Rattle.babel_timeline.specs.Places.{rows_of};
 ghost use Rattle.babel_timeline.specs.Rows.{AllLast, EndsFirst, HasNone, HasNoneUpTo, IsFirstOf};
 ghost use Rattle.babel_timeline.specs.Rows.{IsLastUpTo, row_at, subject_cmp};
+ghost use Rattle.babel_timeline.specs.Silence.{row_count};
 ghost use Rattle.babel_timeline.specs.declared.change.ChangeKind.TheVariants as kinds;
 ghost use Rattle.babel_timeline.specs.declared.subject.Subject.{Subject as Of};
 
@@ -122,7 +122,10 @@ fn announced<S: Sender>(
             if row.ann == *ann {
                 return None;
             }
-            ChangeKind::Changed(*ann)
+            ChangeKind::Changed {
+                before: row.ann,
+                now: *ann,
+            }
         }
     };
     Some(Change {
@@ -241,6 +244,14 @@ impl<S: Sender> Timeline<S> {
         }
     }
 
+    /// How many rows a sender has.
+    pub fn count_of(&self, sender: S) -> usize
+        ensures { result ≡ row_count S.cmp sender self.now.rows }
+    {
+        let key = first_key();
+        self.cells.count_from(Subject { sender, key })
+    }
+
     /// Of what the sender holds for keys up to this one, what it holds for the last of them. Where
     /// the key is that of a pair of addresses, and rows are only of keys that contain both, this is
     /// their best match (RFC 9079, 4).
@@ -290,14 +301,14 @@ impl<S: Sender> Timeline<S> {
         ensures rows { self.new ≡ record self.old {
           rows = remove_entry (is_at (subject_cmp S.cmp subject.now)) self.old.rows;
         } }
-        ensures told { result ≡ option_map (λ row. change time subject.now kinds.Retracted)
+        ensures told { result ≡ ending kinds.Retracted time subject.now
             (row_at S.cmp self.old.rows subject.now) }
     {
-        self.take(subject)?;
+        let row = self.take(subject)?;
         Some(Change {
             time,
             subject: *subject,
-            kind: ChangeKind::Retracted,
+            kind: ChangeKind::Retracted(row.ann),
         })
     }
 
@@ -307,17 +318,18 @@ impl<S: Sender> Timeline<S> {
         ensures none { IfNone result (HasNone S.cmp sender self.old.rows) }
         ensures same { IfNone result (self.new ≡ self.old) }
         ensures first { IfSome result (λ told. IsFirstOf S.cmp sender self.old.rows told.subject) }
-        ensures told { IfSome result (λ told. told ≡ change time told.subject kinds.Retracted) }
+        ensures told { IfSome result (λ told. Some told
+            ≡ ending kinds.Retracted time told.subject (row_at S.cmp self.old.rows told.subject)) }
         ensures rows { IfSome result (λ told. self.new ≡ record self.old {
           rows = remove_entry (is_at (subject_cmp S.cmp told.subject)) self.old.rows;
         }) }
     {
         let subject = self.first_of(sender)?;
-        self.take(&subject);
+        let row = self.take(&subject).unwrap();
         Some(Change {
             time,
             subject,
-            kind: ChangeKind::Retracted,
+            kind: ChangeKind::Retracted(row.ann),
         })
     }
 
@@ -331,8 +343,8 @@ impl<S: Sender> Timeline<S> {
         ensures by { IfOk result (λ told. IfSome told (λ told. told.time ≤ until)) }
         ensures first { IfOk result (λ told. IfSome told (λ told.
             EndsFirst S.cmp self.old.factor self.old.rows told.subject told.time)) }
-        ensures told { IfOk result (λ told. IfSome told (λ told.
-            told ≡ change told.time told.subject kinds.Expired)) }
+        ensures told { IfOk result (λ told. IfSome told (λ told. Some told ≡ ending kinds.Expired
+            told.time told.subject (row_at S.cmp self.old.rows told.subject))) }
         ensures rows { IfOk result (λ told. IfSome told (λ told. self.new ≡ record self.old {
           rows = remove_entry (is_at (subject_cmp S.cmp told.subject)) self.old.rows;
         })) }
@@ -341,11 +353,11 @@ impl<S: Sender> Timeline<S> {
             return Ok(None);
         };
         let subject = first.subject();
-        self.take(&subject);
+        let row = self.take(&subject).unwrap();
         Ok(Some(Change {
             time: first.time,
             subject,
-            kind: ChangeKind::Expired,
+            kind: ChangeKind::Expired(row.ann),
         }))
     }
 }

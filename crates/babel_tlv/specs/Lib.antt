@@ -21,3 +21,5 @@ pub mod EventKinds
 pub mod Views
 pub mod ViewsTell
 pub mod Reading
+pub mod Requests
+pub mod Hellos

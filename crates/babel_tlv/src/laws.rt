@@ -1,10 +1,13 @@
-//! Laws about the orders of this crate's types, about views, and about the parser state.
+//! Laws about the orders of this crate's types, about views, about the parser state, and about
+//! requests.
 ghost use Rattle.std.specs.Prelude.{◌≡◌, ◌↔◌};
 ghost use Rattle.std.specs.Cmp.{IsTotalOrder};
 ghost use Rattle.std.specs.declared.cmp.Ordering.TheVariants.{Equal};
 ghost use Rattle.babel_tlv.specs.declared.held.Held.{Held as HeldValue};
+ghost use Rattle.babel_tlv.specs.Hellos.{HelloIsRead};
 ghost use Rattle.babel_tlv.specs.Nearest.{DefaultIsNearest, NextHopIsNearest, RouterIdIsNearest};
 ghost use Rattle.babel_tlv.specs.Pairs.{held_cmp};
+ghost use Rattle.babel_tlv.specs.Requests.{RouteIsRequested, SeqnoIsRequested};
 ghost use Rattle.babel_tlv.specs.Says.{IgnoredTellsNothing};
 ghost use Rattle.babel_tlv.specs.ViewsTell.{AllIsSeen, SeenFits, SeenHopFits};
 ghost use Rattle.babel_tlv.specs.ViewsTell.{SeenTellsApart, SeenTwiceIsSeen};
@@ -71,4 +74,15 @@ pub fn state_is_nearest()
 /// A TLV that is ignored, or refuses the dump, tells nothing of routes: RFC 8966, 4.6.
 pub fn ignored_tells_nothing()
     ensures { IgnoredTellsNothing }
+{}
+
+/// A request that is written is read as what it is: RFC 8966, 4.6.10, 4.6.11.
+pub fn requests_are_read()
+    ensures route { RouteIsRequested }
+    ensures seqno { SeqnoIsRequested }
+{}
+
+/// A Hello that is written is read as what it is: RFC 8966, 4.6.5.
+pub fn hellos_are_read()
+    ensures { HelloIsRead }
 {}

@@ -16,7 +16,7 @@ use crate::encoding::Encoding;
 use crate::event_kind::EventKind;
 use crate::place::Place;
 use crate::reason::Reason;
-use crate::sub_tlv::{octets_needed, read_sub_tlvs};
+use crate::sub_tlv::{octets_needed, read_source, read_sub_tlvs};
 use crate::wire::{INFINITY, PREFIX_FLAG, ROUTER_ID_FLAG};
 use babel_prefix::{Addr, Family, Prefix};
 use byteorder::{ByteOrder, NetworkEndian};
@@ -112,12 +112,7 @@ impl<'a> Update<'a> {
         ensures value { result ≡ source_of family self.now.body.now }
         ensures family { IfOk result (λ source. source.address.family ≡ family) }
     {
-        let sub_tlvs = self.sub_tlvs();
-        if sub_tlvs.is_empty() {
-            return Ok(Prefix::whole(family));
-        }
-        let source = read_sub_tlvs(Place::InUpdate(family), sub_tlvs)?;
-        Ok(source.unwrap_or(Prefix::whole(family)))
+        read_source(family, self.sub_tlvs())
     }
 
     /// The sub-TLVs, after the prefix.

@@ -9,5 +9,5 @@ abbrev pub invariant-loop-difference : goal.invariant-loop-difference
 invariant-loop-difference g l = record {
   took : Took (output (g.W.ByteOut.state l.initial.writer) (g.W.ByteOut.state l.writer)) (flat_map (change_text l.style l.view) l.list)
       (l.buffer.items ++ flat_map (change_text l.style l.view) (drop l.difference-index l.list));
-  room : 384 ≤ vec_capacity l.buffer;
+  room : 512 ≤ vec_capacity l.buffer;
 }

@@ -1,12 +1,14 @@
-use Rattle.std.proofs.Common.{◌++◌, ◌∷◌, [], Some, refl, subst, sym}
-use Rattle.babel_timeline.specs.declared.telling.Telling.{Telling}
-use Rattle.babel_dump.specs.EventsRun.{told_early}
-use Rattle.babel_dump.specs.Followed.{HasAnswers}
-use Rattle.babel_dump.specs.declared.speaker.Speaker.{Speaker}
-use Rattle.babel_dump.proofs.SinceLaws.{change_kept}
+-- What is no answer leaves what was answered.
+use Rattle.std.proofs.Common.{ap, refl}
+use Rattle.babel_timeline.specs.Telling.{answer_after}
+use Rattle.babel_dump.specs.Speakers.{speaker_cmp}
+use Rattle.babel_dump.proofs.SinceLaws.{other_kept}
 use Rattle.babel_dump.proofs.since.Since.keep.Goals as goal
 
 pub returns-in-Change-clause-answers : goal.returns-in-Change-clause-answers
 returns-in-Change-clause-answers c earlier was =
-    subst (λ (t : Telling Speaker). HasAnswers (earlier ++ told_early (Some c.args.moment) (t ∷ [])) c.args.self.now) (sym c.in-Change.is)
-    (change_kept c.args.moment earlier c.args.self.now c.args.self.now was c.in-Change.field-0 refl)
+    other_kept c.args.moment earlier c.args.self.now c.args.self.now was c.args.told.now (λ speaker answer. ap (answer_after speaker_cmp speaker answer) c.in-Change.is) refl
+
+pub returns-in-Request-clause-answers : goal.returns-in-Request-clause-answers
+returns-in-Request-clause-answers c earlier was =
+    other_kept c.args.moment earlier c.args.self.now c.args.self.now was c.args.told.now (λ speaker answer. ap (answer_after speaker_cmp speaker answer) c.in-Request.is) refl

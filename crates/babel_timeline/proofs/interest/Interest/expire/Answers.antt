@@ -1,12 +1,13 @@
 -- What ends goes one by one.
-use Rattle.std.proofs.Common.{◌≤◌, ◌∙◌, ℕ, [], ◌∷◌, Option, ap, subst, sym}
+use Rattle.std.proofs.Common.{◌≡◌, ◌≤◌, ◌∙◌, ℕ, [], ◌∷◌, Option, Some, ap, subst, sym}
 use Rattle.std.specs.Prelude.{IfNone, IfSome}
 use Rattle.babel_timeline.specs.declared.queue.Expiry.{Expiry}
+use Rattle.babel_timeline.specs.declared.change.Change.{Change}
 use Rattle.babel_timeline.specs.declared.change.ChangeKind.TheVariants as kinds
-use Rattle.babel_timeline.specs.Changes.{change}
+use Rattle.babel_timeline.specs.Changes.{ending}
 use Rattle.babel_timeline.specs.Kept.{expiring}
 use Rattle.babel_timeline.specs.Laws.{without}
-use Rattle.babel_timeline.specs.Rows.{AllLast, EndsFirst, Held}
+use Rattle.babel_timeline.specs.Rows.{AllLast, EndsFirst, Held, row_at}
 use Rattle.babel_timeline.specs.Telling.{IsTold, TellsEnds}
 use Rattle.babel_timeline.proofs.TellingLaws.{ends-end, ends-next, less_ends}
 use Rattle.babel_timeline.proofs.interest.Interest.expire.Goals as goal
@@ -31,8 +32,9 @@ loop-first-preserved g c = record {
       c.in_ok-first.ensures.first))
       (subst (λ (o : Option (Expiry g.row.S.Denot)). IfSome o (λ first. first.time ≤ c.args.until)) c.in-Some.is c.in_ok-first.ensures.by)
       (ap (λ (h : Held g.row.S.Denot). h.rows) c.end.ensures.rows ∙ ap (λ (h : Held g.row.S.Denot). without g.S.Ord.cmp (expiring c.in-Some.first) h.rows) c.first_end.ensures.same)
-      (subst (λ (h : Held g.row.S.Denot). IsTold g.S.Ord.cmp c.args.self.now.asked (change c.in-Some.first.time (expiring c.in-Some.first) kinds.Expired ∷ []) h.rows c.end.new.timeline.rows
-      c.loop-first.told.items c.end.new.told.items) c.first_end.ensures.same c.in_ok-end.ensures.told);
+      (subst (λ (h : Held g.row.S.Denot). (one : Change g.row.S.Denot)
+      → Some one ≡ ending kinds.Expired c.in-Some.first.time (expiring c.in-Some.first) (row_at g.S.Ord.cmp h.rows (expiring c.in-Some.first))
+      → IsTold g.S.Ord.cmp c.args.self.now.asked (one ∷ []) h.rows c.end.new.timeline.rows c.loop-first.told.items c.end.new.told.items) c.first_end.ensures.same c.in_ok-end.ensures.told);
 }
 
 pub returns-clause-last : goal.returns-clause-last

@@ -1,13 +1,13 @@
 -- The rows of a sender go one by one.
-use Rattle.std.proofs.Common.{◌≡◌, refl, ap, subst, sym, ◌∙◌, ℕ, [], ◌∷◌, ◌++◌, Option}
+use Rattle.std.proofs.Common.{◌≡◌, refl, ap, subst, sym, ◌∙◌, ℕ, [], ◌∷◌, Option}
 use Rattle.std.specs.Prelude.{IfNone}
 use Rattle.babel_tlv.specs.declared.event.Event.TheVariants as events
 use Rattle.babel_timeline.specs.declared.change.Change.{Change}
 use Rattle.babel_timeline.specs.declared.change.ChangeKind.TheVariants as kinds
 use Rattle.babel_timeline.specs.Accounts.{said}
-use Rattle.babel_timeline.specs.Changes.{change}
-use Rattle.babel_timeline.specs.Rows.{HasNone, Held, Rows}
-use Rattle.babel_timeline.specs.Taking.{Takes, changes_told}
+use Rattle.babel_timeline.specs.Changes.{ending}
+use Rattle.babel_timeline.specs.Rows.{HasNone, Held, Rows, row_at}
+use Rattle.babel_timeline.specs.Taking.{Takes}
 use Rattle.babel_timeline.proofs.TakingLaws.{leaves-begin, leaves-end, leaves-next}
 use Rattle.babel_timeline.proofs.TellingLaws.{less_goes}
 use Rattle.babel_timeline.proofs.interest.Interest.retract_all.Goals as goal
@@ -28,10 +28,10 @@ loop-change-preserved g c = record {
     ap (λ (h : Held g.row.S.Denot). h.factor) c.in-Some.ensures.rows ∙ c.loop-change.invariant.bounds.0,
     ap (λ (h : Held g.row.S.Denot). h.limit) c.in-Some.ensures.rows ∙ c.loop-change.invariant.bounds.1,
   );
-  leaves = leaves-next g.S.Ord.cmp g.met.S.Ord.total g.met.S.Sender.exact c.args.timeline.now.factor c.args.self.now.asked c.args.sender c.args.when c.args.timeline.now.rows c.loop-change.timeline.rows c.retract_next.new.self.rows c.in-Some.change.subject
+  leaves = leaves-next g.S.Ord.cmp g.met.S.Ord.total g.met.S.Sender.exact c.args.timeline.now.factor c.args.self.now.asked c.args.sender c.args.when c.args.timeline.now.rows c.loop-change.timeline.rows c.retract_next.new.self.rows c.in-Some.change.subject c.in-Some.change
       c.args.told.now.items c.loop-change.told.items c.tell.new.told.items c.loop-change.invariant.leaves c.in-Some.ensures.first (ap (λ (h : Held g.row.S.Denot). h.rows) c.in-Some.ensures.rows)
-      (c.in_ok-tell.ensures ∙ ap (λ (t : Change g.row.S.Denot). c.loop-change.told.items ++ changes_told c.args.self.now.asked (t ∷ []))
-      (c.in-Some.ensures.told ∙ ap (λ (n : ℕ). change n c.in-Some.change.subject kinds.Retracted) c.time.ensures.value));
+      (c.in-Some.ensures.told ∙ ap (λ (n : ℕ). ending kinds.Retracted n c.in-Some.change.subject (row_at g.S.Ord.cmp c.loop-change.timeline.rows c.in-Some.change.subject)) c.time.ensures.value)
+      c.in_ok-tell.ensures;
 }
 
 pub returns-clause-ok : goal.returns-clause-ok

@@ -5,7 +5,7 @@ use Rattle.babel_prefix.specs.declared.family.Family.{Family}
 use Rattle.babel_prefix.specs.Address.{AddressPrefix, whole_family}
 use Rattle.babel_tlv.specs.declared.reason.Reason.{Reason}
 use Rattle.babel_tlv.proofs.SubTlvLaws.{sub_tlvs_are}
-use Rattle.babel_tlv.proofs.update.Update.source.Goals as goal
+use Rattle.babel_tlv.proofs.sub_tlv.read_source.Goals as goal
 
 abbrev IsOf : Family → AddressPrefix → Type 0
 IsOf family p = p.address.family ≡ family
@@ -21,4 +21,4 @@ returns-clause-family c =
     let is : c.unwrap_or.result ≡ unwrap_or source (whole_family family) = c.unwrap_or.ensures ∙ ap (λ (p : AddressPrefix). unwrap_or source p) c.whole-2.ensures in
     ap (λ (p : AddressPrefix). p.address.family) is
     ∙ unwrap_or-family source family (subst (λ (r : Result (Option AddressPrefix) Reason). IfOk r (λ given. IfSome given (IsOf family))) (sym c.in_ok-source.ensures)
-    (sub_tlvs_are (IsOf family) family (λ body. refl) c.sub_tlvs-sub_tlvs.result.now))
+    (sub_tlvs_are (IsOf family) family (λ body. refl) c.args.sub_tlvs.now))

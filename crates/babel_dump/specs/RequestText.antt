@@ -1,0 +1,38 @@
+-- What `events` writes of a request: this project's own.
+use Rattle.std.specs.Prelude.{ℕ, List, ◌++◌, codes}
+use Rattle.std.specs.Fmt.{decimal}
+use Rattle.hex.specs.Hex.{encode_lower}
+use Rattle.babel_tlv.specs.declared.request.Request.{Request}
+use Rattle.babel_tlv.specs.declared.request.Request.TheVariants as requests
+use Rattle.babel_tlv.specs.Route.{RouteKey}
+use Rattle.babel_dump.specs.JsonText.{addressed_json}
+use Rattle.babel_dump.specs.Spelling.{from_prefix, prefix_text}
+use Rattle.babel_dump.specs.declared.spelling.Spelling.{Spelling}
+
+-- ` DST from SRC`
+abbrev pub key_text : Spelling → RouteKey → List ℕ
+key_text spelling key = codes " " ++ prefix_text spelling key.dst ++ from_prefix spelling key.src
+
+-- ` all`, or ` DST from SRC`, or ` DST from SRC id ROUTERID seqno N`
+abbrev pub request_text : Spelling → Request → List ℕ
+request_text spelling requests.All = codes " all"
+request_text spelling (requests.Route key) = key_text spelling key
+request_text spelling (requests.Seqno key router_id seqno) =
+    key_text spelling key ++ codes " id " ++ encode_lower router_id
+    ++ codes " seqno " ++ decimal seqno
+
+-- `"destination":"DST","source":"SRC"`
+abbrev pub key_json : Spelling → RouteKey → List ℕ
+key_json spelling key =
+    addressed_json (prefix_text spelling key.dst) (prefix_text spelling key.src)
+
+-- `"destination":"DST","source":"SRC","router_id":"ROUTERID","seqno":N`, or null for what is not
+-- requested
+abbrev pub request_json : Spelling → Request → List ℕ
+request_json spelling requests.All =
+    codes "\"destination\":null,\"source\":null,\"router_id\":null,\"seqno\":null"
+request_json spelling (requests.Route key) =
+    key_json spelling key ++ codes ",\"router_id\":null,\"seqno\":null"
+request_json spelling (requests.Seqno key router_id seqno) =
+    key_json spelling key ++ codes ",\"router_id\":\"" ++ encode_lower router_id
+    ++ codes "\",\"seqno\":" ++ decimal seqno

@@ -1,0 +1,82 @@
+//! Texts of requests, appended to a buffer that has room for them.
+ghost use Rattle.std.specs.Prelude.{◌≡◌, ◌++◌};
+ghost use Rattle.babel_dump.specs.RequestText.{key_json, key_text, request_json, request_text};
+ghost use Rattle.babel_dump.specs.Slices.{HasRoom, TookRoom};
+
+use crate::push::{push_decimal, push_router_id, push_text};
+use crate::push_addr::{push_from, push_prefix};
+use crate::push_json::push_addressed;
+use crate::spelling::Spelling;
+use babel_tlv::{Key, Request};
+
+/// Appends a key.
+pub(crate) fn push_key(buffer: &mut Vec<u8>, spelling: Spelling, key: Key)
+    requires { HasRoom buffer.old 97 }
+    ensures text { buffer.new.items ≡ buffer.old.items ++ key_text spelling key }
+    ensures room { TookRoom buffer.old buffer.new 97 }
+{
+    push_text(buffer, " ");
+    push_prefix(buffer, spelling, key.dst());
+    push_from(buffer, spelling, key.src());
+}
+
+/// Appends what is requested.
+pub(crate) fn push_request(buffer: &mut Vec<u8>, spelling: Spelling, request: &Request)
+    requires { HasRoom buffer.old 129 }
+    ensures text { buffer.new.items ≡ buffer.old.items ++ request_text spelling request.now }
+    ensures room { TookRoom buffer.old buffer.new 129 }
+{
+    match request {
+        Request::All => push_text(buffer, " all"),
+        Request::Route(key) => push_key(buffer, spelling, *key),
+        Request::Seqno {
+            key,
+            router_id,
+            seqno,
+        } => {
+            push_key(buffer, spelling, *key);
+            push_text(buffer, " id ");
+            push_router_id(buffer, *router_id);
+            push_text(buffer, " seqno ");
+            push_decimal(buffer, *seqno);
+        }
+    }
+}
+
+/// Appends what is requested: four members of an object.
+pub(crate) fn push_request_json(buffer: &mut Vec<u8>, spelling: Spelling, request: &Request)
+    requires { HasRoom buffer.old 163 }
+    ensures text { buffer.new.items ≡ buffer.old.items ++ request_json spelling request.now }
+    ensures room { TookRoom buffer.old buffer.new 163 }
+{
+    match request {
+        Request::All => push_text(
+            buffer,
+            r#""destination":null,"source":null,"router_id":null,"seqno":null"#,
+        ),
+        Request::Route(key) => {
+            push_key_json(buffer, spelling, *key);
+            push_text(buffer, r#","router_id":null,"seqno":null"#);
+        }
+        Request::Seqno {
+            key,
+            router_id,
+            seqno,
+        } => {
+            push_key_json(buffer, spelling, *key);
+            push_text(buffer, r#","router_id":""#);
+            push_router_id(buffer, *router_id);
+            push_text(buffer, r#"","seqno":"#);
+            push_decimal(buffer, *seqno);
+        }
+    }
+}
+
+/// Appends a key: two members of an object.
+fn push_key_json(buffer: &mut Vec<u8>, spelling: Spelling, key: Key)
+    requires { HasRoom buffer.old 118 }
+    ensures text { buffer.new.items ≡ buffer.old.items ++ key_json spelling key }
+    ensures room { TookRoom buffer.old buffer.new 118 }
+{
+    push_addressed(buffer, spelling, key.dst(), key.src());
+}
