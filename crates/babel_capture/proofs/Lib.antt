@@ -4,6 +4,7 @@ pub mod Entries
 pub mod FindingLaws
 pub mod FramingLaws
 pub mod GatherLaws
+pub mod KnownLaws
 pub mod LaidOutLaws
 pub mod MemoryLaws
 pub mod NumberLaws
@@ -14,6 +15,7 @@ pub mod OneOrigin
 pub mod PacketLaws
 pub mod PcapLaws
 pub mod PcapngLaws
+pub mod PieceLaws
 pub mod ReadBack
 pub mod ReadingLaws
 pub mod SeenInFrames
