@@ -1,12 +1,9 @@
 -- The counts of packets and one more.
-use Rattle.std.proofs.Common.{◌≡◌, ℕ, ◌+◌, Bool, true, false, cond, List, [], ◌∷◌, ◌++◌, length, map, Option, Some, None, refl, ap, ◌∙◌, arith}
+use Rattle.std.proofs.Common.{◌≡◌, ℕ, ◌+◌, Bool, cond, List, [], ◌∷◌, ◌++◌, length, map, Option, Some, None, refl, ap, ◌∙◌, arith}
 use Rattle.std.specs.Prelude.{count_by}
-use Rattle.std.specs.List.{find}
-use Rattle.std.specs.Option.{option_map, option_or}
-use Rattle.std.proofs.lemmas.List.Folds.{find-append}
 use Rattle.std.proofs.lemmas.List.Sums.{fold-append}
 use Rattle.std.proofs.lemmas.List.{length-append}
-use Rattle.babel_prefix.proofs.Counted.{count-none, count-push}
+use Rattle.babel_prefix.proofs.Counted.{count-push, counted-push, map-same}
 use Rattle.babel_capture.specs.declared.link.Link.{Link}
 use Rattle.babel_capture.specs.declared.reason.Reason.{Reason}
 use Rattle.babel_capture.specs.declared.reason.Reason.TheVariants as reasons
@@ -24,25 +21,7 @@ abbrev Count : Type 0
 Count = Option (ℕ × ℕ)
 
 abbrev bumped : Bool → ℕ → Count → Count
-bumped true at old = one_more at old
-bumped false at old = old
-
-merged : (n m at : ℕ) (s : Made) (b : Bool) (f : Option Made) → m ≡ n + cond b 1 0 → (f ≡ None → n ≡ 0) → s.number ≡ at
-    → option_map (λ (x : Made). (m, x.number)) (option_or f (cond b (Some s) None)) ≡ bumped b at (option_map (λ (x : Made). (n, x.number)) f)
-merged n m at s true None is none here = (let one : m ≡ 1 = is ∙ (rw (none refl) refl) in rw (one, here) refl)
-merged n m at s false None is none here = refl
-merged n m at s true (Some x) is none here = rw is refl
-merged n m at s false (Some x) is none here = (let e : m ≡ n = omega arith in ap (λ (k : ℕ). Some (k, x.number)) e)
-
-left-push : (reason : Reason) (made : List Made) (s : Made) → left_for (made ++ s ∷ []) reason ≡ bumped (is_left_for reason s.what) s.number (left_for made reason)
-left-push reason made s =
-    let p : Made → Bool = λ x. is_left_for reason x.what in
-    ap (λ (f : Option Made). option_map (λ (x : Made). (count_by p (made ++ s ∷ []), x.number)) f) (find-append p made (s ∷ []))
-    ∙ merged (count_by p made) (count_by p (made ++ s ∷ [])) s.number s (p s) (find p made) (count-push p made s) (count-none p made) refl
-
-map-same : (f g : Reason → Count) → ((r : Reason) → f r ≡ g r) → (rs : List Reason) → map f rs ≡ map g rs
-map-same f g same [] = refl
-map-same f g same (r ∷ rs) = ap (λ (x : Count). x ∷ map f rs) (same r) ∙ ap (λ (t : List Count). g r ∷ t) (map-same f g same rs)
+bumped b at old = cond b (one_more at old) old
 
 -- one more datagram left out changes the place of its reason
 set_one : (f : Reason → Count) (at : ℕ) (reason : Reason) (missed : Option Origin) → map (λ (r : Reason). bumped (is_left_for r (left reason missed)) at (f r)) all_reasons ≡ left_with (map f all_reasons) (Some reason) at
@@ -130,7 +109,7 @@ counts-push made one is =
     let all = made ++ one ∷ [] in
     let packets : length all ≡ length made + 1 = length-append made (one ∷ []) in
     let each : map (left_for all) all_reasons ≡ left_with (map (left_for made) all_reasons) (reason_of one.what) one.number =
-    map-same (left_for all) (λ r. bumped (is_left_for r one.what) one.number (left_for made r)) (λ r. left-push r made one) all_reasons
+    map-same (left_for all) (λ r. bumped (is_left_for r one.what) one.number (left_for made r)) (λ r. counted-push (λ m. m.number) one_more (λ at. refl) (λ at n here. refl) (λ m. is_left_for r m.what) made one) all_reasons
     ∙ by_found (left_for made) one.number one.what in
     let left_out = each ∙ ap (λ (n : ℕ). left_with (map (left_for made) all_reasons) (reason_of one.what) n) is in
     let short = count-push (λ (m : Made). is_short m.what) made one in

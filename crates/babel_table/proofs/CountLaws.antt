@@ -1,12 +1,11 @@
 -- The counts of sayings and one more.
-use Rattle.std.proofs.Common.{◌≡◌, ℕ, ◌+◌, Bool, true, false, ◌||◌, cond, List, [], ◌∷◌, ◌++◌, length, map, Option, Some, None, refl, ap, ◌∙◌, arith}
+use Rattle.std.proofs.Common.{◌≡◌, ℕ, ◌+◌, Bool, ◌||◌, cond, List, [], ◌∷◌, ◌++◌, length, map, Option, Some, None, refl, ap, ◌∙◌, arith}
 use Rattle.std.specs.Prelude.{Ok, count_by}
-use Rattle.std.specs.List.{find, list_any}
-use Rattle.std.specs.Option.{option_map, option_or}
-use Rattle.std.proofs.lemmas.List.Folds.{find-append, list_any-append}
+use Rattle.std.specs.List.{list_any}
+use Rattle.std.proofs.lemmas.List.Folds.{list_any-append}
 use Rattle.std.proofs.Math.Bool.{or-false}
 use Rattle.std.proofs.lemmas.List.{length-append}
-use Rattle.babel_prefix.proofs.Counted.{count-none, count-push}
+use Rattle.babel_prefix.proofs.Counted.{count-push, counted-push, map-same}
 use Rattle.babel_tlv.specs.declared.event.Event.{Event}
 use Rattle.babel_tlv.specs.declared.event.Event.TheVariants as events
 use Rattle.babel_tlv.specs.declared.reason.Reason.{Reason}
@@ -21,25 +20,7 @@ abbrev Count : Type 0
 Count = Option (ℕ × ℕ)
 
 abbrev bumped : Bool → ℕ → Count → Count
-bumped true at old = one_more at old
-bumped false at old = old
-
-merged : (n m at : ℕ) (s : Saying) (b : Bool) (f : Option Saying) → m ≡ n + cond b 1 0 → (f ≡ None → n ≡ 0) → s.at ≡ at
-    → option_map (λ (x : Saying). (m, x.at)) (option_or f (cond b (Some s) None)) ≡ bumped b at (option_map (λ (x : Saying). (n, x.at)) f)
-merged n m at s true None is none here = (let one : m ≡ 1 = is ∙ (rw (none refl) refl) in rw (one, here) refl)
-merged n m at s false None is none here = refl
-merged n m at s true (Some x) is none here = rw is refl
-merged n m at s false (Some x) is none here = (let e : m ≡ n = omega arith in ap (λ (k : ℕ). Some (k, x.at)) e)
-
-ignored-push : (reason : Reason) (said : List Saying) (s : Saying) → ignored_in (said ++ s ∷ []) reason ≡ bumped (is_ignored_for reason s.what) s.at (ignored_in said reason)
-ignored-push reason said s =
-    let p : Saying → Bool = λ x. is_ignored_for reason x.what in
-    ap (λ (f : Option Saying). option_map (λ (x : Saying). (count_by p (said ++ s ∷ []), x.at)) f) (find-append p said (s ∷ []))
-    ∙ merged (count_by p said) (count_by p (said ++ s ∷ [])) s.at s (p s) (find p said) (count-push p said s) (count-none p said) refl
-
-map-same : (f g : Reason → Count) → ((r : Reason) → f r ≡ g r) → (rs : List Reason) → map f rs ≡ map g rs
-map-same f g same [] = refl
-map-same f g same (r ∷ rs) = ap (λ (x : Count). x ∷ map f rs) (same r) ∙ ap (λ (t : List Count). g r ∷ t) (map-same f g same rs)
+bumped b at old = cond b (one_more at old) old
 
 -- one more ignored TLV changes the place of its reason
 set_one : (f : Reason → Count) (at : ℕ) (reason : Reason) → map (λ (r : Reason). bumped (is_ignored_for r (Ok (events.Ignored reason))) at (f r))
@@ -84,7 +65,7 @@ counts-push said tlv event =
     let more : length all ≡ length said + 1 = length-append said (one ∷ []) in
     let updates : count_by is_update all ≡ count_by is_update said + cond (is_update one) 1 0 = count-push is_update said one in
     let each : map (ignored_in all) all_reasons ≡ ignored_with (map (ignored_in said) all_reasons) event tlv.at =
-    map-same (ignored_in all) (λ r. bumped (is_ignored_for r (Ok event)) tlv.at (ignored_in said r)) (λ r. ignored-push r said one) all_reasons
+    map-same (ignored_in all) (λ r. bumped (is_ignored_for r (Ok event)) tlv.at (ignored_in said r)) (λ r. counted-push (λ s. s.at) one_more (λ at. refl) (λ at n here. refl) (λ s. is_ignored_for r s.what) said one) all_reasons
     ∙ by_event (ignored_in said) tlv.at event in
     ap (λ (n : ℕ). counts n (count_by is_update all) (list_any is_4 all) (map (ignored_in all) all_reasons)) more
     ∙ ap (λ (n : ℕ). counts (length said + 1) n (list_any is_4 all) (map (ignored_in all) all_reasons)) updates

@@ -20,11 +20,17 @@ use std::marker::Model;
 const SPARE: usize = 64;
 
 /// Where an entry stands; once it is held no more, where another one can.
-#[derive(Clone, Copy)]
+#[derive(Copy)]
 struct Cell<S> {
     subject: Subject<S>,
     entry: Entry,
     is_held: bool,
+}
+
+impl<S: Copy> Clone for Cell<S> {
+    fn clone(&self) -> Result<Cell<S>, AllocError> {
+        Ok(*self)
+    }
 }
 
 /// The entries of many subjects. A sender repeats what it says in one order, so the cell behind the

@@ -1,5 +1,6 @@
 use crate::subject::Subject;
 use babel_tlv::Ann;
+use std::alloc::AllocError;
 
 /// How what is held for a subject changes.
 #[derive(Clone, Copy)]
@@ -15,7 +16,7 @@ pub enum ChangeKind {
 }
 
 /// That what is held for a subject changes.
-#[derive(Clone, Copy)]
+#[derive(Copy)]
 pub struct Change<S> {
     /// When, in nanoseconds since the start of 1970.
     pub time: u128,
@@ -23,4 +24,10 @@ pub struct Change<S> {
     pub subject: Subject<S>,
     /// How.
     pub kind: ChangeKind,
+}
+
+impl<S: Copy> Clone for Change<S> {
+    fn clone(&self) -> Result<Change<S>, AllocError> {
+        Ok(*self)
+    }
 }

@@ -14,11 +14,17 @@ use std::collections::BTreeSet;
 use std::marker::Model;
 
 /// When a subject is looked at. Ordered by time, then by key, then by sender.
-#[derive(Clone, Copy, PartialEq, Eq, PartialOrd, Ord)]
+#[derive(Copy, PartialEq, Eq, PartialOrd, Ord)]
 pub(crate) struct Expiry<S> {
     pub(crate) time: u128,
     key: Key,
     sender: S,
+}
+
+impl<S: Copy> Clone for Expiry<S> {
+    fn clone(&self) -> Result<Expiry<S>, AllocError> {
+        Ok(*self)
+    }
 }
 
 impl<S: Sender> Expiry<S> {

@@ -7,7 +7,7 @@ use babel_tlv::Ann;
 use std::alloc::AllocError;
 
 /// What is told: a line of its own.
-#[derive(Clone, Copy)]
+#[derive(Copy)]
 pub enum Telling<S> {
     /// What is held for a subject changes.
     Change(Change<S>),
@@ -20,6 +20,12 @@ pub enum Telling<S> {
         /// What the best match (RFC 9079, 4) announces now; `None` where there is none.
         answer: Option<Ann>,
     },
+}
+
+impl<S: Copy> Clone for Telling<S> {
+    fn clone(&self) -> Result<Telling<S>, AllocError> {
+        Ok(*self)
+    }
 }
 
 impl<S: Sender> Telling<S> {
