@@ -1,6 +1,6 @@
 -- The lines that `events` writes: this project's own. A place, a prefix, an address and a route are
 -- written as in the lines of the other commands.
-use Rattle.std.specs.Prelude.{ℕ, Bool, true, not, if◌then◌else◌, List, [], ◌∷◌, ◌++◌, codes}
+use Rattle.std.specs.Prelude.{ℕ, Bool, true, ◌==◌, not, if◌then◌else◌, List, [], ◌∷◌, ◌++◌, codes}
 use Rattle.std.specs.Prelude.{Option, None, Some}
 use Rattle.std.specs.Fmt.{decimal}
 use Rattle.std.specs.Option.{option_map}
@@ -35,15 +35,21 @@ use Rattle.babel_dump.specs.declared.spelling.Spelling.{Spelling}
 abbrev pub time_of : Telling Speaker → ℕ
 time_of (tellings.Change change) = change.time
 time_of (tellings.Answer time sender answer) = time
+time_of (tellings.Silent time sender since routes) = time
+time_of (tellings.Returns time sender) = time
 
 abbrev pub speaker_of : Telling Speaker → Speaker
 speaker_of (tellings.Change change) = change.subject.sender
 speaker_of (tellings.Answer time sender answer) = sender
+speaker_of (tellings.Silent time sender since routes) = sender
+speaker_of (tellings.Returns time sender) = sender
 
--- what is held after it, or answered from then on
+-- what is held after it, or answered from then on; of who is silent or returns nothing
 abbrev pub held_from : Telling Speaker → Option Held
 held_from (tellings.Change change) = option_map helds.Route (held_after change.kind)
 held_from (tellings.Answer time sender answer) = option_map helds.Route answer
+held_from (tellings.Silent time sender since routes) = None
+held_from (tellings.Returns time sender) = None
 
 abbrev pub kind_verb : ChangeKind → List ℕ
 kind_verb (kinds.Announced ann) = codes "announces"
@@ -54,6 +60,8 @@ kind_verb kinds.Expired = codes "expires"
 abbrev pub verb : Telling Speaker → List ℕ
 verb (tellings.Change change) = kind_verb change.kind
 verb (tellings.Answer time sender answer) = codes "answers"
+verb (tellings.Silent time sender since routes) = codes "silent"
+verb (tellings.Returns time sender) = codes "returns"
 
 -- ---- text
 
@@ -82,12 +90,20 @@ abbrev pub after_text : Spelling → View → Option Announcement → List ℕ
 after_text spelling view None = []
 after_text spelling view (Some ann) = codes " " ++ announcement_text spelling view ann
 
--- of a change ` DST from SRC` and what is held after it; of an answer that, or ` none`
+-- ` since TIME, holding N routes`
+abbrev pub silence_text : (since routes : ℕ) → List ℕ
+silence_text since routes = codes " since " ++ time_or (within_years since) ++ codes ", holding "
+    ++ decimal routes ++ (if routes == 1 then codes " route" else codes " routes")
+
+-- of a change ` DST from SRC` and what is held after it; of an answer that, or ` none`; of who falls
+-- silent since when, and what it holds; of who returns nothing
 abbrev pub told_text : Spelling → View → Telling Speaker → List ℕ
 told_text spelling view (tellings.Change change) =
     key_text spelling change.subject.key ++ after_text spelling view (held_after change.kind)
 told_text spelling view (tellings.Answer time sender answer) =
     codes " " ++ answer_text spelling view (option_map helds.Route answer)
+told_text spelling view (tellings.Silent time sender since routes) = silence_text since routes
+told_text spelling view (tellings.Returns time sender) = []
 
 -- ` link N vlan N.N VERB `, and what is told
 abbrev pub event_end : Spelling → View → Telling Speaker → List ℕ
@@ -121,12 +137,27 @@ told_json spelling pair (tellings.Change change) =
     addressed_json (prefix_text spelling change.subject.key.dst)
     (prefix_text spelling change.subject.key.src)
 told_json spelling pair (tellings.Answer time sender answer) = asked_json spelling pair
+told_json spelling pair (tellings.Silent time sender since routes) = []
+told_json spelling pair (tellings.Returns time sender) = []
 
--- `,"event":"VERB","destination":"DST","source":"SRC","answer":ANSWER}`
+-- `,"since":"TIME","routes":N`
+abbrev pub silence_json : (since routes : ℕ) → List ℕ
+silence_json since routes =
+    codes ",\"since\":" ++ time_json (within_years since) ++ codes ",\"routes\":" ++ decimal routes
+
+-- `,"destination":"DST","source":"SRC","answer":ANSWER`; of who is silent `,"since":"TIME","routes":N`
+abbrev pub members_json : Spelling → View → Option AddrPair → Telling Speaker → List ℕ
+members_json spelling view pair (tellings.Silent time sender since routes) =
+    silence_json since routes
+members_json spelling view pair (tellings.Returns time sender) = []
+members_json spelling view pair told = codes "," ++ told_json spelling pair told
+    ++ codes ",\"answer\":" ++ answer_json spelling view (held_from told)
+
+-- `,"event":"VERB"`, and what happens
 abbrev pub event_end_json : Spelling → View → Option AddrPair → Telling Speaker → List ℕ
 event_end_json spelling view pair told =
-    codes ",\"event\":\"" ++ verb told ++ codes "\"," ++ told_json spelling pair told
-    ++ codes ",\"answer\":" ++ answer_json spelling view (held_from told) ++ codes "}" ++ newline
+    codes ",\"event\":\"" ++ verb told ++ codes "\"" ++ members_json spelling view pair told
+    ++ codes "}" ++ newline
 
 -- `{"time":"TIME","sender":"ADDRESS","interface":N,"link":N,"vlans":[N,N],"name":"NAME"`, and then
 -- `,"event":"VERB","destination":"DST","source":"SRC","answer":ANSWER}`

@@ -34,7 +34,7 @@ use Rattle.babel_timeline.specs.declared.telling.Telling.{Telling}
 use Rattle.babel_timeline.specs.declared.telling.Telling.TheVariants as tellings
 use Rattle.babel_timeline.specs.Accounts.{IsAccount, Said}
 use Rattle.babel_timeline.specs.Rows.{AllLast, Rows}
-use Rattle.babel_timeline.specs.Telling.{AreAnswers, AskedFor, answered, said_of}
+use Rattle.babel_timeline.specs.Telling.{AreAnswers, AskedFor, answered, of_rows, said_of}
 use Rattle.babel_dump.specs.CaptureRun.{IsOutcomeOf}
 use Rattle.babel_dump.specs.CaptureText.{senders_status}
 use Rattle.babel_dump.specs.Device.{GaveOctets, InputState}
@@ -101,10 +101,11 @@ AreInOrder made =
 
 -- ---- what is told
 
--- the tellings are these changes; or, where addresses are asked for, their answers
+-- but for who is silent or returns, the tellings are these changes; or, where addresses are asked
+-- for, their answers
 abbrev pub AreTold : AskedFor → List (Change Speaker) → Rows Speaker → List (Telling Speaker)
     → Type 0
-AreTold None changes rows told = told ≡ map tellings.Change changes
+AreTold None changes rows told = of_rows None told ≡ map tellings.Change changes
 AreTold (Some pair) changes rows told = AreAnswers speaker_cmp pair told rows
 
 -- the changes account for what records said, up to a moment that is no later than they are, or than

@@ -14,7 +14,7 @@ use Rattle.babel_capture.specs.declared.tallies.Origin.{Origin}
 use Rattle.babel_capture.specs.declared.window.Moment.{Moment}
 use Rattle.babel_timeline.specs.Hearing.{CountsPacket, octets_heard, report_of}
 use Rattle.babel_timeline.specs.Rows.{AllLast}
-use Rattle.babel_timeline.specs.Telling.{Tells, TellsEnds, answered}
+use Rattle.babel_timeline.specs.Telling.{Tells, TellsEnds, answered, of_rows}
 use Rattle.babel_timeline.specs.Accounts.{Said}
 use Rattle.babel_timeline.specs.declared.heard.Heard.{Heard}
 use Rattle.babel_timeline.specs.declared.teller.Teller.{Teller}
@@ -167,7 +167,7 @@ pub record EndsBy (events : Events) (moment : ℕ) (old new : Hearing)
     (before told : List (Telling Speaker)) : Type 0 where
   pub ended : List (Telling Speaker)
   pub tells : TellsEnds speaker_cmp events.expiry (asked_by events) moment old.teller.timeline.rows
-      new.teller.timeline.rows [] ended
+      new.teller.timeline.rows (of_rows (asked_by events) []) (of_rows (asked_by events) ended)
   pub last : AllLast speaker_cmp events.expiry moment new.teller.timeline.rows
   pub printed : List (Telling Speaker)
   pub from : TellsThen (Some moment) old.since ended new.since printed
@@ -195,7 +195,7 @@ pub record HearsPacket (events : Events) (origin : Origin) (time : ℕ) (packet 
   pub said : List (Said Speaker)
   pub is_said : IsSaid events time origin.place origin.sender packet said
   pub tells : Tells speaker_cmp events.expiry (asked_by events) said time old.timeline.rows
-      new.timeline.rows before told
+      new.timeline.rows (of_rows (asked_by events) before) (of_rows (asked_by events) told)
   pub counts : CountsPacket speaker_cmp (speaker_at origin)
       (record { sender = origin.sender; via_v6 = events.limits.via_v6 }) packet old.heard.entries
       new.heard.entries

@@ -3,7 +3,8 @@ ghost use Rattle.std.specs.Prelude.{◌≡◌, ◌+◌, ◌++◌, ◌≤◌, len
 ghost use Rattle.babel_timeline.specs.Changes.{held_after};
 ghost use Rattle.babel_dump.specs.EventText.{after_text, asked_json, event_end, event_end_json};
 ghost use Rattle.babel_dump.specs.EventText.{event_front, event_front_json, held_from};
-ghost use Rattle.babel_dump.specs.EventText.{interface_text, key_text, kind_verb, speaker_of};
+ghost use Rattle.babel_dump.specs.EventText.{interface_text, key_text, kind_verb, members_json};
+ghost use Rattle.babel_dump.specs.EventText.{silence_json, silence_text, speaker_of};
 ghost use Rattle.babel_dump.specs.EventText.{tells_place, time_of, told_json, told_text, verb};
 ghost use Rattle.babel_dump.specs.Slices.{HasRoom, TookRoom};
 
@@ -92,12 +93,35 @@ pub(crate) fn push_event_end_json(
 {
     push_text(buffer, r#","event":""#);
     push_text(buffer, verb(told));
-    push_text(buffer, r#"","#);
-    push_told_json(buffer, spelling, pair, told);
-    push_text(buffer, r#","answer":"#);
-    push_answer_json(buffer, spelling, view, held_from(told));
+    push_text(buffer, "\"");
+    push_members(buffer, spelling, view, pair, told);
     push_text(buffer, "}");
     push_octet(buffer, b'\n');
+}
+
+/// Appends the members of an object that say what happens.
+fn push_members(
+    buffer: &mut Vec<u8>,
+    spelling: Spelling,
+    view: View,
+    pair: Option<AddrPair>,
+    told: &Telling<Speaker>,
+)
+    requires { HasRoom buffer.old 243 }
+    ensures text { buffer.new.items
+        ≡ buffer.old.items ++ members_json spelling view pair told.now }
+    ensures room { TookRoom buffer.old buffer.new 243 }
+{
+    match told {
+        Telling::Change(_) | Telling::Answer { .. } => {
+            push_text(buffer, ",");
+            push_told_json(buffer, spelling, pair, told);
+            push_text(buffer, r#","answer":"#);
+            push_answer_json(buffer, spelling, view, held_from(told));
+        }
+        Telling::Silent { since, routes, .. } => push_silence_json(buffer, *since, *routes),
+        Telling::Returns { .. } => {}
+    }
 }
 
 /// When it was.
@@ -107,6 +131,8 @@ pub(crate) fn time_of(told: &Telling<Speaker>) -> u128
     match told {
         Telling::Change(change) => change.time,
         Telling::Answer { time, .. } => *time,
+        Telling::Silent { time, .. } => *time,
+        Telling::Returns { time, .. } => *time,
     }
 }
 
@@ -117,6 +143,8 @@ pub(crate) fn speaker_of(told: &Telling<Speaker>) -> Speaker
     match told {
         Telling::Change(change) => change.subject.sender,
         Telling::Answer { sender, .. } => *sender,
+        Telling::Silent { sender, .. } => *sender,
+        Telling::Returns { sender, .. } => *sender,
     }
 }
 
@@ -127,6 +155,7 @@ fn held_from(told: &Telling<Speaker>) -> Option<Held>
     let answer = match told {
         Telling::Change(change) => held_after(change.kind),
         Telling::Answer { answer, .. } => *answer,
+        Telling::Silent { .. } | Telling::Returns { .. } => None,
     };
     Some(Held::Route(answer?))
 }
@@ -149,6 +178,8 @@ fn verb(told: &Telling<Speaker>) -> &'static str
     match told {
         Telling::Change(change) => kind_verb(change.kind),
         Telling::Answer { .. } => "answers",
+        Telling::Silent { .. } => "silent",
+        Telling::Returns { .. } => "returns",
     }
 }
 
@@ -199,7 +230,34 @@ fn push_told(buffer: &mut Vec<u8>, spelling: Spelling, view: View, told: &Tellin
             push_text(buffer, " ");
             push_answer(buffer, spelling, view, held_from(told));
         }
+        Telling::Silent { since, routes, .. } => push_silence(buffer, *since, *routes),
+        Telling::Returns { .. } => {}
     }
+}
+
+/// Appends since when a sender is silent, and how many routes it holds.
+fn push_silence(buffer: &mut Vec<u8>, since: u128, routes: usize)
+    requires { HasRoom buffer.old 74 }
+    ensures text { buffer.new.items ≡ buffer.old.items ++ silence_text since routes }
+    ensures room { TookRoom buffer.old buffer.new 74 }
+{
+    push_text(buffer, " since ");
+    push_time_or(buffer, Time::new(since));
+    push_text(buffer, ", holding ");
+    push_decimal(buffer, routes);
+    push_text(buffer, if routes == 1 { " route" } else { " routes" });
+}
+
+/// Appends the same: two members of an object.
+fn push_silence_json(buffer: &mut Vec<u8>, since: u128, routes: usize)
+    requires { HasRoom buffer.old 71 }
+    ensures text { buffer.new.items ≡ buffer.old.items ++ silence_json since routes }
+    ensures room { TookRoom buffer.old buffer.new 71 }
+{
+    push_text(buffer, r#","since":"#);
+    push_time_json(buffer, Time::new(since));
+    push_text(buffer, r#","routes":"#);
+    push_decimal(buffer, routes);
 }
 
 /// Appends a key.
@@ -242,6 +300,7 @@ fn push_told_json(
             push_addressed(buffer, spelling, key.dst(), key.src());
         }
         Telling::Answer { .. } => push_asked(buffer, spelling, pair),
+        Telling::Silent { .. } | Telling::Returns { .. } => {}
     }
 }
 

@@ -119,7 +119,7 @@ impl Since {
             → HasAnswers (earlier ++ told_early (Some moment) (told.now ∷ [])) self.new) }
     {
         match told {
-            Telling::Change(_) => Ok(()),
+            Telling::Change(_) | Telling::Silent { .. } | Telling::Returns { .. } => Ok(()),
             Telling::Answer {
                 time,
                 sender,

@@ -11,3 +11,6 @@ pub mod TakingLaws
 pub mod HearingLaws
 pub mod PlaceLaws
 pub mod LaterLaws
+pub mod WatchLaws
+pub mod CountLaws
+pub mod SilenceTold

@@ -8,3 +8,4 @@ pub mod Telling
 pub mod BestAnswers
 pub mod Taking
 pub mod Hearing
+pub mod Silence

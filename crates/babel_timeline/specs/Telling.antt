@@ -1,8 +1,9 @@
 -- What is told of many senders as their packets come: this project's own.
-use Rattle.std.specs.Prelude.{◌≡◌, ◌≢◌, ℕ, ◌+◌, ◌≤◌, ◌==◌, Bool, true, ◌&&◌, if◌then◌else◌, List}
+use Rattle.std.specs.Prelude.{◌≡◌, ◌≢◌, ℕ, ◌+◌, ◌≤◌, ◌==◌, Bool, true, false, ◌&&◌, if◌then◌else◌, List}
 use Rattle.std.specs.Prelude.{[], ◌∷◌, ◌++◌, map, fold, Option, Some, None}
 use Rattle.std.specs.declared.cmp.Ordering.{Ordering}
 use Rattle.std.specs.BTreeMap.{is_at}
+use Rattle.std.specs.List.{filter}
 use Rattle.babel_prefix.specs.Address.{Address, AddressPrefix, prefix_at}
 use Rattle.babel_prefix.specs.Block.{leading_bits}
 use Rattle.babel_prefix.specs.Width.{same_family, width_of}
@@ -56,6 +57,20 @@ abbrev pub said_of : {S : Type 0} → AskedFor → View → S → List Told → 
 said_of asked view sender told =
     map (λ one. said sender one.when (seen_event asked view one.event)) told
 
+-- ---- what is told of rows
+
+-- whether it is told of what is held, and not of who is silent or returns
+abbrev pub is_of_rows : {S : Type 0} → Telling S → Bool
+is_of_rows (tellings.Change told) = true
+is_of_rows (tellings.Answer time sender answer) = true
+is_of_rows (tellings.Silent time sender since routes) = false
+is_of_rows (tellings.Returns time sender) = false
+
+-- all that is told of what is held: where addresses are asked for, that is all
+abbrev pub of_rows : {S : Type 0} → AskedFor → List (Telling S) → List (Telling S)
+of_rows None told = filter is_of_rows told
+of_rows (Some pair) told = told
+
 -- ---- answers
 
 -- the key of the two addresses alone
@@ -71,6 +86,8 @@ module _ {S : Type 0} (cmp : S → S → Ordering) where
   answer_after sender old (tellings.Change told) = old
   answer_after sender old (tellings.Answer time other answer) =
       if is_at (cmp sender) other then answer else old
+  answer_after sender old (tellings.Silent time other since routes) = old
+  answer_after sender old (tellings.Returns time other) = old
 
   abbrev pub answered : List (Telling S) → S → Option Announcement
   answered told sender = fold (answer_after sender) None told
@@ -86,6 +103,8 @@ module _ {S : Type 0} (cmp : S → S → Ordering) where
   abbrev pub AnswersAnew : List (Telling S) → Telling S → Type 0
   AnswersAnew before (tellings.Change told) = ⊥
   AnswersAnew before (tellings.Answer time sender answer) = answered before sender ≢ answer
+  AnswersAnew before (tellings.Silent time sender since routes) = ⊥
+  AnswersAnew before (tellings.Returns time sender) = ⊥
 
   -- the tellings are answers, the last of each sender is what it answers, and none tells the same
   -- again

@@ -5,8 +5,11 @@ ghost use Rattle.std.specs.BTreeMap.{get, insert_entry, is_at};
 ghost use Rattle.std.specs.BTreeMap.Range.{IsLeBy};
 ghost use Rattle.std.specs.List.Sorted.{IsStrictlySortedBy};
 ghost use Rattle.std.specs.Map.{keys_of, lookup, remove_entry, set_value};
+ghost use Rattle.babel_tlv.specs.Keys.{key_cmp};
+ghost use Rattle.babel_tlv.specs.Route.{RouteKey};
 ghost use Rattle.babel_timeline.specs.Places.{HasGrown, Holds, IsFree, IsPlaced};
 ghost use Rattle.babel_timeline.specs.Rows.{subject_cmp};
+ghost use Rattle.babel_timeline.specs.Silence.{row_count};
 ghost use Rattle.babel_timeline.specs.declared.subject.Subject.{Subject as Of};
 
 use crate::entry::Entry;
@@ -153,6 +156,30 @@ fn last_up_to<S: Sender>(
     Some(*subject)
 }
 
+/// How many subjects of this one's sender have a place, from it on, where it has the first key.
+fn count_from<S: Sender>(places: &BTreeMap<Subject<S>, usize>, from: Subject<S>) -> usize
+    requires { (key : RouteKey) → IsLeBy key_cmp from.key key }
+    ensures { result ≡ row_count S.cmp from.sender places.now.entries }
+{
+    let sender = from.sender;
+    let mut subjects = places.range(from..);
+    let mut count = 0;
+    while let Some((subject, _)) = subjects.next() {
+        if !has_sender(subject, sender) {
+            return count;
+        }
+        count += 1;
+    }
+    count
+}
+
+/// Whether a subject is of this sender.
+fn has_sender<S: Sender>(subject: &Subject<S>, sender: S) -> bool
+    ensures { result ≡ is_at (S.cmp sender) subject.now.sender }
+{
+    sender == subject.sender
+}
+
 impl<S: Sender> Cells<S> {
     /// No entries.
     pub(crate) fn new(alloc: Global) -> Cells<S>
@@ -203,6 +230,14 @@ impl<S: Sender> Cells<S> {
         ensures { self.new ≡ self.old }
     {
         self.last = last;
+    }
+
+    /// How many entries are of this subject's sender, where it has the first key.
+    pub(crate) fn count_from(&self, from: Subject<S>) -> usize
+        requires { (key : RouteKey) → IsLeBy key_cmp from.key key }
+        ensures { result ≡ row_count S.cmp from.sender self.now }
+    {
+        count_from(&self.places, from)
     }
 
     /// Has this entry for a subject that has none.

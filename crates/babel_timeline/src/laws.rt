@@ -9,6 +9,8 @@ ghost use Rattle.babel_timeline.specs.Laws.{EachRetractedKeepsAccount, ExpiringK
 ghost use Rattle.babel_timeline.specs.Laws.{LaterChangesTurnRows};
 ghost use Rattle.babel_timeline.specs.Laws.{RetractingAllKeepsAccount, RetractingKeepsAccount};
 ghost use Rattle.babel_timeline.specs.Laws.{SilenceKeepsAccount};
+ghost use Rattle.babel_timeline.specs.Silence.{BeginsWatch, HelloKeepsWatch, SilenceKeepsWatch};
+ghost use Rattle.babel_timeline.specs.Silence.{SilentAreTold};
 
 use crate::sender::Sender;
 
@@ -45,4 +47,14 @@ pub fn later_changes_turn_rows<S: Sender>()
 pub fn answers_are_best<S: Sender>()
     ensures rows { RowsAnswerBest S.cmp }
     ensures said { (factor : Option ℕ) → AnswersAreBest S.cmp factor }
+{}
+
+/// RFC 8966, 3.4.1, appendix A.1: where times do not run backwards, and all are told that fall silent
+/// by a time, exactly those senders have been told to be silent of which the last Hello came 3.5
+/// times its Interval before it, or earlier.
+pub fn silent_are_told<S: Sender>()
+    ensures begun { BeginsWatch S.cmp }
+    ensures hello { HelloKeepsWatch S.cmp }
+    ensures silence { SilenceKeepsWatch S.cmp }
+    ensures told { SilentAreTold S.cmp }
 {}

@@ -23,6 +23,10 @@
 //! - A packet changes its sender's report alone, which counts the TLVs of the packets heard of it
 //!   as that of a dump of these packets does. — `Teller::hear` · *counts* (`CountsPacket`);
 //!   `Teller::report`
+//! - A sender is silent once 3.5 times the Interval of its last multicast Hello has passed since
+//!   then (RFC 8966, 3.4.1): each that falls silent by a time is told, once, in order; and its next
+//!   such Hello ends it. — `laws::silent_are_told` · *begun*, *hello*, *silence*, *told*;
+//!   `Watch::fall_silent` · *none*, *first*; `hear` · *returns*, *taken*
 #![tactic(auto)]
 
 mod asked;
@@ -39,6 +43,7 @@ mod subject;
 mod teller;
 mod telling;
 mod timeline;
+mod watch;
 
 pub use change::{Change, ChangeKind};
 pub use row::Row;
@@ -47,3 +52,4 @@ pub use subject::Subject;
 pub use teller::Teller;
 pub use telling::Telling;
 pub use timeline::Timeline;
+pub use watch::{Silence, Watch};

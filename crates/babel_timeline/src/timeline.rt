@@ -12,6 +12,7 @@ ghost use Rattle.babel_timeline.specs.Kept.{AreQueued, IsBy, expiring};
 ghost use Rattle.babel_timeline.specs.Places.{rows_of};
 ghost use Rattle.babel_timeline.specs.Rows.{AllLast, EndsFirst, HasNone, HasNoneUpTo, IsFirstOf};
 ghost use Rattle.babel_timeline.specs.Rows.{IsLastUpTo, row_at, subject_cmp};
+ghost use Rattle.babel_timeline.specs.Silence.{row_count};
 ghost use Rattle.babel_timeline.specs.declared.change.ChangeKind.TheVariants as kinds;
 ghost use Rattle.babel_timeline.specs.declared.subject.Subject.{Subject as Of};
 
@@ -154,6 +155,11 @@ impl<S: Sender> Timeline<S> {
         Some(entry.row)
     }
 
+    /// Whether rows end.
+    pub(crate) fn has_factor(&self) -> bool {
+        self.factor.is_some()
+    }
+
     /// Whether there may be one more row.
     fn is_full(&self) -> bool
         ensures { IsTrue result ↔ (self.now.limit ≤ length self.now.rows) }
@@ -239,6 +245,14 @@ impl<S: Sender> Timeline<S> {
         } else {
             None
         }
+    }
+
+    /// How many rows a sender has.
+    pub fn count_of(&self, sender: S) -> usize
+        ensures { result ≡ row_count S.cmp sender self.now.rows }
+    {
+        let key = first_key();
+        self.cells.count_from(Subject { sender, key })
     }
 
     /// Of what the sender holds for keys up to this one, what it holds for the last of them. Where

@@ -21,3 +21,4 @@ pub mod EventKinds
 pub mod Views
 pub mod ViewsTell
 pub mod Reading
+pub mod Hellos

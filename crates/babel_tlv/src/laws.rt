@@ -3,6 +3,7 @@ ghost use Rattle.std.specs.Prelude.{◌≡◌, ◌↔◌};
 ghost use Rattle.std.specs.Cmp.{IsTotalOrder};
 ghost use Rattle.std.specs.declared.cmp.Ordering.TheVariants.{Equal};
 ghost use Rattle.babel_tlv.specs.declared.held.Held.{Held as HeldValue};
+ghost use Rattle.babel_tlv.specs.Hellos.{HelloIsRead};
 ghost use Rattle.babel_tlv.specs.Nearest.{DefaultIsNearest, NextHopIsNearest, RouterIdIsNearest};
 ghost use Rattle.babel_tlv.specs.Pairs.{held_cmp};
 ghost use Rattle.babel_tlv.specs.Says.{IgnoredTellsNothing};
@@ -71,4 +72,9 @@ pub fn state_is_nearest()
 /// A TLV that is ignored, or refuses the dump, tells nothing of routes: RFC 8966, 4.6.
 pub fn ignored_tells_nothing()
     ensures { IgnoredTellsNothing }
+{}
+
+/// A Hello that is written is read as what it is: RFC 8966, 4.6.5.
+pub fn hellos_are_read()
+    ensures { HelloIsRead }
 {}

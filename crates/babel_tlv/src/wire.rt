@@ -10,7 +10,9 @@ pub const UPDATE: u8 = 8;
 
 /// The type of the one TLV, and of the one sub-TLV, with no length: RFC 8966, 4.6.1, 4.7.1.
 pub(crate) const PAD1: u8 = 0;
-/// The other TLV types that are read: RFC 8966, 4.6.7, 4.6.8.
+/// The other TLV types that are read: RFC 8966, 4.6.5, 4.6.7, 4.6.8.
+pub(crate) const HELLO: u8 = 4;
+
 pub(crate) const ROUTER_ID: u8 = 6;
 
 pub(crate) const NEXT_HOP: u8 = 7;
@@ -26,6 +28,9 @@ pub(crate) const AE_LINK_LOCAL: u8 = 3;
 
 /// The encoding of IPv4 prefixes of routes with IPv6 next hops: RFC 9229, 4.1.
 pub(crate) const AE_IPV4_VIA_IPV6: u8 = 4;
+
+/// The first octet of a Hello's U flag: RFC 8966, 4.6.5.
+pub(crate) const UNICAST_FLAG: u8 = 0x80;
 
 /// Flags of an Update: RFC 8966, 4.6.9.
 pub(crate) const PREFIX_FLAG: u8 = 0x80;
