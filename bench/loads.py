@@ -303,6 +303,18 @@ def write_deepest(folder, name, rng, count):
         write_routes(folder / f"{name}{other}.dump", routes + found)
 
 
+def write_restate(path, rng, count):
+    """128 nested sources of one network, and so many of its hosts that say the longest of them
+    again: no host changes what is answered."""
+    anns = itertools.cycle(announcements(rng, 20))
+    sources = nested(0x2001 << 112 | rng.getrandbits(112), 1)
+    network = 0x2001_0DB8 << 96
+    routes = [(6, network, 32, ann, source) for ann, source in zip(anns, sources)]
+    *_, (_, _, _, *rest) = routes
+    hosts = [(6, network | bits, 128, *rest) for bits in rng.sample(range(1 << 40), count)]
+    write_routes(path, routes + hosts)
+
+
 def comb(rng):
     """128 sources that part from one address at each of its bits, the longest last, so that what a
     destination answers is 128 forks deep."""
@@ -576,6 +588,8 @@ def main():
         rng = random.Random(f"{seed} router-ids {size}")
         write_router_ids(folder / f"router-ids-{size}k.dump", rng, size * 1_024)
     for size in (16, 64):
+        rng = random.Random(f"{seed} restate {size}")
+        write_restate(folder / f"restate-{size}k.dump", rng, size * 1_024)
         rng = random.Random(f"{seed} hidden {size}")
         write_hidden(folder / f"hidden-{size}k.dump", rng, size * 1_024)
     for size in (64, 256):

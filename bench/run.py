@@ -59,7 +59,15 @@ COMPARED = (
     ("chains-256", "chains-256-other"),
 )
 NESTED = ("nested", "nested-sources")
-COUNTED = ("hidden-16k", "hidden-64k", "router-ids-16k", "router-ids-64k", "router-ids-256k")
+COUNTED = (
+    "restate-16k",
+    "restate-64k",
+    "hidden-16k",
+    "hidden-64k",
+    "router-ids-16k",
+    "router-ids-64k",
+    "router-ids-256k",
+)
 MANY_DIFFERENCES = (
     "network-or-hosts-1k",
     "network-or-hosts-2k",

@@ -92,8 +92,8 @@ _babel_dump_options() {
             --accept-cut --max-routes --max-octets --within --match --source --id --summary --json \
             --short --help ;;
         lookup) echo --from --interface --since --until --expiry --hold --v4-via-v6 --quiet \
-            --accept-cut --max-routes --max-octets --strict --json --short --to --src --each \
-            --help ;;
+            --accept-cut --max-routes --max-octets --strict --json --short --with-prefix --to \
+            --src --each --help ;;
         normalise) echo --from --interface --since --until --expiry --hold --v4-via-v6 --quiet \
             --accept-cut --max-routes --max-octets --strict --ignore --routes --body --hex --help \
             ;;
@@ -113,8 +113,8 @@ _babel_dump_options() {
         extract) echo --from --interface --hex --since --until --strict --accept-cut --quiet \
             --max-octets --help ;;
         events) echo --from --interface --since --until --expiry --ignore --to --src --requests \
-            --v4-via-v6 --accept-cut --max-routes --json --quiet --within --match --source --id \
-            --short --help ;;
+            --strict --v4-via-v6 --accept-cut --max-routes --json --quiet --within --match \
+            --source --id --short --help ;;
     esac
 }
 

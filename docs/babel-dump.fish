@@ -120,6 +120,8 @@ __babel_dump_option 'events' -l requests \
     -d 'Also report the requests of each sender for routes'
 __babel_dump_option 'senders extract' -l strict \
     -d 'Reject a capture if any datagram is left out'
+__babel_dump_option 'events' -l strict \
+    -d 'Stop with an error at the first ignored TLV or left-out datagram, or, at the end, if a sender has no Update'
 __babel_dump_option 'show lookup normalise key pairs compare diff events' -l v4-via-v6 \
     -d 'Read IPv4 routes with an IPv6 next hop (address encoding 4, RFC 9229)'
 __babel_dump_option 'show lookup normalise key pairs compare diff' -l quiet \
@@ -182,6 +184,8 @@ __babel_dump_option 'compare' -l count \
     -d 'With --all or --routes: print only how many such blocks, or routes, there are'
 __babel_dump_option 'pairs' -l count \
     -d 'Print only how many rows and how many canonical pairs there are'
+__babel_dump_option 'lookup' -l with-prefix \
+    -d 'Print the route that answers, with its destination and source prefixes'
 __babel_dump_option 'lookup' -l to -x \
     -d 'The destination to look up'
 __babel_dump_option 'lookup' -l src -x \

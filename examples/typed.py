@@ -48,12 +48,21 @@ class Row:
 
 
 @dataclass(frozen=True)
+class Prefixes:
+    """Of a row."""
+
+    destination: Prefix
+    source: Prefix
+
+
+@dataclass(frozen=True)
 class Looked:
-    """Of lookup."""
+    """Of lookup; the last with --with-prefix."""
 
     destination: Address
     source: Address
     answer: Optional[Held]
+    route: Optional[Prefixes] = None
 
 
 @dataclass(frozen=True)
@@ -176,7 +185,7 @@ class Sender:
 
 @dataclass(frozen=True)
 class Event:
-    """Of events; addresses are of `answers`."""
+    """Of events."""
 
     time: str
     sender: Address
@@ -184,9 +193,35 @@ class Event:
     link: Optional[int]
     vlans: List[int]
     name: Optional[str]
-    event: Literal["announces", "changes", "retracts", "expires", "answers"]
-    destination: Union[Address, Prefix]
-    source: Union[Address, Prefix]
+    event: Literal["announces", "changes", "retracts", "expires"]
+    destination: Prefix
+    source: Prefix
+    answer: Optional[Route]
+    before: Optional[Route]
+
+
+@dataclass(frozen=True)
+class Prefixes:
+    """Which route answers."""
+
+    destination: Prefix
+    source: Prefix
+
+
+@dataclass(frozen=True)
+class Answered:
+    """Of events --to; destination and source are those that are asked for."""
+
+    time: str
+    sender: Address
+    interface: int
+    link: Optional[int]
+    vlans: List[int]
+    name: Optional[str]
+    event: Literal["answers"]
+    destination: Address
+    source: Address
+    route: Optional[Prefixes]
     answer: Optional[Route]
     before: Optional[Route]
 
@@ -202,10 +237,39 @@ class Requested:
     vlans: List[int]
     name: Optional[str]
     event: Literal["requests"]
+    to: Optional[Address]
     destination: Optional[Prefix]
     source: Optional[Prefix]
     router_id: Optional[str]
     seqno: Optional[int]
+
+
+@dataclass(frozen=True)
+class Silent:
+    """Of events --expiry; `since` is when the last Hello came."""
+
+    time: str
+    sender: Address
+    interface: int
+    link: Optional[int]
+    vlans: List[int]
+    name: Optional[str]
+    event: Literal["silent"]
+    since: str
+    routes: int
+
+
+@dataclass(frozen=True)
+class Returned:
+    """Of events --expiry; the first Hello of who was silent."""
+
+    time: str
+    sender: Address
+    interface: int
+    link: Optional[int]
+    vlans: List[int]
+    name: Optional[str]
+    event: Literal["returns"]
 
 
 @dataclass(frozen=True)
@@ -219,7 +283,7 @@ class Note:
 
 
 KINDS = Row, Looked, Report, Summary, Counts, Same, Differ, Differences, Stat
-KINDS += FileKey, SenderKey, Sender, Event, Requested
+KINDS += FileKey, SenderKey, Sender, Event, Answered, Requested, Silent, Returned
 
 # What a note has besides.
 NOTES = {

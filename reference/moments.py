@@ -32,7 +32,8 @@ WIDTH = {4: 32, 6: 128}
 FAMILY = {1: 4, 2: 6, 4: 4}
 INFINITY = 0xFFFF
 RESERVED = bytes(8), b"\xff" * 8
-ROUTER_ID, NEXT_HOP, UPDATE = 6, 7, 8
+HELLO, ROUTER_ID, NEXT_HOP, UPDATE = 4, 6, 7, 8
+UNICAST = 0x80
 SOURCE_PREFIX, MANDATORY = 128, 128
 LINK_LOCAL = bytes.fromhex("fe80000000000000")
 FIELDS = "next-hop", "router-id", "seqno", "metric"
@@ -174,6 +175,17 @@ def words_in(packet, sender, before, via_v6):
         yield before + at, parser.word(before + at, kind, body)
 
 
+def intervals_in(packet):
+    """The Interval of each multicast Hello of a packet that says when the next one comes (RFC 8966,
+    3.4.1, 4.6.5)."""
+    for _, kind, body in items_in(packet, 4):
+        if kind != HELLO or len(body) < 6 or body[0] & UNICAST:
+            continue
+        subs = [sub for _, sub, _ in items_in(body[6:])]
+        if big(body, 4, 2) and all(sub is not None and sub < MANDATORY for sub in subs):
+            yield big(body, 4, 2)
+
+
 # ---- the table at a moment
 
 
@@ -241,15 +253,12 @@ def contains_both(key, destination, source):
     )
 
 
-def answer(rows, destination, source):
-    """What the row with the longest destination prefix holds, and among these the longest source
-    prefix."""
-    found = [
-        (key.destination[1], key.source[1], what)
-        for key, what in rows.items()
-        if contains_both(key, destination, source)
-    ]
-    return max(found, key=lambda row: row[:2])[2] if found else None
+def best(rows, destination, source):
+    """The key of the row with the longest destination prefix, and among these the longest source
+    prefix, and what it holds; None and None where there is none."""
+    found = [row for row in rows.items() if contains_both(row[0], destination, source)]
+    lengths = lambda row: (row[0].destination[1], row[0].source[1])
+    return max(found, key=lengths, default=(None, None))
 
 
 # ---- texts
@@ -302,7 +311,8 @@ def stale_note(count):
 @dataclass
 class Event:
     """A line: when, of which sender at which place, what, of which two prefixes or addresses, what
-    is held then, and what was before."""
+    is held then, and what was before; of an answer of which two prefixes it is; of who is silent
+    since when, and how many routes it holds."""
 
     time: int
     origin: tuple
@@ -310,10 +320,17 @@ class Event:
     texts: list
     held: object
     before: object = None
+    route: list = None
+    silence: tuple = ()
 
     def text(self, names):
-        words = [reader.time_text(self.time), sender_text(self.origin, names)]
-        words += [self.what] + ([] if self.what == "answers" else [" from ".join(self.texts)])
+        words = [reader.time_text(self.time), sender_text(self.origin, names), self.what]
+        if self.silence:
+            since, routes = self.silence
+            words += ["since", f"{reader.time_text(since)},", "holding", str(routes)]
+            words.append("route" if routes == 1 else "routes")
+        texts = self.route if self.what == "answers" else self.texts
+        words += [" from ".join(texts)] if texts else []
         words += [what_text(self.held)] if self.held or self.what == "answers" else []
         words += was_words(self.before, self.held) if self.what == "changes" else []
         return " ".join(words) + "\n"
@@ -321,21 +338,28 @@ class Event:
     def json(self, names):
         place, *sender = self.origin
         interface, link, vlans = place
-        return reader.json_line(
-            {
-                "time": reader.time_text(self.time),
-                "sender": reader.text_of(*sender),
-                "interface": interface,
-                "link": link,
-                "vlans": list(vlans),
-                "name": reader.name_text(reader.name_at(place, names)) or None,
-                "event": self.what,
-                "destination": self.texts[0],
-                "source": self.texts[1],
-                "answer": what_json(self.held),
-                "before": what_json(self.before),
-            }
-        )
+        front = {
+            "time": reader.time_text(self.time),
+            "sender": reader.text_of(*sender),
+            "interface": interface,
+            "link": link,
+            "vlans": list(vlans),
+            "name": reader.name_text(reader.name_at(place, names)) or None,
+            "event": self.what,
+        }
+        return reader.json_line(front | self.members())
+
+    def members(self):
+        if self.silence:
+            return {"since": reader.time_text(self.silence[0]), "routes": self.silence[1]}
+        if not self.texts:
+            return {}
+        members = dict(zip(("destination", "source"), self.texts))
+        members |= self.route_json() if self.what == "answers" else {}
+        return members | {"answer": what_json(self.held), "before": what_json(self.before)}
+
+    def route_json(self):
+        return {"route": self.route and dict(zip(("destination", "source"), self.route))}
 
 
 def was_words(before, held):
@@ -358,7 +382,12 @@ class Timeline:
 
     def __init__(self, factor, ignored, pair, most):
         self.factor, self.ignored, self.pair, self.most = factor, ignored, pair, most
-        self.rows, self.events, self.answers, self.lost = {}, [], {}, {}
+        self.rows, self.events, self.answers = {}, [], {}
+        # Who is lost, which datagrams were left out, and what is said of both at once.
+        self.lost, self.left_out, self.notes = set(), set(), []
+        # Of each sender that is waited for when its last Hello came and until when it counts, and
+        # who is silent.
+        self.hellos, self.silent = {}, set()
         # From when on it is told, and what was answered before that, until it has come.
         self.since, self.early = None, {}
 
@@ -388,13 +417,43 @@ class Timeline:
         if not self.pair:
             return
         rows = {key: route for key, (route, _) in self.rows.get(origin, {}).items()}
-        found = seen(answer(rows, *self.pair), self.ignored)
-        before = self.answers.get(origin)
+        key, held = best(rows, *self.pair)
+        found, before = (key, seen(held, self.ignored)), self.answers.get(origin, (None, None))
         if found != before:
             self.answers[origin] = found
-            self.add(Event(time, origin, "answers", list(map(str_of, self.pair)), found, before))
+            pair, route = list(map(str_of, self.pair)), key and key_texts(key)
+            self.add(Event(time, origin, "answers", pair, found[1], before[1], route))
+
+    def leave_out(self, origin, reason, note):
+        """A datagram of a sender was left out: said once, and once for each reason where nothing of
+        it is missing."""
+        if reason in reader.LACKS and origin not in self.lost:
+            self.lost.add(origin)
+            self.notes.append(f"{note}; its routes are not followed")
+        elif reason not in reader.LACKS and (origin, reason) not in self.left_out:
+            self.left_out.add((origin, reason))
+            self.notes.append(note)
 
     def expire(self, moment):
+        """All that has ended at this moment: by its time what expires, and then who is silent."""
+        due = [(end, by_sender(origin), origin) for origin, (_, end) in self.hellos.items()]
+        for time, _, origin in sorted(each for each in due if each[0] <= moment):
+            self.expire_rows(time)
+            since, _ = self.hellos.pop(origin)
+            self.silent.add(origin)
+            silence = since, len(self.rows.get(origin, {}))
+            self.add(Event(time, origin, "silent", [], None, silence=silence))
+        self.expire_rows(moment)
+
+    def hear(self, time, origin, packet):
+        """The Hellos of a packet of a sender, which returns with the first if it was silent."""
+        for interval in intervals_in(packet) if self.factor and not self.pair else ():
+            if origin in self.silent:
+                self.silent.remove(origin)
+                self.add(Event(time, origin, "returns", [], None))
+            self.hellos[origin] = time, time + RFC_FACTOR * interval
+
+    def expire_rows(self, moment):
         """All that has expired at this moment, by its own time, key, sender and place."""
         due = [
             (end, key, origin)
@@ -496,7 +555,7 @@ def read(octets, options):
 def words_of(found, origin, via_v6):
     """What a sender said in its dump, each with its time."""
     before = 0
-    for of, packet, place in found.sent:
+    for of, packet, place, _ in found.sent:
         if of == origin:
             for at, word in words_in(packet, sender_of(origin), before, via_v6):
                 if word:
@@ -535,7 +594,7 @@ def show(octets, options):
 
 def lookup(octets, options):
     rows, notes = table_of(octets, options)
-    found = answer(rows, *map(ipaddress.ip_address, pair_of(options)))
+    _, found = best(rows, *map(ipaddress.ip_address, pair_of(options)))
     return Answer(int(not isinstance(found, tuple)), f"{what_text(found)}\n".encode(), notes)
 
 
@@ -556,28 +615,29 @@ def events(octets, options):
             told.expire(end_of(found, window))
             told.open(end_of(found, window))
     except Fault as cause:
-        return Answer(3, lines_of(told, found, options), (*told.lost.values(), str(cause)))
+        return Answer(3, lines_of(told, found, options), (*told.notes, str(cause)))
     status, none = (0, ()) if found.packets else (1, ("no Babel packets",))
     intervals = [reader.interval_of(sent) for sent in found.packets.values()]
     notes = [*reader.notes_of(found), *reader.time_notes(found, intervals)]
     output = lines_of(told, found, options)
     if options.json and not options.quiet:
         output += "".join(reader.json_line(says) for _, says in notes).encode()
-    return Answer(status, output, (*told.lost.values(), *none, *reader.texts_of(notes)))
+    return Answer(status, output, (*told.notes, *none, *reader.texts_of(notes)))
 
 
 def play(found, told, options):
     """Tells of each record in turn what expires before it and what it says. A fault says whose it
     is, where no sender is named."""
     packets, before = {}, {}
-    for origin, packet, place in found.sent:
+    for origin, packet, place, _ in found.sent:
         packets[place] = origin, packet
-    missed = {} if options.follows_all else {one[-1]: one for one in found.missed}
+    unread = {} if options.follows_all else {one[-1]: one for one in found.unread}
     for place, (_, time) in enumerate(found.records):
         told.expire(time)
         if place in packets:
             origin, packet = packets[place]
             start = before.get(origin, 0)
+            told.hear(time, origin, packet)
             try:
                 for at, word in words_in(packet, sender_of(origin), start, options.v4_via_v6):
                     if word:
@@ -589,10 +649,10 @@ def play(found, told, options):
                 raise Fault(f"{sender_text(origin, found.names)}: {fault}") from fault
             before[origin] = start + len(packet)
         told.open(time)
-        if place in missed:
-            origin, number, reason, _ = missed[place]
-            note = f"{sender_text(origin, found.names)}: datagram left out at packet {number}: "
-            told.lost.setdefault(origin, f"note: {note}{reason}; its routes are not followed")
+        if place in unread:
+            origin, number, reason, _ = unread[place]
+            note = f"note: {sender_text(origin, found.names)}: datagram left out at packet {number}"
+            told.leave_out(origin, reason, f"{note}: {reason}")
 
 
 def lines_of(told, found, options):

@@ -46,7 +46,7 @@ POWERS = None, 0, 3, 6, 9, 12, 127, 128, 138, 160, 255
 # The notes that moments.py has, of those of a table.
 NOTES = re.compile(r"note: (the capture spans|times run backwards|[0-9]+ routes? w)")
 # The notes that it has not, of those of events: what TLVs are ignored, or missing.
-TLV_NOTES = re.compile(r"note: (.*: )?([0-9]+ of [0-9]+ TLVs? ignored|no Updates)")
+TLV_NOTES = re.compile(r"note: (.*: )?(ignored TLV|[0-9]+ of [0-9]+ TLVs? ignored|no Updates)")
 TLV_OBJECTS = b'{"note":"ignored"', b'{"note":"no-updates"'
 
 
@@ -76,6 +76,15 @@ def update(rng, encodings):
     return bytes((8, len(body))) + body
 
 
+def hello(rng):
+    """A Hello, mostly a multicast one that says when the next one comes."""
+    flags = rng.choice((0, 0, 0, 0x40, 0x80, 0xC0))
+    body = struct.pack(">BBHH", flags, 0, rng.randrange(65_536), rng.choice(INTERVALS))
+    body += rng.choice((b"", b"", b"", b"\0", b"\x7f\0", b"\x80\0", b"\1"))
+    body = body[: rng.choice((5, len(body), len(body), len(body)))]
+    return bytes((4, len(body))) + body
+
+
 def packet(rng, encodings):
     """A packet that mostly says something, and seldom can't be read."""
     body = bytes.fromhex("060a0000 0200000000000001")
@@ -84,7 +93,9 @@ def packet(rng, encodings):
     for _ in range(rng.choice((0, 1, 1, 2, 3, 6))):
         if rng.randrange(12) == 0:
             body += bytes.fromhex("060a0000") + rng.choice((b"\0", b"\2", b"\3")) * 8
+        body += hello(rng) if rng.randrange(2) else b""
         body += update(rng, encodings)
+    body += hello(rng) if rng.randrange(2) else b""
     if rng.randrange(60) == 0:
         body += b"\4"
     return b"\x2a\2" + len(body).to_bytes(2, "big") + body

@@ -14,10 +14,12 @@ use crate::{
     place_json, place_text, u16_at, Addr, Failure, Fault, Origin, Place, Seed, INFINITY, UPDATE,
 };
 
+const HELLO: u8 = 4;
 const ROUTER_ID: u8 = 6;
 const NEXT_HOP: u8 = 7;
 const SOURCE_PREFIX: u8 = 128;
 const LINK_LOCAL: u128 = 0xfe80 << 112;
+const RFC_FACTOR: u64 = 35_000_000;
 const NEVER: i128 = i128::MAX;
 const NONE: u32 = u32::MAX;
 
@@ -251,6 +253,40 @@ fn read_words(
         at = end;
     }
     Ok(())
+}
+
+/// Gives the Interval of each multicast Hello of a packet that says when the next one comes.
+fn read_intervals(packet: &[u8], mut take: impl FnMut(u16)) {
+    let mut at = 4;
+    while let Some(&kind) = packet.get(at) {
+        if kind == 0 {
+            at += 1;
+            continue;
+        }
+        let Some((body, end)) = item(packet, at) else {
+            break;
+        };
+        at = end;
+        if kind == HELLO && body.len() >= 6 && body[0] < 128 && are_skipped(&body[6..]) {
+            match u16_at(body, 4) {
+                0 => {}
+                interval => take(interval),
+            }
+        }
+    }
+}
+
+/// Whether these octets are sub-TLVs of which none is mandatory.
+fn are_skipped(octets: &[u8]) -> bool {
+    let mut at = 0;
+    while let Some(&kind) = octets.get(at) {
+        at = match item(octets, at) {
+            _ if kind == 0 => at + 1,
+            Some((_, end)) if kind < 128 => end,
+            _ => return false,
+        };
+    }
+    true
 }
 
 // ---- rows
@@ -958,7 +994,7 @@ fn is_key_of(is_ipv6: bool, dst: Prefix, source: Prefix, pair: (Addr, Addr)) -> 
     }
 }
 
-fn lengths(rows: &Rows, number: u32) -> (u8, u8) {
+fn lengths(rows: &Rows, number: u32) -> Lengths {
     let row = &rows.list[number as usize];
     (
         row.dst().len,
@@ -975,6 +1011,9 @@ fn put_key(out: &mut Out, rows: &Rows, number: u32, between: &[u8]) {
 
 // ---- events
 
+/// Of prefixes of a destination and a source.
+type Lengths = (u8, u8);
+
 struct Sender {
     origin: Origin,
     /// What stands between the time of a line and what happened.
@@ -984,10 +1023,13 @@ struct Sender {
     last: u32,
     next: u32,
     /// The rows of the pair that is asked for, by their lengths; and the answer that was told.
-    matching: BTreeMap<(u8, u8), u32>,
-    told: Option<Seen>,
+    matching: BTreeMap<Lengths, u32>,
+    told: Option<(Lengths, Seen)>,
     /// The answer just before the moment from which on it is told, until it has come.
-    early: Option<Seen>,
+    early: Option<(Lengths, Seen)>,
+    /// When its last Hello came, and until when it counts, while it is waited for.
+    hello: Option<(i128, i128)>,
+    is_silent: bool,
 }
 
 /// The rows of all senders, and when each expires; what is told of them.
@@ -1004,6 +1046,8 @@ pub struct Timeline {
     numbers: HashMap<Origin, u32, Seed>,
     current: usize,
     heap: Vec<(i128, u32)>,
+    /// Until when the last Hello of each sender that is waited for counts.
+    waiting: BTreeMap<(i128, (Addr, Place)), u32>,
     out: Out,
     /// The moment from which on it is told, and when that is.
     since: Option<Moment>,
@@ -1034,6 +1078,7 @@ impl Timeline {
             numbers: HashMap::with_hasher(Seed::new()),
             current: 0,
             heap: Vec::new(),
+            waiting: BTreeMap::new(),
             out: Out::new(),
             since,
             from: i128::MIN,
@@ -1064,6 +1109,9 @@ impl Timeline {
         let number = self.sender(origin, names);
         let before = self.senders[number].octets;
         self.senders[number].octets += packet.len() as u64;
+        if self.factor.is_some() && self.pair.is_none() {
+            read_intervals(packet, |interval| self.hear(time, number as u32, interval));
+        }
         read_words(
             packet,
             origin.sender,
@@ -1090,11 +1138,30 @@ impl Timeline {
                     matching: BTreeMap::new(),
                     told: None,
                     early: None,
+                    hello: None,
+                    is_silent: false,
                 });
             }
             self.current = number as usize;
         }
         self.current
+    }
+
+    /// A Hello of a sender, which returns if it was silent.
+    fn hear(&mut self, time: i128, number: u32, interval: u16) {
+        let origin = self.origin_of(number);
+        let sender = &mut self.senders[number as usize];
+        if let Some((_, until)) = sender.hello {
+            self.waiting.remove(&(until, origin));
+        }
+        let until = after(time, span_of(interval, Some(RFC_FACTOR)));
+        sender.hello = Some((time, until));
+        self.waiting.insert((until, origin), number);
+        if std::mem::replace(&mut sender.is_silent, false) && time >= self.from {
+            self.begin_line(time, number, "returns");
+            self.out.put(if self.json { b"\"}" } else { b"" });
+            self.out.end_line();
+        }
     }
 
     fn take_word(
@@ -1317,8 +1384,8 @@ impl Timeline {
         let mut early: Vec<u32> = (0..self.senders.len() as u32).collect();
         early.sort_unstable_by_key(|sender| self.origin_of(*sender));
         for sender in early {
-            if let Some(seen) = self.senders[sender as usize].early {
-                self.put_answer(self.from, sender, Some(seen), None);
+            if let Some(best) = self.senders[sender as usize].early {
+                self.put_answer(self.from, sender, Some(best), None);
             }
         }
     }
@@ -1328,7 +1395,20 @@ impl Timeline {
         (origin.sender, origin.place)
     }
 
+    /// All that ends by this moment: by its time what expires, and then who is silent.
     fn expire_all(&mut self, moment: i128) {
+        while let Some((&(time, origin), &number)) = self.waiting.first_key_value() {
+            if time > moment {
+                break;
+            }
+            self.expire_rows(time);
+            self.waiting.remove(&(time, origin));
+            self.tell_silent(time, number);
+        }
+        self.expire_rows(moment);
+    }
+
+    fn expire_rows(&mut self, moment: i128) {
         let mut expired: Vec<u32> = Vec::new();
         while let Some(&(time, number)) = self.heap.first() {
             if time > moment {
@@ -1425,6 +1505,7 @@ impl Timeline {
         if self.json {
             self.out.put(b"\",\"destination\":\"");
             put_key(&mut self.out, &self.rows, number, b"\",\"source\":\"");
+            self.out.text.push(b'"');
             self.end_json(after, before);
         } else {
             self.out.text.push(b' ');
@@ -1440,8 +1521,37 @@ impl Timeline {
         self.out.end_line();
     }
 
+    /// Tells that a sender is silent, since when, and how many rows it has.
+    fn tell_silent(&mut self, time: i128, number: u32) {
+        let sender = &mut self.senders[number as usize];
+        sender.is_silent = true;
+        let Some((since, _)) = sender.hello.take() else {
+            return;
+        };
+        let (mut row, mut routes) = (sender.first, 0);
+        while row != NONE {
+            routes += 1;
+            row = self.rows.list[row as usize].after;
+        }
+        if time < self.from {
+            return;
+        }
+        self.begin_line(time, number, "silent");
+        let (middle, end): (&[u8], &[u8]) = match (self.json, routes) {
+            (true, _) => (b"\",\"routes\":", b"}"),
+            (false, 1) => (b", holding ", b" route"),
+            (false, _) => (b", holding ", b" routes"),
+        };
+        self.out.put(if self.json { b"\",\"since\":\"" } else { b" since " });
+        self.out.time(since);
+        self.out.put(middle);
+        self.out.decimal(routes);
+        self.out.put(end);
+        self.out.end_line();
+    }
+
     fn end_json(&mut self, after: Option<Seen>, before: Option<Seen>) {
-        self.out.put(b"\",\"answer\":");
+        self.out.put(b",\"answer\":");
         self.value(after);
         self.out.put(b",\"before\":");
         self.value(before);
@@ -1461,22 +1571,28 @@ impl Timeline {
             return;
         }
         let best = self.senders[sender as usize].matching.last_key_value();
-        let seen = best.map(|(_, number)| {
+        let best = best.map(|(lengths, number)| {
             let row = &self.rows.list[*number as usize];
-            self.seen(row.owner, row.stated)
+            (*lengths, self.seen(row.owner, row.stated))
         });
-        if seen == self.senders[sender as usize].told {
+        if best == self.senders[sender as usize].told {
             return;
         }
-        let before = std::mem::replace(&mut self.senders[sender as usize].told, seen);
+        let before = std::mem::replace(&mut self.senders[sender as usize].told, best);
         if time >= self.from {
-            self.put_answer(time, sender, seen, before);
+            self.put_answer(time, sender, best, before.map(|(_, seen)| seen));
         } else if !self.has_come {
-            self.senders[sender as usize].early = seen;
+            self.senders[sender as usize].early = best;
         }
     }
 
-    fn put_answer(&mut self, time: i128, sender: u32, seen: Option<Seen>, before: Option<Seen>) {
+    fn put_answer(
+        &mut self,
+        time: i128,
+        sender: u32,
+        best: Option<(Lengths, Seen)>,
+        before: Option<Seen>,
+    ) {
         let Some((to, src)) = self.pair else { return };
         self.begin_line(time, sender, "answers");
         if self.json {
@@ -1484,15 +1600,41 @@ impl Timeline {
             self.out.address(to);
             self.out.put(b"\",\"source\":\"");
             self.out.address(src);
-            self.end_json(seen, before);
+            self.out.put(b"\",\"route\":");
+            match best {
+                Some((lengths, _)) => {
+                    self.out.put(b"{\"destination\":\"");
+                    self.put_route(lengths, b"\",\"source\":\"");
+                    self.out.put(b"\"}");
+                }
+                None => self.out.put(b"null"),
+            }
+            self.end_json(best.map(|(_, seen)| seen), before);
         } else {
             self.out.text.push(b' ');
-            match seen {
-                Some(seen) => seen.text(&mut self.out),
+            match best {
+                Some((lengths, seen)) => {
+                    self.put_route(lengths, b" from ");
+                    self.out.text.push(b' ');
+                    seen.text(&mut self.out);
+                }
                 None => self.out.put(b"none"),
             }
         }
         self.out.end_line();
+    }
+
+    /// The prefixes of the pair that have these lengths.
+    fn put_route(&mut self, (dst, src): Lengths, between: &[u8]) {
+        let Some(pair) = self.pair else { return };
+        let (is_ipv6, to, from, width) = match pair {
+            (Addr::V6(to), Addr::V6(from)) => (true, to, from, 128),
+            (Addr::V4(to), Addr::V4(from)) => (false, to.into(), from.into(), 32),
+            _ => return,
+        };
+        self.out.prefix(is_ipv6, Prefix::new(to, dst, width));
+        self.out.put(between);
+        self.out.prefix(is_ipv6, Prefix::new(from, src, width));
     }
 }
 

@@ -40,7 +40,7 @@ def ip(sender, carried, **how):
     return (ipv4 if sender.version == 4 else ipv6)(sender, carried, **how)
 
 
-def ipv4(sender, carried, options=b"", fragment=0, total=None, protocol=17):
+def ipv4(sender, carried, options=b"", fragment=0, total=None, protocol=17, to=GROUP[4]):
     """RFC 791, 3.1; the options are of whole words."""
     words, total = (
         5 + len(options) // 4, 20 + len(options) + len(carried) if total is None else total
@@ -53,10 +53,10 @@ def ipv4(sender, carried, options=b"", fragment=0, total=None, protocol=17):
         + bytes((1, protocol))
         + b"\0\0"
     )
-    return head + sender.packed + ipaddress.ip_address(GROUP[4]).packed + options + carried
+    return head + sender.packed + ipaddress.ip_address(to).packed + options + carried
 
 
-def ipv6(sender, carried, headers=(), length=None, protocol=17):
+def ipv6(sender, carried, headers=(), length=None, protocol=17, to=GROUP[6]):
     """RFC 8200, 3; extension headers are numbers with the octets that follow the number of the next
     header."""
     numbers = [kind for kind, _ in headers] + [protocol]
@@ -66,7 +66,7 @@ def ipv6(sender, carried, headers=(), length=None, protocol=17):
     )
     length = len(carried) if length is None else length
     head = b"\x6c\x00\x00\x00" + number(length) + bytes((numbers[0], 1))
-    return head + sender.packed + ipaddress.ip_address(GROUP[6]).packed + carried
+    return head + sender.packed + ipaddress.ip_address(to).packed + carried
 
 
 def extension(kind, units, octets):

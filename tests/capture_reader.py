@@ -85,12 +85,13 @@ class Packet:
 
 @dataclass
 class Seen:
-    """A datagram from or to Babel's port: whole, with its payload, or the reason why it is not
-    read."""
+    """A datagram from or to Babel's port: whole, with its payload and where it is sent, or the
+    reason why it is not read."""
 
     sender: object
     what: str
     payload: bytes = b""
+    destination: object = None
     link: int = None
     vlans: tuple = ()
 
@@ -102,9 +103,9 @@ class Found:
     that name no interface; of each sender at each place how many have octets after the body; and
     the sections in which datagrams of Babel came. The time of the first record; of each that was
     read its number and its time, where it has one that can be told; and in their order the origin,
-    the packet and the place among these records of all packets; and of each origin these places.
-    Of the datagrams that were left out since they lack something the origin, the number, the reason
-    and the place among the records."""
+    the packet, the place among these records and the destination of all packets; and of each origin
+    these places. Of the datagrams that were left out the origin, the number, the reason and the
+    place among the records."""
 
     packets: dict = field(default_factory=dict)
     start: int = None
@@ -112,7 +113,7 @@ class Found:
     sent: list = field(default_factory=list)
     places: dict = field(default_factory=dict)
     left_out: dict = field(default_factory=dict)
-    missed: list = field(default_factory=list)
+    unread: list = field(default_factory=list)
     short: int = 0
     cooked: int = 0
     trailers: collections.Counter = field(default_factory=collections.Counter)
@@ -380,10 +381,9 @@ def in_ipv4(packet, whole):
         return OTHER
     if len(packet) < 20:
         return SHORT
-    sender = ipaddress.IPv4Address(packet[12:16])
-    return in_udp(
-        sender, bool(fragment & 0x2000), total > whole, packet[:total][header:], total - header
-    )
+    ends = [ipaddress.IPv4Address(packet[at : at + 4]) for at in (12, 16)]
+    carried, length = packet[:total][header:], total - header
+    return in_udp(*ends, bool(fragment & 0x2000), total > whole, carried, length)
 
 
 def in_ipv6(packet, whole):
@@ -413,12 +413,11 @@ def in_ipv6(packet, whole):
         return SHORT if unkept else OTHER
     if len(packet) < 40:
         return OTHER if length < 4 else SHORT
-    return in_udp(
-        ipaddress.IPv6Address(packet[8:24]), is_fragment, 40 + said > whole, carried, length
-    )
+    ends = [ipaddress.IPv6Address(packet[at : at + 16]) for at in (8, 24)]
+    return in_udp(*ends, is_fragment, 40 + said > whole, carried, length)
 
 
-def in_udp(sender, is_fragment, is_cut, carried, whole):
+def in_udp(sender, destination, is_fragment, is_cut, carried, whole):
     """RFC 768; RFC 8966, 4: a datagram of which IP carries so many octets, of which these were
     kept."""
     if whole < 4:
@@ -447,7 +446,7 @@ def in_udp(sender, is_fragment, is_cut, carried, whole):
         return OTHER
     if len(carried) < length:
         return Seen(sender, "snapped")
-    return Seen(sender, "whole", carried[8:length])
+    return Seen(sender, "whole", carried[8:length], destination)
 
 
 LINKS = {0, 1, 12, 14, 101, 108, 113, 228, 229, 276}
@@ -682,18 +681,17 @@ def take(found, packet, number, wanted):
     origin, reason = (place, seen.sender.version, int(seen.sender)), seen.what
     if reason in LACKS and wanted.names:
         raise Fault(f"{LACKS[reason]} at {packet.at}")
-    if reason in LACKS:
-        found.missed.append((origin, number, reason, len(found.records)))
     if reason == "whole":
         babel, reason = packet_in(seen.payload)
     if reason:
         found.left_out.setdefault(reason, []).append(number)
+        found.unread.append((origin, number, reason, len(found.records)))
         return
     if origin not in found.packets and len(found.packets) == MOST_SENDERS:
         raise Fault(f"too many senders at {packet.at}")
     found.packets.setdefault(origin, []).append(babel)
     found.places.setdefault(origin, []).append(len(found.records))
-    found.sent.append((origin, babel, len(found.records)))
+    found.sent.append((origin, babel, len(found.records), seen.destination))
     found.cooked += packet.link == 113
     found.trailers[origin] += len(babel) < len(seen.payload)
 

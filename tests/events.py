@@ -54,6 +54,7 @@ UPDATES = 60
 START = bytes.fromhex("060a0000 0200000000000001 07060100 c0000201")
 WILDCARD = bytes.fromhex("080a0000 0000 0064 0001 ffff")
 CHANGES = {"announces": False, "changes": True, "retracts": True, "expires": True}
+SILENCES = "silent", "returns"
 OPTIONS = [], ["--v4-via-v6"], ["--ignore", "seqno,metric"]
 
 
@@ -82,11 +83,21 @@ def line_of(event):
     words.append(event["event"])
     if event["event"] == "requests":
         return " ".join([*words, request_text(*what_asked(event))])
-    if event["event"] == "answers":
-        return " ".join([*words, what_text(event["answer"])])
-    words.append(f"{event['destination']} from {event['source']}")
+    if event["event"] in SILENCES:
+        return " ".join(words + silence_words(event))
+    route = event["route"] if event["event"] == "answers" else event
+    if not route:
+        return " ".join([*words, "none"])
+    words.append(f"{route['destination']} from {route['source']}")
     words += [what_text(event["answer"])] if event["answer"] else []
     return " ".join(words + (was_words(event) if event["event"] == "changes" else []))
+
+
+def silence_words(event):
+    if event["event"] == "returns":
+        return []
+    count = event["routes"]
+    return ["since", f"{event['since']},", "holding", f"{count} route{'s' * (count != 1)}"]
 
 
 def was_words(event):
@@ -97,14 +108,15 @@ def was_words(event):
 
 
 def what_asked(event):
-    return [event[name] for name in ("destination", "source", "router_id", "seqno")]
+    return [event[name] for name in ("to", "destination", "source", "router_id", "seqno")]
 
 
-def request_text(destination, source, router_id, seqno):
+def request_text(to, destination, source, router_id, seqno):
+    front = "" if to is None else f"to {to} "
     if destination is None:
-        return "all"
+        return f"{front}all"
     end = "" if router_id is None else f" id {router_id} seqno {seqno}"
-    return f"{destination} from {source}{end}"
+    return f"{front}{destination} from {source}{end}"
 
 
 def place_of(event):
@@ -147,11 +159,11 @@ def is_refused(octets, window, origin):
 
 
 def is_early(found, events):
-    """Whether a packet of a sender comes before an expiry of its, and after a record of that time
-    or later."""
+    """Whether a packet of a sender comes before an expiry of its, or before it is silent, and after a
+    record of that time or later."""
     times = [reader.time_text(time) for _, time in found.records]
     origins = {(reader.text_of(*each[1:]), each[0]): each for each in found.packets}
-    for event in (event for event in events if event["event"] == "expires"):
+    for event in (event for event in events if event["event"] in ("expires", "silent")):
         ends = event["time"]
         told = next((place for place, time in enumerate(times) if time >= ends), len(times))
         own = found.places[origins[event["sender"], place_of(event)]]
@@ -162,9 +174,13 @@ def is_early(found, events):
 
 def replayed(events):
     """After each event of a sender its time and the rows that it leaves; a problem where an event
-    changes nothing, can't be, or says that something else was held before."""
+    changes nothing, can't be, or says that something else was held before, or as many routes."""
     rows = {}
     for event in events:
+        if event["event"] in SILENCES:
+            if event.get("routes", len(rows)) != len(rows):
+                yield event["time"], dict(rows), f"silent with {len(rows)} routes"
+            continue
         key, kind = f"{event['destination']} from {event['source']}", event["event"]
         held, after = rows.get(key), event["answer"] and what_text(event["answer"])
         before = event["before"] and what_text(event["before"])
@@ -247,11 +263,12 @@ def check_answers(program, words, capture, origin, times, pair, moments, opening
     if problem:
         yield problem
     states = [(event["time"], what_text(event["answer"])) for event in events]
-    before = "none"
+    before, route = "none", None
     for event, (time, after) in zip(events, states):
-        if after == before or what_text(event["before"]) != before:
+        is_same = (event["route"], after) == (route, before)
+        if is_same or what_text(event["before"]) != before:
             yield f"{' '.join(asked)}: told at {time}: {after}, which was {before} before"
-        before = after
+        before, route = after, event["route"]
     for moment in moments:
         if not any(time <= moment for time in times):
             continue
@@ -305,7 +322,7 @@ def check_filters(program, words, capture, events, some):
         for asked, keeps in filters.items():
             given, problem = events_of(program, [*words, *asked], capture)
             given.sort(key=lambda event: event["time"])
-            wanted = list(filter(keeps, events))
+            wanted = [event for event in events if event["event"] in SILENCES or keeps(event)]
             if problem or given != wanted:
                 yield f"events {' '.join(asked)}: {problem} {given} in place of {wanted}"
 
@@ -339,7 +356,8 @@ def problems_of(program, capture, factor, options, most, pool):
     events.sort(key=lambda event: event["time"])
     few = moments_of(found, events, rng, most // 4)
     jobs = [check(program, words, capture, events, few) for check in (check_until, check_since)]
-    some = rng.sample(events, min(1, len(events)))
+    changes = [event for event in events if event["event"] in CHANGES]
+    some = rng.sample(changes, min(1, len(changes)))
     jobs.append(check_filters(program, words, capture, events, some))
     for origin, times in origins.items():
         if is_refused(octets, window, origin):
@@ -347,7 +365,7 @@ def problems_of(program, capture, factor, options, most, pool):
         own = [event for event in events if (event["sender"], place_of(event)) == origin]
         times_asked = moments_of(found, events, rng, most)
         jobs.append(check_tables(program, words, capture, origin, times, own, times_asked))
-        keys = sorted({(event["destination"], event["source"]) for event in own})
+        keys = sorted({(event["destination"], event["source"]) for event in own if "answer" in event})
         for key in rng.sample(keys, min(PAIRS, len(keys))) if "--ignore" not in words else []:
             pair = [prefix.split("/")[0] for prefix in key]
             some = times_asked[:: max(len(times_asked) // 10, 1)]
@@ -436,19 +454,27 @@ def requested(kind, body, via_v6):
     return texts + (of_router if kind == SEQNO_REQUEST else [None, None])
 
 
+def one_text(destination):
+    """The address of a node, or None: RFC 4291, 2.7; RFC 1112, 4; RFC 919, 7."""
+    if destination.is_multicast or str(destination) == "255.255.255.255":
+        return None
+    return reader.text_of(destination.version, int(destination))
+
+
 def requests_of(octets, via_v6):
-    """What the packets of a capture request, with their times and senders."""
+    """What the packets of a capture request, with their times and senders, and of whom."""
     found = find(octets, reader.Window())
-    for (place, *sender), packet, record in found.sent:
+    for (place, *sender), packet, record, to in found.sent:
         front = [reader.time_text(found.records[record][1]), reader.text_of(*sender), place]
         for _, kind, body in says.tlvs_of(4, packet[4:])[0]:
             request = requested(kind, body, via_v6)
             if request is not None:
-                yield [*front, *request]
+                yield [*front, one_text(to), *request]
 
 
 def random_requests(rng):
-    """Packets of two senders, of requests, and of Updates and other TLVs among them."""
+    """Packets of two senders, to one or to many, of requests, and of Updates and other TLVs among
+    them."""
     time = made.TIME
     for turn in range(UPDATES):
         stems = [says.octets_of(rng, 16) for _ in range(2)]
@@ -469,7 +495,9 @@ def random_requests(rng):
         packet = b"".join(tlvs)
         packet = b"\x2a\2" + made.number(len(packet)) + packet
         sender = rng.choice(("fe80::1", "fe80::2"))
-        yield made.Record(made.ethernet(made.ip(sender, made.udp(packet))), time=time + turn)
+        to = rng.choice(("ff02::1:6", "fe80::2", "feff::1", "ff00::", "2001:db8::1"))
+        carried = made.ip(sender, made.udp(packet), to=to)
+        yield made.Record(made.ethernet(carried), time=time + turn)
 
 
 def check_requests(program, capture, tally):
@@ -499,7 +527,7 @@ def check_picture(program, capture, tally):
     events, problem = events_of(program, words, capture)
     told = "".join(f"{json.dumps(event)}\n" for event in events)
     run = subprocess.run([TIMELINE], input=told, capture_output=True, text=True)
-    held = [event["answer"]["next_hop"] for event in events if event["answer"]]
+    held = [event["answer"]["next_hop"] for event in events if event.get("answer")]
     bars = len(re.findall(r'<rect class="c', run.stdout)), run.stderr
     wanted = len(held) + len(set(held)), ""
     problem = problem or ("" if bars == wanted else f"{bars} in place of {wanted}")

@@ -20,7 +20,7 @@ from program import expect, put_recorder
 DOCUMENTS = ["README.md", "examples/README.md"]
 
 SCRIPT = re.compile(r"(?m)^    #!/bin/sh.*\n(?:    .*\n)+")
-SERVICE = re.compile(r"(?m)^    (tcpdump .* \| babel-dump events .*)\n")
+SERVICE = re.compile(r"(?m)^    (tcpdump .* \| \\\n +babel-dump events .*)\n")
 
 # The dump that fe80::1 sent when the script records after north-before.dump, the script's status,
 # and how its last line begins; nobody sent, and the recorder fails.

@@ -15,7 +15,8 @@ use Rattle.babel_tlv.specs.Route.{RouteKey}
 use Rattle.babel_table.specs.BestMatch.{ContainsBoth, IsMoreSpecific}
 use Rattle.babel_table.specs.Lookup.{IsBetter}
 use Rattle.babel_table.proofs.EntryLaws.{same_key as key_is}
-use Rattle.babel_table.proofs.StandingLaws.{IsBestOf, better, no_better}
+use Rattle.babel_table.specs.RowFor.{IsBestOf}
+use Rattle.babel_table.proofs.StandingLaws.{better, no_better}
 use Rattle.babel_canon.proofs.Boxes.{same_or_not}
 use Rattle.babel_canon.proofs.CleanKeys.{IsClean, AreClean}
 

@@ -89,12 +89,6 @@ module _ (view : View) (limits : Bounds) (mode : Mode) (body : ℕ) (size : IsBo
       memory fault no_fault (inl of_dump) = absurd (no_fault fault of_dump)
       memory fault no_fault (inr is) = is
 
-pub route_octets_one : (view : View) (limits : Bounds) (mode : Mode) (body : ℕ) (it : Sent) (octets other : List ℕ) → SaysRoutes view limits mode body it octets
-    → SaysRoutes view limits mode body it other → octets ≡ other
-route_octets_one view limits mode body it octets other one two =
-    let same = ap (seen_rows view) (rows_one limits mode it.sender it.dump one.table two.table one.is_table two.is_table) in
-    texts_one body (seen_rows view one.table.rows) (seen_rows view two.table.rows) octets other same one.text two.text
-
 pub routes_headline : RoutesHeadline
 routes_headline view limits mode body bounds size one octets says = record {
   says = says;

@@ -25,7 +25,7 @@ use Rattle.babel_table.specs.BestMatch.{ContainsBoth, IsBestMatch, IsMoreSpecifi
 use Rattle.babel_table.specs.Bounds.{Bounds, start_of}
 use Rattle.babel_table.specs.Rows.{Routes, entries_of}
 use Rattle.babel_table.specs.TableOf.{IsTableOf}
-use Rattle.babel_table.proofs.StandingLaws.{IsBestOf, IsBestRow}
+use Rattle.babel_table.specs.RowFor.{IsBestOf, IsBestRow}
 use Rattle.babel_canon.specs.AnswersAreTold.{TableAnswers, AnswerIsOne}
 use Rattle.babel_canon.proofs.BestKeys.{best_of, clean_one, key_one}
 use Rattle.babel_canon.proofs.Boxes.{FromPair, entry_of, pair_of_row, row_of_pair}

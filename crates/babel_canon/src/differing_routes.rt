@@ -1,8 +1,9 @@
 //! How the routes of two tables differ.
-ghost use Rattle.std.specs.Prelude.{◌≡◌, IfOk};
+ghost use Rattle.std.specs.Prelude.{◌≡◌, IfOk, List, slice_get};
 ghost use Rattle.std.specs.Iterator.{YieldsFirst};
 ghost use Rattle.babel_canon.specs.Joined.{differ, differences_left, joined_left};
 ghost use Rattle.babel_canon.specs.Routes.{AreRouteDifferences};
+ghost use Rattle.babel_canon.specs.declared.every_difference.Difference.{Difference};
 
 use crate::every_difference::Difference;
 use babel_table::{Table, TableRows};
@@ -20,6 +21,15 @@ pub fn route_differences(
     ensures { IfOk result (λ list. AreRouteDifferences left.now.rows right.now.rows list.items) }
 {
     RouteDifferences::of(left, right).collect(alloc)
+}
+
+/// The first of them, if there is one. No list of them is made.
+pub fn first_route_difference(left: &Table, right: &Table) -> Option<Difference>
+    ensures { (list : List Difference) × AreRouteDifferences left.now.rows right.now.rows list
+        × (slice_get list 0 ≡ result) }
+{
+    let mut differences = RouteDifferences::of(left, right);
+    differences.next()
 }
 
 /// The keys that are left for which two tables hold different things, with what they hold.

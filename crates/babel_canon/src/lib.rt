@@ -14,8 +14,8 @@
 //!   `laws::differences_are_one` · *one*, *many*; `differences_are_boxes` · *none*, *first*,
 //!   *fewest*
 //! - The keys for which two tables hold what differs are listed in order, each once, with what both
-//!   hold, in one list, empty exactly where their rows are equal. — `route_differences`;
-//!   `laws::route_differences_are_one` · *one*, *none*
+//!   hold, in one list, empty exactly where their rows are equal. — `route_differences`,
+//!   `first_route_difference`; `laws::route_differences_are_one` · *one*, *none*
 #![tactic(auto)]
 
 mod body;
@@ -38,7 +38,7 @@ mod verdict;
 pub use body::Body;
 pub use canon::{Canon, canonical, canonical_octets, canonical_pairs, pair_count};
 pub use comparison::compare;
-pub use differing_routes::route_differences;
+pub use differing_routes::{first_route_difference, route_differences};
 pub use every_difference::{Difference, difference_count, differences};
 pub use normal_form::{normalise, normalise_under};
 pub use pair_sink::PairSink;

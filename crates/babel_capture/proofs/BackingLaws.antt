@@ -5,6 +5,7 @@ use Rattle.std.proofs.lemmas.List.{drop-take, length-drop, length-take, length-t
 use Rattle.std.proofs.lemmas.Bool.{cond_both}
 use Rattle.std.proofs.lemmas.Bool.Decides.{nat_tests}
 use Rattle.babel_prefix.specs.Address.{Address}
+use Rattle.babel_capture.specs.declared.ends.Ends.{Ends}
 use Rattle.babel_capture.specs.Backing.{StandIn, IsDatagram, Backs, BacksCarried, BacksLack}
 use Rattle.babel_capture.specs.declared.lack.Lack.{Lack}
 use Rattle.babel_capture.specs.declared.lack.Lack.TheVariants as lacks
@@ -14,8 +15,8 @@ use Rattle.babel_capture.specs.declared.place.Place.{Place}
 use Rattle.babel_capture.specs.Ethernet.{Payload, in_vlans, is_tag, past_tag, past_tags, ip_sight, tag_number, typed_sight}
 use Rattle.babel_capture.specs.Frame.{cooked2_sight, header_sight, leads_to_ip, on_link, raw_sight, family_sight, protocol_family, is_ipv6_family, frame_sight}
 use Rattle.babel_capture.specs.Headers.{NextHeader, has_len, header_len, is_first_fragment, is_unkept, has_more_fragments as more, past_header, past_headers, telling_len}
-use Rattle.babel_capture.specs.Ipv4.{ipv4_sight, ipv4_carried_sight, ipv4_header_sight, ipv4_header_len, total_len, ipv4_sender, has_more_fragments, carries_udp, is_later_fragment}
-use Rattle.babel_capture.specs.Ipv6.{ipv6_sight, ipv6_carried_sight, ipv6_sender, payload_len, first_header, upper_sight}
+use Rattle.babel_capture.specs.Ipv4.{ipv4_sight, ipv4_carried_sight, ipv4_header_sight, ipv4_header_len, total_len, ipv4_ends, has_more_fragments, carries_udp, is_later_fragment}
+use Rattle.babel_capture.specs.Ipv6.{ipv6_sight, ipv6_carried_sight, ipv6_ends, payload_len, first_header, upper_sight}
 use Rattle.babel_capture.specs.Octets.{network_number, ip_version}
 use Rattle.babel_capture.specs.Place.{no_vlans, place_on, with_vlan}
 use Rattle.babel_capture.specs.Sight.{Sight, Carried, other, too_short, datagram, other_port, not_link_local, lacking, carries}
@@ -92,7 +93,7 @@ module _ (octets : List ℕ) (all : ℕ) (of : List ℕ) (of_all : ℕ) (part : 
   pub Backs-part : (sight : Sight) → Backs octets all sight → Backs of of_all sight
   Backs-part other backs = tt
   Backs-part too_short backs = tt
-  Backs-part (datagram place sender carried) backs = carried-part sender carried backs
+  Backs-part (datagram place ends carried) backs = carried-part ends.sender carried backs
 
 -- ---- choices
 
@@ -107,11 +108,11 @@ unless octets all true x y here backed = here
 unless octets all false x y here backed = backed refl
 
 -- snapped, where less was kept than there was
-unless_snapped : (octets : List ℕ) (all needed : ℕ) (place : Place) (sender : Address) (y : Sight) → needed ≤ all → (nat_lt (length octets) needed ≡ false → Backs octets all y)
-    → Backs octets all (if nat_lt (length octets) needed then datagram place sender (lacking lacks.Snapped) else y)
-unless_snapped octets all needed place sender y fits backed =
+unless_snapped : (octets : List ℕ) (all needed : ℕ) (place : Place) (ends : Ends) (y : Sight) → needed ≤ all → (nat_lt (length octets) needed ≡ false → Backs octets all y)
+    → Backs octets all (if nat_lt (length octets) needed then datagram place ends (lacking lacks.Snapped) else y)
+unless_snapped octets all needed place ends y fits backed =
     let P : Sight → Type 0 = λ sight. Backs octets all sight in
-    cond_both (nat_lt (length octets) needed) (datagram place sender (lacking lacks.Snapped)) y P (λ (few : nat_lt (length octets) needed ≡ true). grind (arith, nat_tests)) backed
+    cond_both (nat_lt (length octets) needed) (datagram place ends (lacking lacks.Snapped)) y P (λ (few : nat_lt (length octets) needed ≡ true). grind (arith, nat_tests)) backed
 
 room : (whole needed : ℕ) → nat_lt whole needed ≡ false → needed ≤ whole
 room whole needed enough = grind (arith, nat_tests)
@@ -123,9 +124,9 @@ or_right false b neither = neither
 -- ---- UDP
 
 -- the datagram ends where its length says
-payload_backed : (sender : Address) (octets : List ℕ) → not (is_of_routers octets) ≡ false → not (may_send sender) ≡ false → 8 ≤ udp_len octets → udp_len octets ≤ length octets
-    → IsDatagram sender (take (udp_len octets) octets) (take (udp_len octets - 8) (drop 8 octets))
-payload_backed sender octets routers may header kept =
+payload_backed : (ends : Ends) (octets : List ℕ) → not (is_of_routers octets) ≡ false → not (may_send ends.sender) ≡ false → 8 ≤ udp_len octets → udp_len octets ≤ length octets
+    → IsDatagram ends.sender (take (udp_len octets) octets) (take (udp_len octets - 8) (drop 8 octets))
+payload_backed ends octets routers may header kept =
     let len = udp_len octets in
     let source : source_port octets ≡ 6696 = grind (arith, nat_tests, routers) in
     let destination : destination_port octets ≡ 6696 = grind (arith, nat_tests, routers) in
@@ -134,7 +135,7 @@ payload_backed sender octets routers may header kept =
       source = number-kept 0 2 len octets (omega arith) ∙ source;
       destination = number-kept 2 2 len octets (omega arith) ∙ destination;
       len = number-kept 4 2 len octets (omega arith) ∙ sym (length-take-le len octets kept);
-      is_sender = sent (may_send sender) may;
+      is_sender = sent (may_send ends.sender) may;
       after_header = sym (drop-take 8 (len - 8) octets) ∙ ap (λ (n : ℕ). drop 8 (take n octets)) after;
     }
   where
@@ -142,43 +143,43 @@ payload_backed sender octets routers may header kept =
     sent true is = refl
     sent false is = cc
 
-len_backed : (place : Place) (sender : Address) (octets : List ℕ) (all : ℕ) → not (is_of_routers octets) ≡ false → not (may_send sender) ≡ false → Backs octets all (len_sight place sender octets all)
-len_backed place sender octets all routers may =
+len_backed : (place : Place) (ends : Ends) (octets : List ℕ) (all : ℕ) → not (is_of_routers octets) ≡ false → not (may_send ends.sender) ≡ false → Backs octets all (len_sight place ends octets all)
+len_backed place ends octets all routers may =
     let len = udp_len octets in
-    let snapped : Sight = datagram place sender (lacking lacks.Snapped) in
-    let payload : Sight = datagram place sender (carries (take (len - 8) (drop 8 octets))) in
+    let snapped : Sight = datagram place ends (lacking lacks.Snapped) in
+    let payload : Sight = datagram place ends (carries (take (len - 8) (drop 8 octets))) in
     let kept : Sight = if nat_lt (length octets) len then snapped else payload in
     let long : Sight = if nat_lt len 8 then other else kept in
-    let fitting : Sight = if nat_lt all len then datagram place sender (lacking lacks.CutShort) else long in
+    let fitting : Sight = if nat_lt all len then datagram place ends (lacking lacks.CutShort) else long in
     let told : Sight = if nat_lt (length octets) 6 then snapped else fitting in
-    let fitting_backed : Backs octets all fitting = unless octets all (nat_lt all len) (datagram place sender (lacking lacks.CutShort)) long tt (λ fits.
-    unless octets all (nat_lt len 8) other kept tt (λ header. unless_snapped octets all len place sender payload (room all len fits) (λ there.
-    (take len octets, payload_backed sender octets routers may (room len 8 header) (room (length octets) len there), StandIn-take len octets)))) in
-    unless octets all (nat_lt all 6) other told tt (λ fits. unless_snapped octets all 6 place sender fitting (room all 6 fits) (λ _. fitting_backed))
+    let fitting_backed : Backs octets all fitting = unless octets all (nat_lt all len) (datagram place ends (lacking lacks.CutShort)) long tt (λ fits.
+    unless octets all (nat_lt len 8) other kept tt (λ header. unless_snapped octets all len place ends payload (room all len fits) (λ there.
+    (take len octets, payload_backed ends octets routers may (room len 8 header) (room (length octets) len there), StandIn-take len octets)))) in
+    unless octets all (nat_lt all 6) other told tt (λ fits. unless_snapped octets all 6 place ends fitting (room all 6 fits) (λ _. fitting_backed))
 
-module _ (place : Place) (sender : Address) (is_fragment : Bool) (octets : List ℕ) (all : ℕ) where
+module _ (place : Place) (ends : Ends) (is_fragment : Bool) (octets : List ℕ) (all : ℕ) where
   abbrev Port : Sight
-  Port = datagram place sender other_port
+  Port = datagram place ends other_port
 
   abbrev NotLocal : Sight
-  NotLocal = datagram place sender not_link_local
+  NotLocal = datagram place ends not_link_local
 
   abbrev Part : Sight
-  Part = datagram place sender (lacking lacks.Fragment)
+  Part = datagram place ends (lacking lacks.Fragment)
 
   -- if IP says no more than its frame had
-  babel_backed : Backs octets all (babel_sight place sender is_fragment false octets all)
+  babel_backed : Backs octets all (babel_sight place ends is_fragment false octets all)
   babel_backed =
-      let len : Sight = len_sight place sender octets all in
+      let len : Sight = len_sight place ends octets all in
       let joined : Sight = if is_fragment then Part else len in
-      let local : Sight = if not (may_send sender) then NotLocal else joined in
+      let local : Sight = if not (may_send ends.sender) then NotLocal else joined in
       unless octets all (not (is_of_routers octets)) Port local tt (λ routers.
-      unless octets all (not (may_send sender)) NotLocal joined tt (λ may. either octets all is_fragment Part len tt (len_backed place sender octets all routers may)))
+      unless octets all (not (may_send ends.sender)) NotLocal joined tt (λ may. either octets all is_fragment Part len tt (len_backed place ends octets all routers may)))
 
-  pub udp_backed : Backs octets all (udp_sight place sender is_fragment false octets all)
+  pub udp_backed : Backs octets all (udp_sight place ends is_fragment false octets all)
   unfolding udp_sight
   udp_backed =
-      let babel : Sight = babel_sight place sender is_fragment false octets all in
+      let babel : Sight = babel_sight place ends is_fragment false octets all in
       let ports : Sight = if not (is_babel octets) then other else babel in
       let kept : Sight = if nat_lt (length octets) 4 then too_short else ports in
       either octets all (nat_lt all 4) other kept tt
@@ -186,12 +187,12 @@ module _ (place : Place) (sender : Address) (is_fragment : Bool) (octets : List 
       (either octets all (not (is_babel octets)) other babel tt babel_backed))
 
   -- and if it says more, in any octets
-  pub udp_cut_backed : (of : List ℕ) (of_all : ℕ) → Backs of of_all (udp_sight place sender is_fragment true octets all)
+  pub udp_cut_backed : (of : List ℕ) (of_all : ℕ) → Backs of of_all (udp_sight place ends is_fragment true octets all)
   unfolding udp_sight
   udp_cut_backed of of_all =
-      let cut : Sight = datagram place sender (lacking lacks.CutShort) in
+      let cut : Sight = datagram place ends (lacking lacks.CutShort) in
       let joined : Sight = if is_fragment then Part else cut in
-      let local : Sight = if not (may_send sender) then NotLocal else joined in
+      let local : Sight = if not (may_send ends.sender) then NotLocal else joined in
       let babel : Sight = if not (is_of_routers octets) then Port else local in
       let ports : Sight = if not (is_babel octets) then other else babel in
       let kept : Sight = if nat_lt (length octets) 4 then too_short else ports in
@@ -199,20 +200,20 @@ module _ (place : Place) (sender : Address) (is_fragment : Bool) (octets : List 
       (either of of_all (nat_lt (length octets) 4) too_short ports tt
       (either of of_all (not (is_babel octets)) other babel tt
       (either of of_all (not (is_of_routers octets)) Port local tt
-      (either of of_all (not (may_send sender)) NotLocal joined tt
+      (either of of_all (not (may_send ends.sender)) NotLocal joined tt
       (either of of_all is_fragment Part cut tt tt)))))
 
 -- ---- IPv4
 
 ipv4_by_cut : (place : Place) (octets : List ℕ) (all total header : ℕ) (is_fragment b : Bool) → nat_lt all total ≡ b
-    → Backs octets all (udp_sight place (ipv4_sender octets) is_fragment b (drop header (take total octets)) (total - header))
-ipv4_by_cut place octets all total header is_fragment true cut = udp_cut_backed place (ipv4_sender octets) is_fragment (drop header (take total octets)) (total - header) octets all
+    → Backs octets all (udp_sight place (ipv4_ends octets) is_fragment b (drop header (take total octets)) (total - header))
+ipv4_by_cut place octets all total header is_fragment true cut = udp_cut_backed place (ipv4_ends octets) is_fragment (drop header (take total octets)) (total - header) octets all
 ipv4_by_cut place octets all total header is_fragment false fits =
     Backs-part (drop header (take total octets)) (total - header) octets all
     (IsPart-in (drop header (take total octets)) (take total octets) octets (total - header) total all (IsPart-after header (take total octets) total)
     (IsPart-first total octets all (room all total fits)))
-    (udp_sight place (ipv4_sender octets) is_fragment false (drop header (take total octets)) (total - header))
-    (udp_backed place (ipv4_sender octets) is_fragment (drop header (take total octets)) (total - header))
+    (udp_sight place (ipv4_ends octets) is_fragment false (drop header (take total octets)) (total - header))
+    (udp_backed place (ipv4_ends octets) is_fragment (drop header (take total octets)) (total - header))
 
 ipv4_carried_backed : (place : Place) (octets : List ℕ) (all : ℕ) → Backs octets all (ipv4_carried_sight place octets all)
 ipv4_carried_backed place octets all = ipv4_by_cut place octets all (total_len octets) (ipv4_header_len octets) (has_more_fragments octets) (nat_lt all (total_len octets)) refl
@@ -289,22 +290,22 @@ unkept_backed : (octets : List ℕ) (all carried : ℕ) → Backs octets all (un
 unkept_backed octets all carried = either octets all (nat_lt carried 4) other too_short tt tt
 
 ipv6_by_cut : (place : Place) (octets : List ℕ) (all len : ℕ) (upper : NextHeader) (b : Bool) → IsPart upper.octets upper.whole (take len (drop 40 octets)) len → nat_lt all (40 + len) ≡ b
-    → Backs octets all (udp_sight place (ipv6_sender octets) upper.is_fragment b upper.octets upper.whole)
-ipv6_by_cut place octets all len upper true part cut = udp_cut_backed place (ipv6_sender octets) upper.is_fragment upper.octets upper.whole octets all
+    → Backs octets all (udp_sight place (ipv6_ends octets) upper.is_fragment b upper.octets upper.whole)
+ipv6_by_cut place octets all len upper true part cut = udp_cut_backed place (ipv6_ends octets) upper.is_fragment upper.octets upper.whole octets all
 ipv6_by_cut place octets all len upper false part fits =
     let enough : 40 + len ≤ all = room all (40 + len) fits in
     Backs-part upper.octets upper.whole octets all
     (IsPart-in upper.octets (take len (drop 40 octets)) octets upper.whole len all part
     (IsPart-in (take len (drop 40 octets)) (drop 40 octets) octets len (all - 40) all
     (IsPart-first len (drop 40 octets) (all - 40) (omega arith)) (IsPart-after 40 octets all)))
-    (udp_sight place (ipv6_sender octets) upper.is_fragment false upper.octets upper.whole)
-    (udp_backed place (ipv6_sender octets) upper.is_fragment upper.octets upper.whole)
+    (udp_sight place (ipv6_ends octets) upper.is_fragment false upper.octets upper.whole)
+    (udp_backed place (ipv6_ends octets) upper.is_fragment upper.octets upper.whole)
 
 ipv6_carried_backed : (place : Place) (octets : List ℕ) (all : ℕ) → Backs octets all (ipv6_carried_sight place octets all (past_headers 8 (first_header octets)))
 ipv6_carried_backed place octets all =
     let len = payload_len octets in
     let upper = past_headers 8 (first_header octets) in
-    either octets all (nat_lt (length octets) 40) (unkept_sight upper.whole) (udp_sight place (ipv6_sender octets) upper.is_fragment (nat_lt all (40 + len)) upper.octets upper.whole)
+    either octets all (nat_lt (length octets) 40) (unkept_sight upper.whole) (udp_sight place (ipv6_ends octets) upper.is_fragment (nat_lt all (40 + len)) upper.octets upper.whole)
     (unkept_backed octets all upper.whole)
     (ipv6_by_cut place octets all len upper (nat_lt all (40 + len)) (past_headers-part 8 (first_header octets)) refl)
 

@@ -40,14 +40,14 @@ reason_of passed = None
 reason_of untold = None
 reason_of (left reason missed) = Some reason
 reason_of (refused lack) = None
-reason_of (found place sender packet has_trailer) = None
+reason_of (found place ends packet has_trailer) = None
 
 by_found : (f : Reason → Count) (at : ℕ) (what : Found) → map (λ (r : Reason). bumped (is_left_for r what) at (f r)) all_reasons ≡ left_with (map f all_reasons) (reason_of what) at
 by_found f at passed = refl
 by_found f at untold = refl
 by_found f at (left reason missed) = set_one f at reason missed
 by_found f at (refused lack) = refl
-by_found f at (found place sender packet has_trailer) = refl
+by_found f at (found place ends packet has_trailer) = refl
 
 -- what is counted whatever is made of a packet
 record Told : Type 0 where
@@ -101,7 +101,7 @@ module _ (old : Counts) (link : Link) where
   by_what untold = unfound old.left_out (old.short + 1)
   by_what (left reason missed) = left_so (left_with old.left_out (Some reason) (old.packets + 1))
   by_what (refused lack) = left_so old.left_out
-  by_what (found place sender packet has_trailer) =
+  by_what (found place ends packet has_trailer) =
       ap (λ (n : ℕ). more old.left_out n (old.cooked + cond (is_cooked_link link) 1 0) (old.trailers + cond has_trailer 1 0) (greatest old.interval (interval_in packet))) (nothing_more old.short)
 
 pub counts-push : (made : List Made) (one : Made) → one.number ≡ length made + 1 → counts_of (made ++ one ∷ []) ≡ counted (counted_at (counts_of made) one.came) one.link one.what

@@ -36,14 +36,14 @@ counted-one counts link passed = refl
 counted-one counts link untold = refl
 counted-one counts link (left reason missed) = refl
 counted-one counts link (refused lack) = refl
-counted-one counts link (found place sender packet has_trailer) = refl
+counted-one counts link (found place ends packet has_trailer) = refl
 
 pub finding-taken : (finding : Finding) → ((lack : Lack) → finding ≢ findings.Refused lack) → IsTaken (finding_of finding)
 finding-taken findings.Passed not = tt
 finding-taken findings.Short not = tt
-finding-taken (findings.Left reason missed) not = tt
+finding-taken (findings.Left reason origin is_missed) not = tt
 finding-taken (findings.Refused lack) not = absurd (not lack refl)
-finding-taken (findings.Packet origin octets has_trailer) not = tt
+finding-taken (findings.Packet origin destination octets has_trailer) not = tt
 
 -- one packet more, of which this is made
 pub gathered-push : (next : Sighting) (old new : Gathering) (what : Found) → new.wanted ≡ old.wanted → new.report ≡ counted (counted_at old.report next.came) next.link what

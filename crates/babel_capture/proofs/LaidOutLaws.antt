@@ -8,8 +8,8 @@ use Rattle.std.proofs.lemmas.Nat.{and_mask}
 use Rattle.std.proofs.lemmas.Nat.Bits.{and_high_mask, and_pow}
 use Rattle.byteorder.specs.Endian.{big_bytes, big_from, big_number, little_bytes, little_number}
 use Rattle.byteorder.specs.Numbers.{big_number-reads_back}
-use Rattle.babel_prefix.specs.Address.{Address}
-use Rattle.babel_prefix.specs.declared.family.Family.TheVariants.{V4, V6}
+use Rattle.babel_capture.specs.declared.ends.Ends.{Ends}
+use Rattle.babel_prefix.specs.declared.family.Family.TheVariants.{V6}
 use Rattle.babel_capture.specs.declared.lack.Lack.TheVariants as lacks
 use Rattle.babel_capture.specs.declared.link.Link.{Link}
 use Rattle.babel_capture.specs.declared.link.Link.TheVariants as links
@@ -21,9 +21,9 @@ use Rattle.std.proofs.lemmas.List.Elements.{All-head, All-tail}
 use Rattle.babel_capture.specs.Ethernet.{Payload, in_vlans, is_tag, past_tag, past_tags, ip_sight, typed_sight}
 use Rattle.babel_capture.specs.Frame.{family_sight, frame_sight, header_sight, is_ipv6_family, leads_to_ip, protocol_family, raw_sight}
 use Rattle.babel_capture.specs.Headers.{NextHeader, has_len, past_header, past_headers}
-use Rattle.babel_capture.specs.Ipv4.{ipv4_sight, ipv4_header_len, total_len, carries_udp, is_later_fragment, has_more_fragments}
-use Rattle.babel_capture.specs.Ipv6.{ipv6_sight, payload_len, first_header}
-use Rattle.babel_capture.specs.LaidOut.{UdpDatagram, udp_octets, udp_size, IsBabel, Ipv4Header, ipv4_header, ipv4_octets, IsIpv4, Ipv6Header, ipv6_header, ipv6_octets, IsIpv6}
+use Rattle.babel_capture.specs.Ipv4.{ipv4_ends, ipv4_sight, ipv4_header_len, total_len, carries_udp, is_later_fragment, has_more_fragments}
+use Rattle.babel_capture.specs.Ipv6.{ipv6_ends, ipv6_sight, payload_len, first_header}
+use Rattle.babel_capture.specs.LaidOut.{UdpDatagram, ends4, ends6, udp_octets, udp_size, IsBabel, Ipv4Header, ipv4_header, ipv4_octets, IsIpv4, Ipv6Header, ipv6_header, ipv6_octets, IsIpv6}
 use Rattle.babel_capture.specs.LaidOut.{Extension, IsFragment, IsExtension, extensions, first_number, HasFlags, ports, IsFirstFragment, IsOverIp, HasBabel}
 use Rattle.babel_capture.specs.LinkHeaders.{Tag, IsTag, first_type, after_type, vlans_of, IsTyped, IsCooked2, IsFamily, HasEtherType, HasFamily, IsHeader, IsOtherType, IsOtherFamily}
 use Rattle.babel_capture.specs.Octets.{network_number, ip_version}
@@ -43,12 +43,12 @@ number-back before n x after fits =
 
 -- ---- UDP
 
-udp_seen : (place : Place) (sender : Address) (octets payload : List ℕ) (all : ℕ) → source_port octets ≡ 6696 → destination_port octets ≡ 6696 → may_send sender ≡ true
+udp_seen : (place : Place) (ends : Ends) (octets payload : List ℕ) (all : ℕ) → source_port octets ≡ 6696 → destination_port octets ≡ 6696 → may_send ends.sender ≡ true
     → udp_len octets ≡ 8 + length payload
     → 8 + length payload ≤ length octets → 8 + length payload ≤ all → take (length payload) (drop 8 octets) ≡ payload
-    → udp_sight place sender false false octets all ≡ datagram place sender (carries payload)
+    → udp_sight place ends false false octets all ≡ datagram place ends (carries payload)
 unfolding udp_sight
-udp_seen place sender octets payload all source destination may len kept there carried =
+udp_seen place ends octets payload all source destination may len kept there carried =
     let count : udp_len octets - 8 ≡ length payload = omega arith in
     let ports : nat_lt all 4 ≡ false = grind (arith, nat_tests) in
     let ports_kept : nat_lt (length octets) 4 ≡ false = grind (arith, nat_tests) in
@@ -77,19 +77,19 @@ at_destination udp rest is =
 at_len : (udp : UdpDatagram) (rest : List ℕ) → IsBabel udp → udp_len (header_before udp rest) ≡ udp_size udp
 at_len udp rest is = number-back (big_bytes 2 udp.source ++ big_bytes 2 udp.destination) 2 (udp_size udp) (big_bytes 2 udp.checksum ++ rest) is.len_fits
 
-udp_laid_out : (place : Place) (sender : Address) (udp : UdpDatagram) (rest : List ℕ) (all : ℕ) → IsBabel udp → may_send sender ≡ true → udp_size udp ≤ all
-    → udp_sight place sender false false (udp_octets udp ++ rest) all ≡ datagram place sender (carries udp.payload)
-udp_laid_out place sender udp rest all is may there =
+udp_laid_out : (place : Place) (ends : Ends) (udp : UdpDatagram) (rest : List ℕ) (all : ℕ) → IsBabel udp → may_send ends.sender ≡ true → udp_size udp ≤ all
+    → udp_sight place ends false false (udp_octets udp ++ rest) all ≡ datagram place ends (carries udp.payload)
+udp_laid_out place ends udp rest all is may there =
     let behind = udp.payload ++ rest in
-    udp_seen place sender (udp_octets udp ++ rest) udp.payload all (at_source udp behind is) (at_destination udp behind is) may (at_len udp behind is)
+    udp_seen place ends (udp_octets udp ++ rest) udp.payload all (at_source udp behind is) (at_destination udp behind is) may (at_len udp behind is)
     (omega (arith, length-append udp.payload rest)) there (take-append_seam udp.payload rest)
 
 -- a part of it, ports within
-udp_snapped : (place : Place) (sender : Address) (octets : List ℕ) (size all : ℕ) → source_port octets ≡ 6696 → destination_port octets ≡ 6696 → may_send sender ≡ true → 4 ≤ length octets
+udp_snapped : (place : Place) (ends : Ends) (octets : List ℕ) (size all : ℕ) → source_port octets ≡ 6696 → destination_port octets ≡ 6696 → may_send ends.sender ≡ true → 4 ≤ length octets
     → 8 ≤ size
-    → length octets < size → size ≤ all → (6 ≤ length octets → udp_len octets ≡ size) → udp_sight place sender false false octets all ≡ datagram place sender (lacking lacks.Snapped)
+    → length octets < size → size ≤ all → (6 ≤ length octets → udp_len octets ≡ size) → udp_sight place ends false false octets all ≡ datagram place ends (lacking lacks.Snapped)
 unfolding udp_sight
-udp_snapped place sender octets size all source destination may some header less there len =
+udp_snapped place ends octets size all source destination may some header less there len =
     let ports : nat_lt all 4 ≡ false = grind (arith, nat_tests) in
     let ports_kept : nat_lt (length octets) 4 ≡ false = grind (arith, nat_tests) in
     let field : nat_lt all 6 ≡ false = grind (arith, nat_tests) in
@@ -99,26 +99,26 @@ udp_snapped place sender octets size all source destination may some header less
     by_field (nat_lt (length octets) 6) refl ports ports_kept field fits long cut
   where
     by_field : (short : Bool) → nat_lt (length octets) 6 ≡ short → nat_lt all 4 ≡ false → nat_lt (length octets) 4 ≡ false → nat_lt all 6 ≡ false → nat_lt all size ≡ false → nat_lt size 8 ≡ false
-        → nat_lt (length octets) size ≡ true → udp_sight place sender false false octets all ≡ datagram place sender (lacking lacks.Snapped)
+        → nat_lt (length octets) size ≡ true → udp_sight place ends false false octets all ≡ datagram place ends (lacking lacks.Snapped)
     by_field true kept ports ports_kept field fits long cut = rw (ports, ports_kept, source, destination, may, field, kept) refl
     by_field false kept ports ports_kept field fits long cut =
         (let said : udp_len octets ≡ size = len (grind (arith, nat_tests)) in
         rw (ports, ports_kept, source, destination, may, field, kept, said, fits, long, cut) refl)
 
-udp_cut : (place : Place) (sender : Address) (udp : UdpDatagram) (n all : ℕ) → IsBabel udp → may_send sender ≡ true → 4 ≤ n → n < udp_size udp → udp_size udp ≤ all
-    → udp_sight place sender false false (take n (udp_octets udp)) all ≡ datagram place sender (lacking lacks.Snapped)
-udp_cut place sender udp n all is may some less there =
+udp_cut : (place : Place) (ends : Ends) (udp : UdpDatagram) (n all : ℕ) → IsBabel udp → may_send ends.sender ≡ true → 4 ≤ n → n < udp_size udp → udp_size udp ≤ all
+    → udp_sight place ends false false (take n (udp_octets udp)) all ≡ datagram place ends (lacking lacks.Snapped)
+udp_cut place ends udp n all is may some less there =
     let octets = udp_octets udp in
     let count : length (take n octets) ≡ n = length-take-le n octets (omega arith) in
-    udp_snapped place sender (take n octets) (udp_size udp) all (number-kept 0 2 n octets (omega arith) ∙ at_source udp udp.payload is)
+    udp_snapped place ends (take n octets) (udp_size udp) all (number-kept 0 2 n octets (omega arith) ∙ at_source udp udp.payload is)
     (number-kept 2 2 n octets (omega arith) ∙ at_destination udp udp.payload is) may
     (omega arith) (omega arith) (omega arith) there (λ (long : 6 ≤ length (take n octets)). number-kept 4 2 n octets (omega arith) ∙ at_len udp udp.payload is)
 
 -- a first fragment
-udp_fragment : (place : Place) (sender : Address) (rest : List ℕ) (all : ℕ) → may_send sender ≡ true → 4 ≤ all
-    → udp_sight place sender true false (ports ++ rest) all ≡ datagram place sender (lacking lacks.Fragment)
+udp_fragment : (place : Place) (ends : Ends) (rest : List ℕ) (all : ℕ) → may_send ends.sender ≡ true → 4 ≤ all
+    → udp_sight place ends true false (ports ++ rest) all ≡ datagram place ends (lacking lacks.Fragment)
 unfolding udp_sight
-udp_fragment place sender rest all may there =
+udp_fragment place ends rest all may there =
     let octets = ports ++ rest in
     let source : source_port octets ≡ 6696 = number-back [] 2 6696 (big_bytes 2 6696 ++ rest) (omega arith) in
     let destination : destination_port octets ≡ 6696 = number-back (big_bytes 2 6696) 2 6696 rest (omega arith) in
@@ -260,19 +260,19 @@ past-fragment (header ∷ front) back fragment (suc n) rest all few are is are_b
 
 -- ---- IPv6
 
-ipv6_seen : (place : Place) (octets inner carried : List ℕ) (number sender total len all : ℕ) (flag : Bool) → 40 ≤ length octets → ip_version octets ≡ 6 → payload_len octets ≡ total
-    → slice_index octets 6 ≡ number → network_number 8 16 octets ≡ sender → 40 + total ≤ all → take total (drop 40 octets) ≡ inner
+ipv6_seen : (place : Place) (octets inner carried : List ℕ) (number total len all : ℕ) (ends : Ends) (flag : Bool) → 40 ≤ length octets → ip_version octets ≡ 6 → payload_len octets ≡ total
+    → slice_index octets 6 ≡ number → ipv6_ends octets ≡ ends → 40 + total ≤ all → take total (drop 40 octets) ≡ inner
     → past_headers 8 (header_of number false inner total) ≡ header_of 17 flag carried len
-    → ipv6_sight place octets all ≡ udp_sight place (record { family = V6; bits = sender }) flag false carried len
+    → ipv6_sight place octets all ≡ udp_sight place ends flag false carried len
 unfolding ipv6_sight
-ipv6_seen place octets inner carried number sender total len all flag long version said first from there kept past =
+ipv6_seen place octets inner carried number total len all ends flag long version said first from there kept past =
     let upper : past_headers 8 (first_header octets) ≡ header_of 17 flag carried len = rw (said, kept, first) past in
     let some : nat_lt (length octets) 1 ≡ false = grind (arith, nat_tests) in
     let is_ip : not (ip_version octets == 6) ≡ false = rw version refl in
     let next : nat_lt (length octets) 7 ≡ false = grind (arith, nat_tests) in
     let header_kept : nat_lt (length octets) 40 ≡ false = grind (arith, nat_tests) in
     let fits : nat_lt all (40 + total) ≡ false = grind (arith, nat_tests) in
-    rw (some, is_ip, next, upper, header_kept, said, fits, from) refl
+    rw (some, is_ip, next, upper, header_kept, said, fits) (ap (λ (e : Ends). udp_sight place e flag false carried len) from)
 
 ipv6_version : (ip : Ipv6Header) (len number : ℕ) (tail : List ℕ) → ip.class < 2 ^ 4 → ip_version (ipv6_header ip len number ++ tail) ≡ 6
 ipv6_version ip len number tail fits = let class = ip.class in omega arith
@@ -281,7 +281,7 @@ ipv6_version ip len number tail fits = let class = ip.class in omega arith
 ipv6_laid_out : (place : Place) (ip : Ipv6Header) (headers : List Extension) (tail : List ℕ) (len all : ℕ) (flag : Bool) → IsIpv6 ip (length (extensions headers) + len)
     → past_headers 8 (headers_of false headers (take len tail) (length (extensions headers) + len)) ≡ header_of 17 flag (take len tail) len → 40 + (length (extensions headers) + len) ≤ all
     → ipv6_sight place (ipv6_header ip (length (extensions headers) + len) (first_number headers) ++ (extensions headers ++ tail)) all
-    ≡ udp_sight place (record { family = V6; bits = ip.sender }) flag false (take len tail) len
+    ≡ udp_sight place (ends6 ip) flag false (take len tail) len
 ipv6_laid_out place ip headers tail len all flag fits past there =
     let inner = extensions headers in
     let total = length inner + len in
@@ -291,20 +291,22 @@ ipv6_laid_out place ip headers tail len all flag fits past there =
     let front = (6 * 2 ^ 4 + class) ∷ big_bytes 3 ip.flow in
     let behind = big_bytes 16 ip.destination ++ (inner ++ tail) in
     let at_total : payload_len octets ≡ total = number-back front 2 total (number ∷ ip.hop_limit ∷ (big_bytes 16 ip.sender ++ behind)) fits.len_fits in
-    let at_sender : network_number 8 16 octets ≡ ip.sender = number-back (front ++ big_bytes 2 total ++ number ∷ ip.hop_limit ∷ []) 16 ip.sender behind fits.sender_fits in
-    ipv6_seen place octets (inner ++ take len tail) (take len tail) number ip.sender total len all flag (omega arith)
-    (ipv6_version ip total number (inner ++ tail) fits.class_fits) at_total refl at_sender there
+    let to_sender = front ++ big_bytes 2 total ++ number ∷ ip.hop_limit ∷ [] in
+    let at_sender : network_number 8 16 octets ≡ ip.sender = number-back to_sender 16 ip.sender behind fits.sender_fits in
+    let at_destination : network_number 24 16 octets ≡ ip.destination = number-back (to_sender ++ big_bytes 16 ip.sender) 16 ip.destination (inner ++ tail) fits.destination_fits in
+    ipv6_seen place octets (inner ++ take len tail) (take len tail) number total len all (ends6 ip) flag (omega arith)
+    (ipv6_version ip total number (inner ++ tail) fits.class_fits) at_total refl (rw (at_sender, at_destination) refl) there
     (take-append-add inner tail len) past
 
 -- ---- IPv4
 
-ipv4_seen : (place : Place) (octets carried : List ℕ) (header sender len all : ℕ) (more : Bool) → 20 ≤ length octets → ip_version octets ≡ 4
+ipv4_seen : (place : Place) (octets carried : List ℕ) (header len all : ℕ) (ends : Ends) (more : Bool) → 20 ≤ length octets → ip_version octets ≡ 4
     → ipv4_header_len octets ≡ header → 20 ≤ header → 4 ≤ len → total_len octets ≡ header + len → header + len ≤ all
-    → (carries_udp octets ≡ true) × (is_later_fragment octets ≡ false) → has_more_fragments octets ≡ more → network_number 12 4 octets ≡ sender
+    → (carries_udp octets ≡ true) × (is_later_fragment octets ≡ false) → has_more_fragments octets ≡ more → ipv4_ends octets ≡ ends
     → drop header (take (header + len) octets) ≡ carried
-    → ipv4_sight place octets all ≡ udp_sight place (record { family = V4; bits = sender }) more false carried len
+    → ipv4_sight place octets all ≡ udp_sight place ends more false carried len
 unfolding ipv4_sight
-ipv4_seen place octets carried header sender len all more long version at_header some_header some_carried at_total there first last from kept =
+ipv4_seen place octets carried header len all ends more long version at_header some_header some_carried at_total there first last from kept =
     let total = header + len in
     let some : nat_lt (length octets) 1 ≡ false = grind (arith, nat_tests) in
     let is_ip : not (ip_version octets == 4) ≡ false = rw version refl in
@@ -318,7 +320,7 @@ ipv4_seen place octets carried header sender len all more long version at_header
     let is_first = first.1 in
     let udp : not (carries_udp octets) ≡ false = rw first.0 refl in
     let count : total - header ≡ len = omega arith in
-    rw (some, is_ip, at_header, header_fits, told, at_total, ports, flags_kept, is_first, protocol_kept, udp, header_kept, fits, last, from, kept, count) refl
+    rw (some, is_ip, at_header, header_fits, told, at_total, ports, flags_kept, is_first, protocol_kept, udp, header_kept, fits, last, kept, count) (ap (λ (e : Ends). udp_sight place e more false carried len) from)
 
 -- what the flags of IPv4 say
 flags_fit : (flag flags : ℕ) → flag < 2 → HasFlags flag flags → flags < 2 ^ 16
@@ -348,7 +350,7 @@ ipv4_version ip len tail few = let words = ip.words in omega arith
 -- a packet that says `len` octets after its header
 ipv4_laid_out : (place : Place) (ip : Ipv4Header) (tail : List ℕ) (len all : ℕ) (more : Bool) → IsIpv4 ip len → 4 ≤ len → 20 + 4 * ip.words + len ≤ all → ip.flags < 2 ^ 16
     → not (bit_and ip.flags 0x1fff == 0) ≡ false → not (bit_and ip.flags 0x2000 == 0) ≡ more
-    → ipv4_sight place (ipv4_header ip len ++ tail) all ≡ udp_sight place (record { family = V4; bits = ip.sender }) more false (take len tail) len
+    → ipv4_sight place (ipv4_header ip len ++ tail) all ≡ udp_sight place (ends4 ip) more false (take len tail) len
 ipv4_laid_out place ip tail len all more fits some there flags offset flag =
     let front = ipv4_header ip len in
     let octets = front ++ tail in
@@ -366,14 +368,15 @@ ipv4_laid_out place ip tail len all more fits some there flags offset flag =
     let at_flags : network_number 6 2 octets ≡ ip.flags = number-back to_flags 2 ip.flags (ip.ttl ∷ 17 ∷ big_bytes 2 ip.checksum
     ++ big_bytes 4 ip.sender ++ big_bytes 4 ip.destination ++ behind) flags in
     let at_sender : network_number 12 4 octets ≡ ip.sender = number-back to_sender 4 ip.sender (big_bytes 4 ip.destination ++ behind) fits.sender_fits in
+    let at_destination : network_number 16 4 octets ≡ ip.destination = number-back (to_sender ++ big_bytes 4 ip.sender) 4 ip.destination behind fits.destination_fits in
     let is_first : is_later_fragment octets ≡ false = rw at_flags offset in
     let is_last : has_more_fragments octets ≡ more = rw at_flags flag in
     let front_len : length front ≡ header = omega (arith, fits.options_len) in
     let taken : take total octets ≡ front ++ take len tail = ap (λ (n : ℕ). take (n + len) octets) (sym front_len) ∙ take-append-add front tail len in
     let kept : drop header (take total octets) ≡ take len tail =
     ap (drop header) taken ∙ ap (λ (n : ℕ). drop n (front ++ take len tail)) (sym front_len) ∙ drop-append_seam front (take len tail) in
-    ipv4_seen place octets (take len tail) header ip.sender len all more (omega arith) (ipv4_version ip len tail few) at_header (omega arith) some at_total there
-    (refl, is_first) is_last at_sender kept
+    ipv4_seen place octets (take len tail) header len all (ends4 ip) more (omega arith) (ipv4_version ip len tail few) at_header (omega arith) some at_total there
+    (refl, is_first) is_last (rw (at_sender, at_destination) refl) kept
 
 -- ---- IP packets
 
@@ -410,18 +413,18 @@ ipv4_long ip carried more sized = omega (arith, length-append ip.options carried
 whole_over_ipv4 : (place : Place) (ether_type : ℕ) (ip : Ipv4Header) (carried after : List ℕ) (more all : ℕ) (flag : Bool) (sight : Sight) → ether_type ≡ 0x0800
     → IsIpv4 ip (length carried + more) → 4 ≤ length carried → length (ipv4_octets ip carried more) + more ≤ all → ip.flags < 2 ^ 16
     → not (bit_and ip.flags 0x1fff == 0) ≡ false → not (bit_and ip.flags 0x2000 == 0) ≡ flag
-    → ((rest : List ℕ) → udp_sight place (record { family = V4; bits = ip.sender }) flag false (carried ++ rest) (length carried + more) ≡ sight)
+    → ((rest : List ℕ) → udp_sight place (ends4 ip) flag false (carried ++ rest) (length carried + more) ≡ sight)
     → SeenIn place ether_type (ipv4_octets ip carried more ++ after) all sight
 whole_over_ipv4 place ether_type ip carried after more all flag sight type fits some there flags offset is_flag seen =
     let len = length carried + more in
     let kept : take len (carried ++ after) ≡ carried ++ take more after = take-append-add carried after more in
     let laid = ipv4_laid_out place ip (carried ++ after) len all flag fits (omega arith) (omega (arith, ipv4_long ip carried more fits.options_len)) flags offset is_flag in
     over_ipv4 place ether_type ip len all (carried ++ after) (ipv4_octets ip carried more ++ after) sight type fits.words_fit (append_assoc (ipv4_header ip len) carried after)
-    (laid ∙ ap (λ (c : List ℕ). udp_sight place (record { family = V4; bits = ip.sender }) flag false c len) kept ∙ seen (take more after))
+    (laid ∙ ap (λ (c : List ℕ). udp_sight place (ends4 ip) flag false c len) kept ∙ seen (take more after))
 
 cut_over_ipv4 : (place : Place) (ether_type : ℕ) (ip : Ipv4Header) (carried : List ℕ) (more n all : ℕ) (sight : Sight) → ether_type ≡ 0x0800 → IsIpv4 ip (length carried + more)
     → 4 ≤ length carried → length (ipv4_octets ip carried more) + more ≤ all → HasFlags 0 ip.flags → n ≤ length carried
-    → udp_sight place (record { family = V4; bits = ip.sender }) false false (take n carried) (length carried + more) ≡ sight
+    → udp_sight place (ends4 ip) false false (take n carried) (length carried + more) ≡ sight
     → SeenIn place ether_type (take (20 + 4 * ip.words + n) (ipv4_octets ip carried more)) all sight
 cut_over_ipv4 place ether_type ip carried more n all sight type fits some there no_fragment less seen =
     let len = length carried + more in
@@ -433,7 +436,7 @@ cut_over_ipv4 place ether_type ip carried more n all sight type fits some there 
     let laid = ipv4_laid_out place ip (take n carried) len all false fits (omega arith) (omega (arith, ipv4_long ip carried more fits.options_len)) (flags_fit 0 ip.flags (omega arith) no_fragment)
     (offset_of 0 ip.flags no_fragment) (last_of ip.flags no_fragment) in
     over_ipv4 place ether_type ip len all (take n carried) (take (20 + 4 * ip.words + n) (ipv4_octets ip carried more)) sight type fits.words_fit part
-    (laid ∙ ap (λ (c : List ℕ). udp_sight place (record { family = V4; bits = ip.sender }) false false c len) kept ∙ seen)
+    (laid ∙ ap (λ (c : List ℕ). udp_sight place (ends4 ip) false false c len) kept ∙ seen)
 
 ipv6_long : (ip : Ipv6Header) (headers : List Extension) (carried : List ℕ) (more : ℕ) → length (ipv6_octets ip headers carried more) ≡ 40 + (length (extensions headers) + length carried)
 ipv6_long ip headers carried more = omega (arith, length-append (extensions headers) carried)
@@ -441,7 +444,7 @@ ipv6_long ip headers carried more = omega (arith, length-append (extensions head
 whole_over_ipv6 : (place : Place) (ether_type : ℕ) (ip : Ipv6Header) (headers : List Extension) (carried after : List ℕ) (more all : ℕ) (flag : Bool) (sight : Sight) → ether_type ≡ 0x86dd
     → IsIpv6 ip (length (extensions headers) + (length carried + more)) → length (ipv6_octets ip headers carried more) + more ≤ all
     → ((rest : List ℕ) (whole : ℕ) → past_headers 8 (headers_of false headers rest whole) ≡ header_of 17 flag rest (whole - length (extensions headers)))
-    → ((rest : List ℕ) → udp_sight place (record { family = V6; bits = ip.sender }) flag false (carried ++ rest) (length carried + more) ≡ sight)
+    → ((rest : List ℕ) → udp_sight place (ends6 ip) flag false (carried ++ rest) (length carried + more) ≡ sight)
     → SeenIn place ether_type (ipv6_octets ip headers carried more ++ after) all sight
 whole_over_ipv6 place ether_type ip headers carried after more all flag sight type fits there past seen =
     let len = length carried + more in
@@ -457,12 +460,12 @@ whole_over_ipv6 place ether_type ip headers carried after more all flag sight ty
     let octets_are : ipv6_octets ip headers carried more ++ after ≡ front ++ (inner ++ tail) = append_assoc front (inner ++ carried) after ∙ ap (λ (o : List ℕ). front ++ o)
     (append_assoc inner carried after) in
     over_ipv6 place ether_type ip total (first_number headers) all (inner ++ tail) (ipv6_octets ip headers carried more ++ after) sight type fits.class_fits octets_are
-    (laid ∙ ap (λ (c : List ℕ). udp_sight place (record { family = V6; bits = ip.sender }) flag false c len) kept ∙ seen (take more after))
+    (laid ∙ ap (λ (c : List ℕ). udp_sight place (ends6 ip) flag false c len) kept ∙ seen (take more after))
 
 cut_over_ipv6 : (place : Place) (ether_type : ℕ) (ip : Ipv6Header) (headers : List Extension) (carried : List ℕ) (more n all : ℕ) (sight : Sight) → ether_type ≡ 0x86dd
     → IsIpv6 ip (length (extensions headers) + (length carried + more)) → length (ipv6_octets ip headers carried more) + more ≤ all → length headers ≤ 8 → All IsExtension headers
     → n ≤ length carried
-    → udp_sight place (record { family = V6; bits = ip.sender }) false false (take n carried) (length carried + more) ≡ sight
+    → udp_sight place (ends6 ip) false false (take n carried) (length carried + more) ≡ sight
     → SeenIn place ether_type (take (40 + (length (extensions headers) + n)) (ipv6_octets ip headers carried more)) all sight
 cut_over_ipv6 place ether_type ip headers carried more n all sight type fits there few are less seen =
     let len = length carried + more in
@@ -478,82 +481,76 @@ cut_over_ipv6 place ether_type ip headers carried more n all sight type fits the
     let part : take (40 + (length inner + n)) (ipv6_octets ip headers carried more) ≡ front ++ (inner ++ tail) = take-append-add front (inner ++ carried) (length inner + n) ∙ ap
     (λ (o : List ℕ). front ++ o) (take-append-add inner carried n) in
     over_ipv6 place ether_type ip total (first_number headers) all (inner ++ tail) (take (40 + (length inner + n)) (ipv6_octets ip headers carried more)) sight type fits.class_fits part
-    (laid ∙ ap (λ (c : List ℕ). udp_sight place (record { family = V6; bits = ip.sender }) false false c len) kept ∙ seen)
+    (laid ∙ ap (λ (c : List ℕ). udp_sight place (ends6 ip) false false c len) kept ∙ seen)
 
 -- ---- datagrams over either
 
 local_may : (bits : ℕ) → bits / 2 ^ 118 ≡ 0x3fa → may_send (record { family = V6; bits = bits }) ≡ true
 local_may bits local = rw local refl
 
-whole_seen : (place : Place) (ether_type : ℕ) (sender : Address) (udp : UdpDatagram) (packet after : List ℕ) (more all : ℕ) → IsBabel udp → IsOverIp ether_type sender udp packet more
-    → length packet + more ≤ all → SeenIn place ether_type (packet ++ after) all (datagram place sender (carries udp.payload))
-whole_seen place ether_type sender udp packet after more all babel (inl over) there =
+whole_seen : (place : Place) (ether_type : ℕ) (ends : Ends) (udp : UdpDatagram) (packet after : List ℕ) (more all : ℕ) → IsBabel udp → IsOverIp ether_type ends udp packet more
+    → length packet + more ≤ all → SeenIn place ether_type (packet ++ after) all (datagram place ends (carries udp.payload))
+whole_seen place ether_type ends udp packet after more all babel (inl over) there =
     let ip = over.ip in
-    let address : Address = record { family = V4; bits = ip.sender } in
     let none = over.no_fragment in
-    rw (over.is_packet, over.is_sender)
-    (whole_over_ipv4 place ether_type ip (udp_octets udp) after more all false (datagram place address (carries udp.payload)) over.is_type over.fits (omega arith)
+    rw (over.is_packet, over.are_ends)
+    (whole_over_ipv4 place ether_type ip (udp_octets udp) after more all false (datagram place (ends4 ip) (carries udp.payload)) over.is_type over.fits (omega arith)
     (omega (arith, ap length over.is_packet)) (flags_fit 0 ip.flags (omega arith) none) (offset_of 0 ip.flags none) (last_of ip.flags none)
-    (λ (rest : List ℕ). udp_laid_out place address udp rest (length (udp_octets udp) + more) babel refl (omega arith)))
-whole_seen place ether_type sender udp packet after more all babel (inr over) there =
+    (λ (rest : List ℕ). udp_laid_out place (ends4 ip) udp rest (length (udp_octets udp) + more) babel refl (omega arith)))
+whole_seen place ether_type ends udp packet after more all babel (inr over) there =
     let ip = over.ip in
-    let address : Address = record { family = V6; bits = ip.sender } in
-    rw (over.is_packet, over.is_sender)
-    (whole_over_ipv6 place ether_type ip over.headers (udp_octets udp) after more all false (datagram place address (carries udp.payload)) over.is_type over.fits
+    rw (over.is_packet, over.are_ends)
+    (whole_over_ipv6 place ether_type ip over.headers (udp_octets udp) after more all false (datagram place (ends6 ip) (carries udp.payload)) over.is_type over.fits
     (omega (arith, ap length over.is_packet))
     (λ (rest : List ℕ) (whole : ℕ). past-extensions false over.headers 8 rest whole over.few over.are_headers)
-    (λ (rest : List ℕ). udp_laid_out place address udp rest (length (udp_octets udp) + more) babel (local_may ip.sender over.fits.link_local) (omega arith)))
+    (λ (rest : List ℕ). udp_laid_out place (ends6 ip) udp rest (length (udp_octets udp) + more) babel (local_may ip.sender over.fits.link_local) (omega arith)))
 
-cut_seen : (place : Place) (ether_type : ℕ) (sender : Address) (udp : UdpDatagram) (packet : List ℕ) (more n all : ℕ) → IsBabel udp → IsOverIp ether_type sender udp packet more
+cut_seen : (place : Place) (ether_type : ℕ) (ends : Ends) (udp : UdpDatagram) (packet : List ℕ) (more n all : ℕ) → IsBabel udp → IsOverIp ether_type ends udp packet more
     → length packet ≤ n + (4 + length udp.payload) → n < length packet
-    → length packet + more ≤ all → SeenIn place ether_type (take n packet) all (datagram place sender (lacking lacks.Snapped))
-cut_seen place ether_type sender udp packet more n all babel (inl over) some less there =
+    → length packet + more ≤ all → SeenIn place ether_type (take n packet) all (datagram place ends (lacking lacks.Snapped))
+cut_seen place ether_type ends udp packet more n all babel (inl over) some less there =
     let ip = over.ip in
-    let address : Address = record { family = V4; bits = ip.sender } in
     let carried = udp_octets udp in
     let count = ap length over.is_packet ∙ ipv4_long ip carried more over.fits.options_len in
     let m = n - (20 + 4 * ip.words) in
     let whole : n ≡ 20 + 4 * ip.words + m = omega arith in
-    let seen = cut_over_ipv4 place ether_type ip carried more m all (datagram place address (lacking lacks.Snapped)) over.is_type over.fits (omega arith)
+    let seen = cut_over_ipv4 place ether_type ip carried more m all (datagram place (ends4 ip) (lacking lacks.Snapped)) over.is_type over.fits (omega arith)
     (omega (arith, ap length over.is_packet)) over.no_fragment (omega arith)
-    (udp_cut place address udp m (length carried + more) babel refl (omega arith) (omega arith) (omega arith)) in
-    rw (over.is_packet, over.is_sender, whole) seen
-cut_seen place ether_type sender udp packet more n all babel (inr over) some less there =
+    (udp_cut place (ends4 ip) udp m (length carried + more) babel refl (omega arith) (omega arith) (omega arith)) in
+    rw (over.is_packet, over.are_ends, whole) seen
+cut_seen place ether_type ends udp packet more n all babel (inr over) some less there =
     let ip = over.ip in
-    let address : Address = record { family = V6; bits = ip.sender } in
     let carried = udp_octets udp in
     let inner = length (extensions over.headers) in
     let count = ap length over.is_packet ∙ ipv6_long ip over.headers carried more in
     let m = n - (40 + inner) in
     let whole : n ≡ 40 + (inner + m) = omega arith in
-    let seen = cut_over_ipv6 place ether_type ip over.headers carried more m all (datagram place address (lacking lacks.Snapped)) over.is_type over.fits
+    let seen = cut_over_ipv6 place ether_type ip over.headers carried more m all (datagram place (ends6 ip) (lacking lacks.Snapped)) over.is_type over.fits
     (omega (arith, ap length over.is_packet)) over.few over.are_headers (omega arith)
-    (udp_cut place address udp m (length carried + more) babel (local_may ip.sender over.fits.link_local) (omega arith) (omega arith) (omega arith)) in
-    rw (over.is_packet, over.is_sender, whole) seen
+    (udp_cut place (ends6 ip) udp m (length carried + more) babel (local_may ip.sender over.fits.link_local) (omega arith) (omega arith) (omega arith)) in
+    rw (over.is_packet, over.are_ends, whole) seen
 
-first_seen : (place : Place) (ether_type : ℕ) (sender : Address) (packet after : List ℕ) (more all : ℕ) → IsFirstFragment ether_type sender packet more → length packet + more ≤ all
-    → SeenIn place ether_type (packet ++ after) all (datagram place sender (lacking lacks.Fragment))
-first_seen place ether_type sender packet after more all (inl is) there =
+first_seen : (place : Place) (ether_type : ℕ) (ends : Ends) (packet after : List ℕ) (more all : ℕ) → IsFirstFragment ether_type ends packet more → length packet + more ≤ all
+    → SeenIn place ether_type (packet ++ after) all (datagram place ends (lacking lacks.Fragment))
+first_seen place ether_type ends packet after more all (inl is) there =
     let ip = is.ip in
-    let address : Address = record { family = V4; bits = ip.sender } in
-    rw (is.is_packet, is.is_sender)
-    (whole_over_ipv4 place ether_type ip ports after more all true (datagram place address (lacking lacks.Fragment)) is.is_type is.fits (omega arith)
+    rw (is.is_packet, is.are_ends)
+    (whole_over_ipv4 place ether_type ip ports after more all true (datagram place (ends4 ip) (lacking lacks.Fragment)) is.is_type is.fits (omega arith)
     (omega (arith, ap length is.is_packet)) (flags_fit 1 ip.flags (omega arith) is.is_first) (offset_of 1 ip.flags is.is_first) (more_of ip.flags is.is_first)
-    (λ (rest : List ℕ). udp_fragment place address rest (length ports + more) refl (omega arith)))
-first_seen place ether_type sender packet after more all (inr is) there =
+    (λ (rest : List ℕ). udp_fragment place (ends4 ip) rest (length ports + more) refl (omega arith)))
+first_seen place ether_type ends packet after more all (inr is) there =
     let ip = is.ip in
-    let address : Address = record { family = V6; bits = ip.sender } in
     let few = is.few in
-    rw (is.is_packet, is.is_sender)
-    (whole_over_ipv6 place ether_type ip (is.front ++ is.fragment ∷ is.back) ports after more all true (datagram place address (lacking lacks.Fragment)) is.is_type is.fits
+    rw (is.is_packet, is.are_ends)
+    (whole_over_ipv6 place ether_type ip (is.front ++ is.fragment ∷ is.back) ports after more all true (datagram place (ends6 ip) (lacking lacks.Fragment)) is.is_type is.fits
     (omega (arith, ap length is.is_packet))
     (λ (rest : List ℕ) (whole : ℕ). past-fragment is.front is.back is.fragment 8 rest whole (omega arith) is.are_front is.is_fragment is.are_back)
-    (λ (rest : List ℕ). udp_fragment place address rest (length ports + more) (local_may ip.sender is.fits.link_local) (omega arith)))
+    (λ (rest : List ℕ). udp_fragment place (ends6 ip) rest (length ports + more) (local_may ip.sender is.fits.link_local) (omega arith)))
 
-babel_seen : (place : Place) (ether_type : ℕ) (sender : Address) (packet after : List ℕ) (more : ℕ) (carried : Carried) (all : ℕ) → HasBabel ether_type sender packet more carried
-    → length packet + more ≤ all → SeenIn place ether_type (packet ++ after) all (datagram place sender carried)
-babel_seen place ether_type sender packet after more carried all (inl (udp, babel, over, is)) there = rw is (whole_seen place ether_type sender udp packet after more all babel over there)
-babel_seen place ether_type sender packet after more carried all (inr (first, is)) there = rw is (first_seen place ether_type sender packet after more all first there)
+babel_seen : (place : Place) (ether_type : ℕ) (ends : Ends) (packet after : List ℕ) (more : ℕ) (carried : Carried) (all : ℕ) → HasBabel ether_type ends packet more carried
+    → length packet + more ≤ all → SeenIn place ether_type (packet ++ after) all (datagram place ends carried)
+babel_seen place ether_type ends packet after more carried all (inl (udp, babel, over, is)) there = rw is (whole_seen place ether_type ends udp packet after more all babel over there)
+babel_seen place ether_type ends packet after more carried all (inr (first, is)) there = rw is (first_seen place ether_type ends packet after more all first there)
 
 -- ---- VLAN tags
 
@@ -793,19 +790,19 @@ in_frame links.RawIpv4 interface ether_type place header octets all sight (type,
 in_frame links.RawIpv6 interface ether_type place header octets all sight (type, is_place, none) (long, begins, seen) =
     rw none (at_own interface ether_type 0x86dd place octets all sight type is_place (ap (ip_at place ether_type octets) (omega (arith, ap length none)) ∙ seen))
 
-pub seen_in_frame : (link : Link) (interface ether_type : ℕ) (place : Place) (sender : Address) (carried : Carried) (header packet after : List ℕ) (more all : ℕ)
-    → IsHeader link interface ether_type place header → HasBabel ether_type sender packet more carried → length header + (length packet + more) ≤ all
-    → frame_sight interface link (header ++ (packet ++ after)) all ≡ datagram place sender carried
-seen_in_frame link interface ether_type place sender carried header packet after more all is babel there =
-    in_frame link interface ether_type place header (packet ++ after) all (datagram place sender carried) is
-    (babel_seen place ether_type sender packet after more carried (all - length header) babel (omega arith))
+pub seen_in_frame : (link : Link) (interface ether_type : ℕ) (place : Place) (ends : Ends) (carried : Carried) (header packet after : List ℕ) (more all : ℕ)
+    → IsHeader link interface ether_type place header → HasBabel ether_type ends packet more carried → length header + (length packet + more) ≤ all
+    → frame_sight interface link (header ++ (packet ++ after)) all ≡ datagram place ends carried
+seen_in_frame link interface ether_type place ends carried header packet after more all is babel there =
+    in_frame link interface ether_type place header (packet ++ after) all (datagram place ends carried) is
+    (babel_seen place ether_type ends packet after more carried (all - length header) babel (omega arith))
 
-pub cut_in_frame : (link : Link) (interface ether_type : ℕ) (place : Place) (sender : Address) (udp : UdpDatagram) (header packet : List ℕ) (more n all : ℕ)
-    → IsHeader link interface ether_type place header → IsBabel udp → IsOverIp ether_type sender udp packet more → length packet ≤ n + (4 + length udp.payload) → n < length packet
-    → length header + (length packet + more) ≤ all → frame_sight interface link (header ++ take n packet) all ≡ datagram place sender (lacking lacks.Snapped)
-cut_in_frame link interface ether_type place sender udp header packet more n all is babel over some less there =
-    in_frame link interface ether_type place header (take n packet) all (datagram place sender (lacking lacks.Snapped)) is
-    (cut_seen place ether_type sender udp packet more n (all - length header) babel over some less (omega arith))
+pub cut_in_frame : (link : Link) (interface ether_type : ℕ) (place : Place) (ends : Ends) (udp : UdpDatagram) (header packet : List ℕ) (more n all : ℕ)
+    → IsHeader link interface ether_type place header → IsBabel udp → IsOverIp ether_type ends udp packet more → length packet ≤ n + (4 + length udp.payload) → n < length packet
+    → length header + (length packet + more) ≤ all → frame_sight interface link (header ++ take n packet) all ≡ datagram place ends (lacking lacks.Snapped)
+cut_in_frame link interface ether_type place ends udp header packet more n all is babel over some less there =
+    in_frame link interface ether_type place header (take n packet) all (datagram place ends (lacking lacks.Snapped)) is
+    (cut_seen place ether_type ends udp packet more n (all - length header) babel over some less (omega arith))
 
 -- ---- what is no IP
 

@@ -3,7 +3,7 @@ use Rattle.std.proofs.Common.{◌≡◌, ◌≢◌, ℕ, ◌+◌, ◌*◌, ◌/�
 use Rattle.std.specs.Prelude.{◌⊎◌, Option, Some, None, Result, Ok, Err}
 use Rattle.std.specs.Result.{IsOkAnd}
 use Rattle.std.proofs.lemmas.List.{append-nil, drop_at, take-append-le, take_at}
-use Rattle.babel_prefix.specs.Address.{Address}
+use Rattle.babel_capture.specs.declared.ends.Ends.{Ends}
 use Rattle.babel_tlv.specs.FrameFaults.{BeginsPacket, HasHeader, LacksBody}
 use Rattle.babel_tlv.specs.Framing.{framed}
 use Rattle.babel_tlv.proofs.OneReading.{framed_one}
@@ -65,38 +65,38 @@ short_version : (payload : List ℕ) → (length payload < 4) ⊎ LacksBody payl
 short_version payload (inl short) long = absurd (omega (arith, short, long))
 short_version payload (inr lacks) long = lacks.2
 
-payload_one : (place : Place) (sender : Address) (payload : List ℕ) (what again : Found) → PayloadIs place sender payload what → PayloadIs place sender payload again → what ≡ again
-payload_one place sender payload what again (inl (body, begins, is)) (inl (other_body, begins_again, is_again)) =
+payload_one : (place : Place) (ends : Ends) (payload : List ℕ) (what again : Found) → PayloadIs place ends payload what → PayloadIs place ends payload again → what ≡ again
+payload_one place ends payload what again (inl (body, begins, is)) (inl (other_body, begins_again, is_again)) =
     let same : body ≡ other_body = (framed_one body other_body begins.1 begins_again.1 begins.0 begins_again.0 (sym begins.2 ∙ begins_again.2)).0 in
-    is ∙ ap (λ (b : List ℕ). found place sender (framed b) (nat_lt (length (framed b)) (length payload))) same ∙ sym is_again
-payload_one place sender payload what again (inl (body, begins, is)) (inr (inl (short, is_again))) = absurd (begins_whole payload body begins short)
-payload_one place sender payload what again (inl (body, begins, is)) (inr (inr (inl (long, magic, is_again)))) = absurd (magic (begins_magic payload body begins))
-payload_one place sender payload what again (inl (body, begins, is)) (inr (inr (inr (long, magic, version, is_again)))) = absurd (version (begins_version payload body begins))
-payload_one place sender payload what again (inr (inl (short, is))) (inl (body, begins, is_again)) = absurd (begins_whole payload body begins short)
-payload_one place sender payload what again (inr (inl (short, is))) (inr (inl (short_too, is_again))) = is ∙ sym is_again
-payload_one place sender payload what again (inr (inl (short, is))) (inr (inr (inl (long, magic, is_again)))) = absurd (magic (short_magic payload short long))
-payload_one place sender payload what again (inr (inl (short, is))) (inr (inr (inr (long, magic, version, is_again)))) = absurd (version (short_version payload short long))
-payload_one place sender payload what again (inr (inr (inl (long, magic, is)))) (inl (body, begins, is_again)) = absurd (magic (begins_magic payload body begins))
-payload_one place sender payload what again (inr (inr (inl (long, magic, is)))) (inr (inl (short, is_again))) = absurd (magic (short_magic payload short long))
-payload_one place sender payload what again (inr (inr (inl (long, magic, is)))) (inr (inr (inl (long_too, magic_too, is_again)))) = is ∙ sym is_again
-payload_one place sender payload what again (inr (inr (inl (long, magic, is)))) (inr (inr (inr (long_too, magic_too, version, is_again)))) = absurd (magic magic_too)
-payload_one place sender payload what again (inr (inr (inr (long, magic, version, is)))) (inl (body, begins, is_again)) = absurd (version (begins_version payload body begins))
-payload_one place sender payload what again (inr (inr (inr (long, magic, version, is)))) (inr (inl (short, is_again))) = absurd (version (short_version payload short long))
-payload_one place sender payload what again (inr (inr (inr (long, magic, version, is)))) (inr (inr (inl (long_too, magic_too, is_again)))) = absurd (magic_too magic)
-payload_one place sender payload what again (inr (inr (inr (long, magic, version, is)))) (inr (inr (inr (long_too, magic_too, version_too, is_again)))) = is ∙ sym is_again
+    is ∙ ap (λ (b : List ℕ). found place ends (framed b) (nat_lt (length (framed b)) (length payload))) same ∙ sym is_again
+payload_one place ends payload what again (inl (body, begins, is)) (inr (inl (short, is_again))) = absurd (begins_whole payload body begins short)
+payload_one place ends payload what again (inl (body, begins, is)) (inr (inr (inl (long, magic, is_again)))) = absurd (magic (begins_magic payload body begins))
+payload_one place ends payload what again (inl (body, begins, is)) (inr (inr (inr (long, magic, version, is_again)))) = absurd (version (begins_version payload body begins))
+payload_one place ends payload what again (inr (inl (short, is))) (inl (body, begins, is_again)) = absurd (begins_whole payload body begins short)
+payload_one place ends payload what again (inr (inl (short, is))) (inr (inl (short_too, is_again))) = is ∙ sym is_again
+payload_one place ends payload what again (inr (inl (short, is))) (inr (inr (inl (long, magic, is_again)))) = absurd (magic (short_magic payload short long))
+payload_one place ends payload what again (inr (inl (short, is))) (inr (inr (inr (long, magic, version, is_again)))) = absurd (version (short_version payload short long))
+payload_one place ends payload what again (inr (inr (inl (long, magic, is)))) (inl (body, begins, is_again)) = absurd (magic (begins_magic payload body begins))
+payload_one place ends payload what again (inr (inr (inl (long, magic, is)))) (inr (inl (short, is_again))) = absurd (magic (short_magic payload short long))
+payload_one place ends payload what again (inr (inr (inl (long, magic, is)))) (inr (inr (inl (long_too, magic_too, is_again)))) = is ∙ sym is_again
+payload_one place ends payload what again (inr (inr (inl (long, magic, is)))) (inr (inr (inr (long_too, magic_too, version, is_again)))) = absurd (magic magic_too)
+payload_one place ends payload what again (inr (inr (inr (long, magic, version, is)))) (inl (body, begins, is_again)) = absurd (version (begins_version payload body begins))
+payload_one place ends payload what again (inr (inr (inr (long, magic, version, is)))) (inr (inl (short, is_again))) = absurd (version (short_version payload short long))
+payload_one place ends payload what again (inr (inr (inr (long, magic, version, is)))) (inr (inr (inl (long_too, magic_too, is_again)))) = absurd (magic_too magic)
+payload_one place ends payload what again (inr (inr (inr (long, magic, version, is)))) (inr (inr (inr (long_too, magic_too, version_too, is_again)))) = is ∙ sym is_again
 
-carried_one : (wanted : Wanted) (place : Place) (sender : Address) (carried : Carried) (what again : Found) → CarriedIs wanted place sender carried what → CarriedIs wanted place sender carried again
+carried_one : (wanted : Wanted) (place : Place) (ends : Ends) (carried : Carried) (what again : Found) → CarriedIs wanted place ends carried what → CarriedIs wanted place ends carried again
     → what ≡ again
-carried_one wanted place sender other_port what again is is_again = is ∙ sym is_again
-carried_one wanted place sender not_link_local what again is is_again = is ∙ sym is_again
-carried_one wanted place sender (lacking lack) what again is is_again = is ∙ sym is_again
-carried_one wanted place sender (carries payload) what again is is_again = payload_one place sender payload what again is is_again
+carried_one wanted place ends other_port what again is is_again = is ∙ sym is_again
+carried_one wanted place ends not_link_local what again is is_again = is ∙ sym is_again
+carried_one wanted place ends (lacking lack) what again is is_again = is ∙ sym is_again
+carried_one wanted place ends (carries payload) what again is is_again = payload_one place ends payload what again is is_again
 
 pub finds_one : (wanted : Wanted) (sight : Sight) (what again : Found) → Finds wanted sight what → Finds wanted sight again → what ≡ again
 finds_one wanted other what again is is_again = is ∙ sym is_again
 finds_one wanted too_short what again is is_again = is ∙ sym is_again
-finds_one wanted (datagram place sender carried) what again is is_again =
-    either_one what again (IsWanted wanted sender place) _ _ _ _ (carried_one wanted place sender carried what again) (same_of what again passed) is is_again
+finds_one wanted (datagram place ends carried) what again is is_again =
+    either_one what again (IsWanted wanted ends.sender place) _ _ _ _ (carried_one wanted place ends carried what again) (same_of what again passed) is is_again
 
 one_made : (made others : Made) → made.number ≡ others.number → made.link ≡ others.link → made.came ≡ others.came → made.what ≡ others.what → made ≡ others
 one_made made others number link came what =

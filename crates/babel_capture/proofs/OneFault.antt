@@ -36,7 +36,7 @@ with-longer senders time passed = omega arith
 with-longer senders time untold = omega arith
 with-longer senders time (left reason missed) = omega arith
 with-longer senders time (refused lack) = omega arith
-with-longer senders time (found place sender packet has_trailer) = insert-longer origin_cmp (record { place = place; sender = sender }) _ senders
+with-longer senders time (found place ends packet has_trailer) = insert-longer origin_cmp (record { place = place; sender = ends.sender }) _ senders
 
 more-longer : (senders : Senders) (made : List Made) → length senders ≤ length (more senders made)
 more-longer senders [] = omega arith
@@ -101,8 +101,8 @@ not_refused senders at fault one others passed is takes refuses few = refuses
 not_refused senders at fault one others untold is takes refuses few = refuses
 not_refused senders at fault one others (left reason missed) is takes refuses few = refuses
 not_refused senders at fault one others (refused lack) is takes refuses few = takes
-not_refused senders at fault one others (found place sender octets has_trailer) is takes (told, many) few =
-    let origin : Origin = record { place = place; sender = sender } in
+not_refused senders at fault one others (found place ends octets has_trailer) is takes (told, many) few =
+    let origin : Origin = record { place = place; sender = ends.sender } in
     let listed = tallied senders origin (time_of one.came) octets has_trailer in
     let all : more senders (one ∷ others) ≡ more listed others = ap (λ (w : Found). more (senders_with senders (time_of one.came) w) others) is in
     let new : length listed ≡ length senders + 1 = insert-new origin_cmp origin _ senders many.1 in
@@ -163,7 +163,7 @@ module _ (wanted : Wanted) (senders : Senders) (before : Before) (at : ℕ) wher
   same_refusal untold one other refuses again = absurd refuses
   same_refusal (left reason missed) one other refuses again = absurd refuses
   same_refusal (refused lack) one other refuses again = refuses ∙ sym again
-  same_refusal (found place sender octets has_trailer) one other refuses again = refuses.0 ∙ sym again.0
+  same_refusal (found place ends octets has_trailer) one other refuses again = refuses.0 ∙ sym again.0
 
   refused_one : (content : Content) (one other : Fault) → IsRefused wanted senders at content one → IsRefused wanted senders at content other → one ≡ other
   refused_one (file order interface) one other refuses again = absurd refuses

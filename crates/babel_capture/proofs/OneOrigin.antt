@@ -8,6 +8,7 @@ use Rattle.std.specs.Ordering.{is_eq, match_ordering}
 use Rattle.std.proofs.lemmas.Cmp.{tied_itself}
 use Rattle.std.proofs.lemmas.List.Elements.{filter-append}
 use Rattle.babel_prefix.specs.Address.{Address}
+use Rattle.babel_capture.specs.declared.ends.Ends.{Ends}
 use Rattle.babel_capture.specs.declared.place.Place.{Place}
 use Rattle.babel_capture.specs.declared.tallies.Origin.{Origin}
 use Rattle.babel_capture.specs.declared.tallies.Tally.{Tally}
@@ -29,25 +30,25 @@ use Rattle.babel_capture.proofs.TallyLaws.{origin_exact, origin_total}
 abbrev at : Place → Address → Origin
 at place sender = record { place = place; sender = sender }
 
--- ---- a packet that is found is of its datagram's sender at its place
+-- ---- a packet that is found is of its datagram's ends at its place
 
-payload_of : (place : Place) (sender : Address) (payload : List ℕ) (there : Place) (from : Address) (packet : List ℕ) (has_trailer : Bool)
-    → PayloadIs place sender payload (found there from packet has_trailer) → (there ≡ place) × (from ≡ sender)
-payload_of place sender payload there from packet has_trailer (inl (body, begins, is)) = (cc, cc)
-payload_of place sender payload there from packet has_trailer (inr (inl (short, is))) = absurd cc
-payload_of place sender payload there from packet has_trailer (inr (inr (inl (long, magic, is)))) = absurd cc
-payload_of place sender payload there from packet has_trailer (inr (inr (inr (long, magic, version, is)))) = absurd cc
+payload_of : (place : Place) (ends : Ends) (payload : List ℕ) (there : Place) (from : Ends) (packet : List ℕ) (has_trailer : Bool)
+    → PayloadIs place ends payload (found there from packet has_trailer) → (there ≡ place) × (from ≡ ends)
+payload_of place ends payload there from packet has_trailer (inl (body, begins, is)) = (cc, cc)
+payload_of place ends payload there from packet has_trailer (inr (inl (short, is))) = absurd cc
+payload_of place ends payload there from packet has_trailer (inr (inr (inl (long, magic, is)))) = absurd cc
+payload_of place ends payload there from packet has_trailer (inr (inr (inr (long, magic, version, is)))) = absurd cc
 
-carried_of : (wanted : Wanted) (place : Place) (sender : Address) (carried : Carried) (there : Place) (from : Address) (packet : List ℕ) (has_trailer : Bool)
-    → CarriedIs wanted place sender carried (found there from packet has_trailer) → (there ≡ place) × (from ≡ sender)
-carried_of wanted place sender other_port there from packet has_trailer is = absurd cc
-carried_of wanted place sender not_link_local there from packet has_trailer is = absurd cc
-carried_of wanted place sender (lacking lack) there from packet has_trailer is = absurd (by wanted.sender is)
+carried_of : (wanted : Wanted) (place : Place) (ends : Ends) (carried : Carried) (there : Place) (from : Ends) (packet : List ℕ) (has_trailer : Bool)
+    → CarriedIs wanted place ends carried (found there from packet has_trailer) → (there ≡ place) × (from ≡ ends)
+carried_of wanted place ends other_port there from packet has_trailer is = absurd cc
+carried_of wanted place ends not_link_local there from packet has_trailer is = absurd cc
+carried_of wanted place ends (lacking lack) there from packet has_trailer is = absurd (by wanted.sender is)
   where
-    by : (named : Option Address) → found there from packet has_trailer ≡ lack_found named place sender lack → ⊥
+    by : (named : Option Address) → found there from packet has_trailer ≡ lack_found named place ends.sender lack → ⊥
     by None is = cc
     by (Some one) is = cc
-carried_of wanted place sender (carries payload) there from packet has_trailer is = payload_of place sender payload there from packet has_trailer is
+carried_of wanted place ends (carries payload) there from packet has_trailer is = payload_of place ends payload there from packet has_trailer is
 
 module _ (origin : Origin) where
   -- ---- this sender at this place
@@ -72,13 +73,13 @@ module _ (origin : Origin) where
       by true is = absurd (not (own_wanted place sender is))
       by false is = is
 
-  found_of : (sight : Sight) (place : Place) (sender : Address) (packet : List ℕ) (has_trailer : Bool) → Finds (only origin) sight (found place sender packet has_trailer)
-      → (sender ≡ origin.sender) × (place ≡ origin.place)
-  found_of other place sender packet has_trailer is = absurd cc
-  found_of too_short place sender packet has_trailer is = absurd cc
-  found_of (datagram there from carried) place sender packet has_trailer (inl (wants, is)) =
-      let parts = carried_of (only origin) there from carried place sender packet has_trailer is in (parts.1 ∙ wants.0, parts.0 ∙ wants.1)
-  found_of (datagram there from carried) place sender packet has_trailer (inr (not, is)) = absurd cc
+  found_of : (sight : Sight) (place : Place) (ends : Ends) (packet : List ℕ) (has_trailer : Bool) → Finds (only origin) sight (found place ends packet has_trailer)
+      → (ends.sender ≡ origin.sender) × (place ≡ origin.place)
+  found_of other place ends packet has_trailer is = absurd cc
+  found_of too_short place ends packet has_trailer is = absurd cc
+  found_of (datagram there from carried) place ends packet has_trailer (inl (wants, is)) =
+      let parts = carried_of (only origin) there from carried place ends packet has_trailer is in (ap (λ (e : Ends). e.sender) parts.1 ∙ wants.0, parts.0 ∙ wants.1)
+  found_of (datagram there from carried) place ends packet has_trailer (inr (not, is)) = absurd cc
 
   -- ---- where it alone is wanted, it alone is counted
 
@@ -98,10 +99,10 @@ module _ (origin : Origin) where
   with_at_most sight senders time untold finds most = most
   with_at_most sight senders time (left reason missed) finds most = most
   with_at_most sight senders time (refused lack) finds most = most
-  with_at_most sight senders time (found place sender packet has_trailer) finds most =
-      let same = found_of sight place sender packet has_trailer finds in
-      let is : at place sender ≡ origin = ap (λ (p : Place). at p sender) same.1 ∙ ap (at origin.place) same.0 in
-      subst (λ (o : Origin). IsOneAtMost (senders_with senders time (found o.place o.sender packet has_trailer))) (sym is) (put_at_most senders _ most)
+  with_at_most sight senders time (found place ends packet has_trailer) finds most =
+      let same = found_of sight place ends packet has_trailer finds in
+      let is : at place ends.sender ≡ origin = ap (λ (p : Place). at p ends.sender) same.1 ∙ ap (at origin.place) same.0 in
+      subst (λ (o : Origin). IsOneAtMost (senders_with senders time (found o.place (record { sender = o.sender; destination = ends.destination }) packet has_trailer))) (sym is) (put_at_most senders _ most)
 
   all_at_most : (sightings : List Sighting) (made : List Made) (senders : Senders) → AreMade (only origin) sightings made → IsOneAtMost senders
       → IsOneAtMost (fold (λ (s : Senders) (one : Made). senders_with s (time_of one.came) one.what) senders made)
@@ -131,8 +132,8 @@ module _ (origin : Origin) where
   found_own sight one untold is finds = ap (λ (w : Found). timed_found one.came w ++ []) is
   found_own sight one (left reason missed) is finds = ap (λ (w : Found). timed_found one.came w ++ []) is
   found_own sight one (refused lack) is finds = ap (λ (w : Found). timed_found one.came w ++ []) is
-  found_own sight one (found place sender packet has_trailer) is finds =
-      ap (λ (b : Bool). packets_made (cond b (one ∷ []) [])) (sym (wanted_own place sender (found_of sight place sender packet has_trailer finds)))
+  found_own sight one (found place ends packet has_trailer) is finds =
+      ap (λ (b : Bool). packets_made (cond b (one ∷ []) [])) (sym (wanted_own place ends.sender (found_of sight place ends packet has_trailer finds)))
 
   all_own : (sightings : List Sighting) (made : List Made) → AreMade (only origin) sightings made → packets_made made ≡ packets_made (made_from origin made)
   all_own [] made are = ap packets_made are ∙ sym (ap (λ (m : List Made). packets_made (made_from origin m)) are)
@@ -145,21 +146,21 @@ module _ (origin : Origin) where
 
   -- ---- what is made of each packet where it alone is wanted, by what is made where nobody is named
 
-  not_from : (place : Place) (sender : Address) (carried : Carried) (what : Found) → is_own place sender ≡ false → CarriedIs everyone place sender carried what → is_from origin what ≡ false
-  not_from place sender carried passed is made = refl
-  not_from place sender carried untold is made = refl
-  not_from place sender carried (left reason missed) is made = refl
-  not_from place sender carried (refused lack) is made = refl
-  not_from place sender carried (found there from packet has_trailer) is made =
-      let parts = carried_of everyone place sender carried there from packet has_trailer made in
-      ap (λ (p : Place). is_own p from) parts.0 ∙ ap (is_own place) parts.1 ∙ is
+  not_from : (place : Place) (ends : Ends) (carried : Carried) (what : Found) → is_own place ends.sender ≡ false → CarriedIs everyone place ends carried what → is_from origin what ≡ false
+  not_from place ends carried passed is made = refl
+  not_from place ends carried untold is made = refl
+  not_from place ends carried (left reason missed) is made = refl
+  not_from place ends carried (refused lack) is made = refl
+  not_from place ends carried (found there from packet has_trailer) is made =
+      let parts = carried_of everyone place ends carried there from packet has_trailer made in
+      ap (λ (p : Place). is_own p from.sender) parts.0 ∙ ap (λ (e : Ends). is_own place e.sender) parts.1 ∙ is
 
-  own_carried : (place : Place) (sender : Address) (carried : Carried) (what : Found) → is_own place sender ≡ true → is_missed origin what ≡ false → CarriedIs everyone place sender carried what
-      → CarriedIs (only origin) place sender carried what
-  own_carried place sender other_port what is there made = made
-  own_carried place sender not_link_local what is there made = made
-  own_carried place sender (carries payload) what is there made = made
-  own_carried place sender (lacking lack) what is there made = (let wrong : true ≡ false = sym is ∙ sym (ap (is_missed origin) made) ∙ there in absurd cc)
+  own_carried : (place : Place) (ends : Ends) (carried : Carried) (what : Found) → is_own place ends.sender ≡ true → is_missed origin what ≡ false → CarriedIs everyone place ends carried what
+      → CarriedIs (only origin) place ends carried what
+  own_carried place ends other_port what is there made = made
+  own_carried place ends not_link_local what is there made = made
+  own_carried place ends (carries payload) what is there made = made
+  own_carried place ends (lacking lack) what is there made = (let wrong : true ≡ false = sym is ∙ sym (ap (is_missed origin) made) ∙ there in absurd cc)
 
   -- it is the same, or passed
   record IsMine (sight : Sight) (what : Found) : Type 0 where
@@ -171,16 +172,16 @@ module _ (origin : Origin) where
   one_mine : (sight : Sight) (what : Found) → Finds everyone sight what → IsTaken what → is_missed origin what ≡ false → IsMine sight what
   one_mine other what is taken there = record { mine = passed; finds = refl; taken = tt; same = λ made. ap (λ (w : Found). if_from w (made w ∷ [])) (sym is) }
   one_mine too_short what is taken there = record { mine = untold; finds = refl; taken = tt; same = λ made. ap (λ (w : Found). if_from w (made w ∷ [])) (sym is) }
-  one_mine (datagram place sender carried) what (inr (not, is)) taken there = absurd (not (tt, tt))
-  one_mine (datagram place sender carried) what (inl (wants, is)) taken there = by (is_own place sender) refl
+  one_mine (datagram place ends carried) what (inr (not, is)) taken there = absurd (not (tt, tt))
+  one_mine (datagram place ends carried) what (inl (wants, is)) taken there = by (is_own place ends.sender) refl
     where
-      by : (b : Bool) → is_own place sender ≡ b → IsMine (datagram place sender carried) what
-      by true own = record { mine = what; finds = inl (own_wanted place sender own, own_carried place sender carried what own there is); taken = taken; same = λ made. refl }
+      by : (b : Bool) → is_own place ends.sender ≡ b → IsMine (datagram place ends carried) what
+      by true own = record { mine = what; finds = inl (own_wanted place ends.sender own, own_carried place ends carried what own there is); taken = taken; same = λ made. refl }
       by false own = record {
         mine = passed;
-        finds = inr ((λ same. (let wrong : true ≡ false = sym (wanted_own place sender same) ∙ own in cc)), refl);
+        finds = inr ((λ same. (let wrong : true ≡ false = sym (wanted_own place ends.sender same) ∙ own in cc)), refl);
         taken = tt;
-        same = λ made. ap (λ (b : Bool). cond b (made what ∷ []) []) (sym (not_from place sender carried what own is));
+        same = λ made. ap (λ (b : Bool). cond b (made what ∷ []) []) (sym (not_from place ends carried what own is));
       }
 
   -- none is missed
@@ -212,21 +213,21 @@ module _ (origin : Origin) where
 
   -- ---- where it is taken alone, none is missed
 
-  payload_there : (place : Place) (sender : Address) (payload : List ℕ) (what : Found) → PayloadIs place sender payload what → is_missed origin what ≡ false
-  payload_there place sender payload what (inl (body, begins, is)) = ap (is_missed origin) is
-  payload_there place sender payload what (inr (inl (short, is))) = ap (is_missed origin) is
-  payload_there place sender payload what (inr (inr (inl (long, magic, is)))) = ap (is_missed origin) is
-  payload_there place sender payload what (inr (inr (inr (long, magic, version, is)))) = ap (is_missed origin) is
+  payload_there : (place : Place) (ends : Ends) (payload : List ℕ) (what : Found) → PayloadIs place ends payload what → is_missed origin what ≡ false
+  payload_there place ends payload what (inl (body, begins, is)) = ap (is_missed origin) is
+  payload_there place ends payload what (inr (inl (short, is))) = ap (is_missed origin) is
+  payload_there place ends payload what (inr (inr (inl (long, magic, is)))) = ap (is_missed origin) is
+  payload_there place ends payload what (inr (inr (inr (long, magic, version, is)))) = ap (is_missed origin) is
 
   one_there : (sight : Sight) (what mine : Found) → Finds everyone sight what → Finds (only origin) sight mine → IsTaken mine → is_missed origin what ≡ false
   one_there other what mine is finds taken = ap (is_missed origin) is
   one_there too_short what mine is finds taken = ap (is_missed origin) is
-  one_there (datagram place sender carried) what mine (inr (not, is)) finds taken = absurd (not (tt, tt))
-  one_there (datagram place sender other_port) what mine (inl (wants, is)) finds taken = ap (is_missed origin) is
-  one_there (datagram place sender not_link_local) what mine (inl (wants, is)) finds taken = ap (is_missed origin) is
-  one_there (datagram place sender (carries payload)) what mine (inl (wants, is)) finds taken = payload_there place sender payload what is
-  one_there (datagram place sender (lacking lack)) what mine (inl (wants, is)) (inl (own, refuses)) taken = absurd (subst IsTaken refuses taken)
-  one_there (datagram place sender (lacking lack)) what mine (inl (wants, is)) (inr (not, passes)) taken = ap (is_missed origin) is ∙ unwanted place sender not
+  one_there (datagram place ends carried) what mine (inr (not, is)) finds taken = absurd (not (tt, tt))
+  one_there (datagram place ends other_port) what mine (inl (wants, is)) finds taken = ap (is_missed origin) is
+  one_there (datagram place ends not_link_local) what mine (inl (wants, is)) finds taken = ap (is_missed origin) is
+  one_there (datagram place ends (carries payload)) what mine (inl (wants, is)) finds taken = payload_there place ends payload what is
+  one_there (datagram place ends (lacking lack)) what mine (inl (wants, is)) (inl (own, refuses)) taken = absurd (subst IsTaken refuses taken)
+  one_there (datagram place ends (lacking lack)) what mine (inl (wants, is)) (inr (not, passes)) taken = ap (is_missed origin) is ∙ unwanted place ends.sender not
 
   all_there : (sightings : List Sighting) (made mine : List Made) → AreMade everyone sightings made → AreMade (only origin) sightings mine → missed_from origin made ≡ []
   all_there [] made mine are are_mine = ap (missed_from origin) are

@@ -5,6 +5,7 @@ use Rattle.std.proofs.lemmas.List.{append-nil}
 use Rattle.std.proofs.lemmas.List.Concat.{flat_map-append}
 use Rattle.std.proofs.lemmas.List.Elements.{All-nil, All-append, All-push}
 use Rattle.babel_prefix.specs.Address.{Address}
+use Rattle.babel_capture.specs.declared.ends.Ends.{Ends}
 use Rattle.babel_tlv.specs.Framing.{IsBody, framed}
 use Rattle.babel_capture.specs.declared.lack.Lack.{Lack}
 use Rattle.babel_capture.specs.declared.place.Place.{Place}
@@ -37,27 +38,27 @@ one_packet octets body fits is = record {
   whole = is ∙ sym (append-nil (framed body));
 }
 
-in_payload : (place : Place) (sender : Address) (payload : List ℕ) (what : Found) → PayloadIs place sender payload what → ArePackets (octets_found what)
-in_payload place sender payload what (inl (body, begins, is)) = one_packet (octets_found what) body begins.0 (ap octets_found is)
-in_payload place sender payload what (inr (inl (short, is))) = nothing_found (octets_found what) (ap octets_found is)
-in_payload place sender payload what (inr (inr (inl (header, magic, is)))) = nothing_found (octets_found what) (ap octets_found is)
-in_payload place sender payload what (inr (inr (inr (header, magic, version, is)))) = nothing_found (octets_found what) (ap octets_found is)
+in_payload : (place : Place) (ends : Ends) (payload : List ℕ) (what : Found) → PayloadIs place ends payload what → ArePackets (octets_found what)
+in_payload place ends payload what (inl (body, begins, is)) = one_packet (octets_found what) body begins.0 (ap octets_found is)
+in_payload place ends payload what (inr (inl (short, is))) = nothing_found (octets_found what) (ap octets_found is)
+in_payload place ends payload what (inr (inr (inl (header, magic, is)))) = nothing_found (octets_found what) (ap octets_found is)
+in_payload place ends payload what (inr (inr (inr (header, magic, version, is)))) = nothing_found (octets_found what) (ap octets_found is)
 
 in_lack : (named : Option Address) (place : Place) (sender : Address) (lack : Lack) (what : Found) → what ≡ lack_found named place sender lack → ArePackets (octets_found what)
 in_lack None place sender lack what is = nothing_found (octets_found what) (ap octets_found is)
 in_lack (Some named) place sender lack what is = nothing_found (octets_found what) (ap octets_found is)
 
-in_carried : (wanted : Wanted) (place : Place) (sender : Address) (carried : Carried) (what : Found) → CarriedIs wanted place sender carried what → ArePackets (octets_found what)
-in_carried wanted place sender other_port what is = nothing_found (octets_found what) (ap octets_found is)
-in_carried wanted place sender not_link_local what is = nothing_found (octets_found what) (ap octets_found is)
-in_carried wanted place sender (lacking lack) what is = in_lack wanted.sender place sender lack what is
-in_carried wanted place sender (carries payload) what is = in_payload place sender payload what is
+in_carried : (wanted : Wanted) (place : Place) (ends : Ends) (carried : Carried) (what : Found) → CarriedIs wanted place ends carried what → ArePackets (octets_found what)
+in_carried wanted place ends other_port what is = nothing_found (octets_found what) (ap octets_found is)
+in_carried wanted place ends not_link_local what is = nothing_found (octets_found what) (ap octets_found is)
+in_carried wanted place ends (lacking lack) what is = in_lack wanted.sender place ends.sender lack what is
+in_carried wanted place ends (carries payload) what is = in_payload place ends payload what is
 
 pub in_sight : (wanted : Wanted) (sight : Sight) (what : Found) → Finds wanted sight what → ArePackets (octets_found what)
 in_sight wanted other what is = nothing_found (octets_found what) (ap octets_found is)
 in_sight wanted too_short what is = nothing_found (octets_found what) (ap octets_found is)
-in_sight wanted (datagram place sender carried) what (inl (is_wanted, is)) = in_carried wanted place sender carried what is
-in_sight wanted (datagram place sender carried) what (inr (not, is)) = nothing_found (octets_found what) (ap octets_found is)
+in_sight wanted (datagram place ends carried) what (inl (is_wanted, is)) = in_carried wanted place ends carried what is
+in_sight wanted (datagram place ends carried) what (inr (not, is)) = nothing_found (octets_found what) (ap octets_found is)
 
 in_made : (wanted : Wanted) (sightings : List Sighting) (made : List Made) → AreMade wanted sightings made → ArePackets (dump_of made)
 in_made wanted [] made is = nothing_found (dump_of made) (ap dump_of is)

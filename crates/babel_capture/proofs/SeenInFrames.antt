@@ -8,7 +8,7 @@ use Rattle.std.proofs.lemmas.List.{drop-drop, length-drop, length-take-le}
 use Rattle.std.proofs.lemmas.List.Elements.{All-cons, All-drop, All-nil}
 use Rattle.std.proofs.lemmas.Nat.{and_mask}
 use Rattle.byteorder.specs.Endian.{big_bytes, big_number, little_bytes, little_number}
-use Rattle.babel_prefix.specs.Address.{Address}
+use Rattle.babel_capture.specs.declared.ends.Ends.{Ends}
 use Rattle.babel_capture.specs.declared.link.Link.{Link}
 use Rattle.babel_capture.specs.declared.link.Link.TheVariants as links
 use Rattle.babel_capture.specs.declared.place.Place.{Place}
@@ -124,7 +124,7 @@ past-bytes zero payload are = are
 past-bytes (suc n) payload are = bytes_after (past_tags n payload) (past_tag (past_tags n payload)) (step_of (past_tags n payload)) (past-bytes n payload are)
 
 -- an IP packet of this EtherType after tags
-abbrev TypedSeen : Place → Payload → Place → Address → List ℕ → Type 0
+abbrev TypedSeen : Place → Payload → Place → Ends → List ℕ → Type 0
 TypedSeen place untagged there from payload = (there ≡ in_vlans place untagged.vlans) × IsIp untagged.ether_type from untagged.octets untagged.whole payload
 
 ip_seen : (place : Place) (untagged : Payload) → AreOctets untagged.octets → OnPacket (TypedSeen place untagged) (ip_sight (in_vlans place untagged.vlans) untagged)
@@ -151,7 +151,7 @@ typed_seen place payload are = ip_seen place (past_tags 4 payload) (past-bytes 4
 
 -- ---- link headers
 
-abbrev InFrame : Link → ℕ → List ℕ → ℕ → Place → Address → List ℕ → Type 0
+abbrev InFrame : Link → ℕ → List ℕ → ℕ → Place → Ends → List ℕ → Type 0
 InFrame link interface octets all there from payload = IsInFrame link interface there from payload octets all
 
 -- a header that ends with an EtherType and tags
@@ -162,7 +162,7 @@ module _ (front interface : ℕ) (octets : List ℕ) (all : ℕ) (are : AreOctet
   abbrev untagged : Payload
   untagged = past_tags 4 plain
 
-  typed_frame : front + 2 ≤ length octets → (there : Place) (from : Address) (payload : List ℕ) → TypedSeen (place_on interface) untagged there from payload
+  typed_frame : front + 2 ≤ length octets → (there : Place) (from : Ends) (payload : List ℕ) → TypedSeen (place_on interface) untagged there from payload
       → (header : List ℕ) × IsTyped front interface untagged.ether_type there header × (octets ≡ header ++ untagged.octets) × (untagged.whole ≡ all - length header)
   typed_frame long there from payload seen =
       let past = past-in 4 plain (All-drop (λ (octet : ℕ). octet < 256) (front + 2) octets are) in
@@ -180,7 +180,7 @@ module _ (front interface : ℕ) (octets : List ℕ) (all : ℕ) (are : AreOctet
       )
 
 -- what comes after a link header
-in_frame : (link : Link) (interface ether_type : ℕ) (there : Place) (from : Address) (payload header rest octets : List ℕ) (left all : ℕ) → IsHeader link interface ether_type there header
+in_frame : (link : Link) (interface ether_type : ℕ) (there : Place) (from : Ends) (payload header rest octets : List ℕ) (left all : ℕ) → IsHeader link interface ether_type there header
     → octets ≡ header ++ rest → left ≡ all - length header → IsIp ether_type from rest left payload → IsInFrame link interface there from payload octets all
 in_frame link interface ether_type there from payload header rest octets left all is laid is_left ip = record {
   ether_type = ether_type;
@@ -222,7 +222,7 @@ cooked2_seen interface octets all are =
     unless P (nat_lt (length octets) 20) too_short typed tt (λ long.
     on-map (TypedSeen linked (past_tags 4 payload)) P (λ there from carried seen. cooked2_frame (room (length octets) 20 long) there from carried seen) typed (typed_seen linked payload bytes))))
   where
-    cooked2_frame : 20 ≤ length octets → (there : Place) (from : Address) (carried : List ℕ)
+    cooked2_frame : 20 ≤ length octets → (there : Place) (from : Ends) (carried : List ℕ)
         → TypedSeen (on_link interface octets) (past_tags 4 (record { ether_type = network_number 0 2 octets; vlans = no_vlans; octets = drop 20 octets; whole = all - 20 })) there from carried
         → InFrame links.Cooked2 interface octets all there from carried
     cooked2_frame long there from carried seen =
@@ -370,6 +370,6 @@ frame_seen links.RawIpv6 interface octets all are =
     bare links.RawIpv6 interface 0x86dd octets all (ipv6_sight (place_on interface) octets all) (λ there is. (refl, is, refl)) (ipv6_seen (place_on interface) octets all are)
 frame_seen links.Cooked2 interface octets all are = cooked2_seen interface octets all are
 
-pub seen_in_frame : (link : Link) (interface : ℕ) (place : Place) (sender : Address) (payload octets : List ℕ) (all : ℕ) → AreOctets octets
-    → frame_sight interface link octets all ≡ datagram place sender (carries payload) → IsInFrame link interface place sender payload octets all
-seen_in_frame link interface place sender payload octets all are is = subst (OnPacket (InFrame link interface octets all)) is (frame_seen link interface octets all are)
+pub seen_in_frame : (link : Link) (interface : ℕ) (place : Place) (ends : Ends) (payload octets : List ℕ) (all : ℕ) → AreOctets octets
+    → frame_sight interface link octets all ≡ datagram place ends (carries payload) → IsInFrame link interface place ends payload octets all
+seen_in_frame link interface place ends payload octets all are is = subst (OnPacket (InFrame link interface octets all)) is (frame_seen link interface octets all are)

@@ -9,13 +9,13 @@ use Rattle.std.proofs.lemmas.List.Elements.{All-cons, All-drop, All-nil, All-tak
 use Rattle.std.proofs.lemmas.Nat.{and_mask}
 use Rattle.std.proofs.lemmas.Nat.Bits.{and_high_mask, and_pow}
 use Rattle.byteorder.specs.Endian.{big_bytes}
-use Rattle.babel_prefix.specs.Address.{Address}
+use Rattle.babel_capture.specs.declared.ends.Ends.{Ends}
 use Rattle.babel_capture.specs.declared.lack.Lack.TheVariants as lacks
 use Rattle.babel_capture.specs.declared.place.Place.{Place}
 use Rattle.babel_capture.specs.Headers.{NextHeader, has_len, has_more_fragments as flagged, header_len, is_first_fragment, is_unkept, past_header, past_headers, telling_len}
 use Rattle.babel_capture.specs.InFrame.{AreOctets}
-use Rattle.babel_capture.specs.Ipv4.{carries_udp, has_more_fragments, ipv4_carried_sight, ipv4_header_len, ipv4_sender, ipv4_sight, is_later_fragment, total_len}
-use Rattle.babel_capture.specs.Ipv6.{first_header, ipv6_carried_sight, ipv6_sender, ipv6_sight, payload_len, upper_sight}
+use Rattle.babel_capture.specs.Ipv4.{carries_udp, has_more_fragments, ipv4_carried_sight, ipv4_header_len, ipv4_ends, ipv4_sight, is_later_fragment, total_len}
+use Rattle.babel_capture.specs.Ipv6.{first_header, ipv6_carried_sight, ipv6_ends, ipv6_sight, payload_len, upper_sight}
 use Rattle.babel_capture.specs.LaidOut.{Extension, HasFlags, IsBabel, IsExtension, IsWhole, Ipv4Header, Ipv6Header, UdpDatagram, extensions, first_number}
 use Rattle.babel_capture.specs.LaidOut.{ipv4_header, ipv4_octets, ipv6_header, ipv6_octets, udp_octets, udp_size}
 use Rattle.babel_capture.specs.Octets.{ip_version, network_number}
@@ -32,25 +32,25 @@ OnCarried P not_link_local = Unit {0}
 OnCarried P (lacking lack) = Unit {0}
 OnCarried P (carries payload) = P payload
 
-abbrev pub OnPacket : (Place → Address → List ℕ → Type 0) → Sight → Type 0
+abbrev pub OnPacket : (Place → Ends → List ℕ → Type 0) → Sight → Type 0
 OnPacket P other = Unit {0}
 OnPacket P too_short = Unit {0}
-OnPacket P (datagram place sender carried) = OnCarried (P place sender) carried
+OnPacket P (datagram place ends carried) = OnCarried (P place ends) carried
 
-module _ (P Q : Place → Address → List ℕ → Type 0) (follows : (place : Place) (sender : Address) (payload : List ℕ) → P place sender payload → Q place sender payload) where
-  carried-map : (place : Place) (sender : Address) (carried : Carried) → OnCarried (P place sender) carried → OnCarried (Q place sender) carried
-  carried-map place sender other_port holds = tt
-  carried-map place sender not_link_local holds = tt
-  carried-map place sender (lacking lack) holds = tt
-  carried-map place sender (carries payload) holds = follows place sender payload holds
+module _ (P Q : Place → Ends → List ℕ → Type 0) (follows : (place : Place) (ends : Ends) (payload : List ℕ) → P place ends payload → Q place ends payload) where
+  carried-map : (place : Place) (ends : Ends) (carried : Carried) → OnCarried (P place ends) carried → OnCarried (Q place ends) carried
+  carried-map place ends other_port holds = tt
+  carried-map place ends not_link_local holds = tt
+  carried-map place ends (lacking lack) holds = tt
+  carried-map place ends (carries payload) holds = follows place ends payload holds
 
   pub on-map : (sight : Sight) → OnPacket P sight → OnPacket Q sight
   on-map other holds = tt
   on-map too_short holds = tt
-  on-map (datagram place sender carried) holds = carried-map place sender carried holds
+  on-map (datagram place ends carried) holds = carried-map place ends carried holds
 
 -- whichever of the two is seen
-module _ (P : Place → Address → List ℕ → Type 0) where
+module _ (P : Place → Ends → List ℕ → Type 0) where
   pub unless : (b : Bool) (x y : Sight) → OnPacket P x → (b ≡ false → OnPacket P y) → OnPacket P (if b then x else y)
   unless true x y here there = here
   unless false x y here there = there refl
@@ -72,22 +72,22 @@ number_is a b is = grind (arith, nat_tests)
 -- ---- UDP
 
 -- these octets, of `all`, are a datagram of Babel with this payload, and others after it
-record IsUdp (sender : Address) (octets : List ℕ) (all : ℕ) (payload : List ℕ) : Type 0 where
+record IsUdp (ends : Ends) (octets : List ℕ) (all : ℕ) (payload : List ℕ) : Type 0 where
   udp : UdpDatagram
   rest : List ℕ
   is_babel : IsBabel udp
-  may : may_send sender ≡ true
+  may : may_send ends.sender ≡ true
   payload_is : payload ≡ udp.payload
   whole : octets ≡ udp_octets udp ++ rest
   fits : udp_size udp ≤ all
 
-abbrev UdpSeen : Place → Address → Bool → Bool → List ℕ → ℕ → Place → Address → List ℕ → Type 0
-UdpSeen place sender is_fragment is_cut octets all there from payload =
-    (there ≡ place) × (from ≡ sender) × (is_fragment ≡ false) × (is_cut ≡ false) × IsUdp sender octets all payload
+abbrev UdpSeen : Place → Ends → Bool → Bool → List ℕ → ℕ → Place → Ends → List ℕ → Type 0
+UdpSeen place ends is_fragment is_cut octets all there from payload =
+    (there ≡ place) × (from ≡ ends) × (is_fragment ≡ false) × (is_cut ≡ false) × IsUdp ends octets all payload
 
-udp_in : (sender : Address) (octets : List ℕ) (all : ℕ) → AreOctets octets → is_of_routers octets ≡ true → may_send sender ≡ true → udp_len octets ≤ all → 8 ≤ udp_len octets
-    → udp_len octets ≤ length octets → IsUdp sender octets all (take (udp_len octets - 8) (drop 8 octets))
-udp_in sender octets all are routers may fits header kept =
+udp_in : (ends : Ends) (octets : List ℕ) (all : ℕ) → AreOctets octets → is_of_routers octets ≡ true → may_send ends.sender ≡ true → udp_len octets ≤ all → 8 ≤ udp_len octets
+    → udp_len octets ≤ length octets → IsUdp ends octets all (take (udp_len octets - 8) (drop 8 octets))
+udp_in ends octets all are routers may fits header kept =
     let len = udp_len octets in
     let payload = take (len - 8) (drop 8 octets) in
     let rest = drop (len - 8) (drop 8 octets) in
@@ -111,16 +111,16 @@ udp_in sender octets all are routers may fits header kept =
       fits = omega arith;
     }
 
-module _ (place : Place) (sender : Address) (octets : List ℕ) (all : ℕ) (are : AreOctets octets) where
-  abbrev Whole : Place → Address → List ℕ → Type 0
-  Whole = UdpSeen place sender false false octets all
+module _ (place : Place) (ends : Ends) (octets : List ℕ) (all : ℕ) (are : AreOctets octets) where
+  abbrev Whole : Place → Ends → List ℕ → Type 0
+  Whole = UdpSeen place ends false false octets all
 
-  len_seen : is_of_routers octets ≡ true → may_send sender ≡ true → OnPacket Whole (len_sight place sender octets all)
+  len_seen : is_of_routers octets ≡ true → may_send ends.sender ≡ true → OnPacket Whole (len_sight place ends octets all)
   len_seen routers may =
       let len = udp_len octets in
-      let snapped : Sight = datagram place sender (lacking lacks.Snapped) in
-      let cut : Sight = datagram place sender (lacking lacks.CutShort) in
-      let payload : Sight = datagram place sender (carries (take (len - 8) (drop 8 octets))) in
+      let snapped : Sight = datagram place ends (lacking lacks.Snapped) in
+      let cut : Sight = datagram place ends (lacking lacks.CutShort) in
+      let payload : Sight = datagram place ends (carries (take (len - 8) (drop 8 octets))) in
       let kept : Sight = if nat_lt (length octets) len then snapped else payload in
       let long : Sight = if nat_lt len 8 then other else kept in
       let fitting : Sight = if nat_lt all len then cut else long in
@@ -130,42 +130,42 @@ module _ (place : Place) (sender : Address) (octets : List ℕ) (all : ℕ) (are
       unless Whole (nat_lt all len) cut long tt (λ fits.
       unless Whole (nat_lt len 8) other kept tt (λ header.
       unless Whole (nat_lt (length octets) len) snapped payload tt (λ there.
-      (refl, refl, refl, refl, udp_in sender octets all are routers may (room all len fits) (room len 8 header) (room (length octets) len there)))))))
+      (refl, refl, refl, refl, udp_in ends octets all are routers may (room all len fits) (room len 8 header) (room (length octets) len there)))))))
 
-  udp_seen : (is_fragment is_cut : Bool) → OnPacket (UdpSeen place sender is_fragment is_cut octets all) (udp_sight place sender is_fragment is_cut octets all)
+  udp_seen : (is_fragment is_cut : Bool) → OnPacket (UdpSeen place ends is_fragment is_cut octets all) (udp_sight place ends is_fragment is_cut octets all)
   unfolding udp_sight
   udp_seen is_fragment is_cut =
-      let P = UdpSeen place sender is_fragment is_cut octets all in
-      let len : Sight = len_sight place sender octets all in
-      let cut : Sight = if is_cut then datagram place sender (lacking lacks.CutShort) else len in
-      let joined : Sight = if is_fragment then datagram place sender (lacking lacks.Fragment) else cut in
-      let local : Sight = if not (may_send sender) then datagram place sender not_link_local else joined in
-      let babel : Sight = if not (is_of_routers octets) then datagram place sender other_port else local in
+      let P = UdpSeen place ends is_fragment is_cut octets all in
+      let len : Sight = len_sight place ends octets all in
+      let cut : Sight = if is_cut then datagram place ends (lacking lacks.CutShort) else len in
+      let joined : Sight = if is_fragment then datagram place ends (lacking lacks.Fragment) else cut in
+      let local : Sight = if not (may_send ends.sender) then datagram place ends not_link_local else joined in
+      let babel : Sight = if not (is_of_routers octets) then datagram place ends other_port else local in
       let ports : Sight = if not (is_babel octets) then other else babel in
       let kept : Sight = if nat_lt (length octets) 4 then too_short else ports in
       unless P (nat_lt all 4) other kept tt (λ _.
       unless P (nat_lt (length octets) 4) too_short ports tt (λ _.
       unless P (not (is_babel octets)) other babel tt (λ _.
-      unless P (not (is_of_routers octets)) (datagram place sender other_port) local tt (λ routers.
-      unless P (not (may_send sender)) (datagram place sender not_link_local) joined tt (λ may.
-      unless P is_fragment (datagram place sender (lacking lacks.Fragment)) cut tt (λ whole.
-      unless P is_cut (datagram place sender (lacking lacks.CutShort)) len tt (λ fits.
+      unless P (not (is_of_routers octets)) (datagram place ends other_port) local tt (λ routers.
+      unless P (not (may_send ends.sender)) (datagram place ends not_link_local) joined tt (λ may.
+      unless P is_fragment (datagram place ends (lacking lacks.Fragment)) cut tt (λ whole.
+      unless P is_cut (datagram place ends (lacking lacks.CutShort)) len tt (λ fits.
       on-map Whole P (λ there from payload seen. (seen.0, seen.1, whole, fits, seen.4)) len
-      (len_seen (not_not (is_of_routers octets) routers) (not_not (may_send sender) may)))))))))
+      (len_seen (not_not (is_of_routers octets) routers) (not_not (may_send ends.sender) may)))))))))
 
 -- ---- IP
 
 -- these octets, of `all`, are such a packet, and others after it
-pub record IsIp (ether_type : ℕ) (sender : Address) (octets : List ℕ) (all : ℕ) (payload : List ℕ) : Type 0 where
+pub record IsIp (ether_type : ℕ) (ends : Ends) (octets : List ℕ) (all : ℕ) (payload : List ℕ) : Type 0 where
   pub packet : List ℕ
   pub after : List ℕ
   pub more : ℕ
   pub some : 1 ≤ length packet
-  pub is_whole : IsWhole ether_type sender packet more (carries payload)
+  pub is_whole : IsWhole ether_type ends packet more (carries payload)
   pub whole : octets ≡ packet ++ after
   pub fits : length packet + more ≤ all
 
-abbrev pub IpSeen : Place → ℕ → List ℕ → ℕ → Place → Address → List ℕ → Type 0
+abbrev pub IpSeen : Place → ℕ → List ℕ → ℕ → Place → Ends → List ℕ → Type 0
 IpSeen place ether_type octets all there from payload = (there ≡ place) × IsIp ether_type from octets all payload
 
 -- ---- IPv4
@@ -234,8 +234,8 @@ within_is header total octets front rest fits is =
 
 ipv4_in : (octets : List ℕ) (all : ℕ) (payload : List ℕ) → AreOctets octets → 20 ≤ length octets → ip_version octets ≡ 4 → 20 ≤ ipv4_header_len octets → slice_index octets 9 ≡ 17
     → is_later_fragment octets ≡ false → has_more_fragments octets ≡ false → total_len octets ≤ all
-    → IsUdp (ipv4_sender octets) (drop (ipv4_header_len octets) (take (total_len octets) octets)) (total_len octets - ipv4_header_len octets) payload
-    → IsIp 0x0800 (ipv4_sender octets) octets all payload
+    → IsUdp (ipv4_ends octets) (drop (ipv4_header_len octets) (take (total_len octets) octets)) (total_len octets - ipv4_header_len octets) payload
+    → IsIp 0x0800 (ipv4_ends octets) octets all payload
 ipv4_in octets all payload are long version header udp later last there is =
     let n = words octets are in
     let ip = ip_of octets are in
@@ -266,9 +266,9 @@ ipv4_in octets all payload are long version header udp later last there is =
         inl (record {
           is_type = refl;
           ip = ip;
-          fits = record { words_fit = omega arith; options_len = options_len; sender_fits = number_fits 12 4 octets are; len_fits = omega (arith, number, total_is) };
+          fits = record { words_fit = omega arith; options_len = options_len; sender_fits = number_fits 12 4 octets are; destination_fits = number_fits 16 4 octets are; len_fits = omega (arith, number, total_is) };
           no_fragment = flags_in (network_number 6 2 octets) (number_fits 6 2 octets are) later last;
-          is_sender = refl;
+          are_ends = refl;
           is_packet = refl;
         }),
         ap carries is.payload_is,
@@ -280,7 +280,7 @@ ipv4_in octets all payload are long version header udp later last there is =
     }
 
 module _ (place : Place) (octets : List ℕ) (all : ℕ) (are : AreOctets octets) where
-  abbrev Over4 : Place → Address → List ℕ → Type 0
+  abbrev Over4 : Place → Ends → List ℕ → Type 0
   Over4 = IpSeen place 0x0800 octets all
 
   ipv4_carried_seen : 20 ≤ length octets → ip_version octets ≡ 4 → 20 ≤ ipv4_header_len octets → slice_index octets 9 ≡ 17 → is_later_fragment octets ≡ false
@@ -289,14 +289,14 @@ module _ (place : Place) (octets : List ℕ) (all : ℕ) (are : AreOctets octets
       let total = total_len octets in
       let carried = drop (ipv4_header_len octets) (take total octets) in
       let bytes = All-drop (λ (octet : ℕ). octet < 256) (ipv4_header_len octets) (take total octets) (All-take (λ (octet : ℕ). octet < 256) total octets are) in
-      on-map (UdpSeen place (ipv4_sender octets) (has_more_fragments octets) (nat_lt all total) carried (total - ipv4_header_len octets)) Over4
+      on-map (UdpSeen place (ipv4_ends octets) (has_more_fragments octets) (nat_lt all total) carried (total - ipv4_header_len octets)) Over4
       (λ there from payload seen. (
         seen.0,
-        subst (λ (s : Address). IsIp 0x0800 s octets all payload) (sym seen.1)
+        subst (λ (s : Ends). IsIp 0x0800 s octets all payload) (sym seen.1)
             (ipv4_in octets all payload are long version header udp later seen.2 (room all total seen.3) seen.4),
       ))
       (ipv4_carried_sight place octets all)
-      (udp_seen place (ipv4_sender octets) carried (total - ipv4_header_len octets) bytes (has_more_fragments octets) (nat_lt all total))
+      (udp_seen place (ipv4_ends octets) carried (total - ipv4_header_len octets) bytes (has_more_fragments octets) (nat_lt all total))
 
   neither : (a b : Bool) → (not a || b) ≡ false → (a ≡ true) × (b ≡ false)
   neither true b is = (refl, is)
@@ -572,7 +572,7 @@ module _ (octets : List ℕ) (are : AreOctets octets) where
       ∙ ap (λ (t : List ℕ). slice_index octets 6 ∷ ip6_of.hop_limit ∷ t) addresses))
 
 ipv6_in : (octets : List ℕ) (all : ℕ) (payload : List ℕ) (upper : NextHeader) → AreOctets octets → 40 ≤ length octets → ip_version octets ≡ 6 → 40 + payload_len octets ≤ all
-    → IsPast 8 (first_header octets) upper → IsUdp (ipv6_sender octets) upper.octets upper.whole payload → IsIp 0x86dd (ipv6_sender octets) octets all payload
+    → IsPast 8 (first_header octets) upper → IsUdp (ipv6_ends octets) upper.octets upper.whole payload → IsIp 0x86dd (ipv6_ends octets) octets all payload
 ipv6_in octets all payload upper are long version there past is =
     let ip = ip6_of octets are in
     let total = payload_len octets in
@@ -604,13 +604,14 @@ ipv6_in octets all payload upper are long version there past is =
         inr (record {
           is_type = refl;
           ip = ip;
-          is_sender = refl;
+          are_ends = refl;
           headers = headers;
           few = past.few;
           are_headers = past.are;
           fits = record {
             class_fits = omega arith;
             sender_fits = number_fits 8 16 octets are;
+            destination_fits = number_fits 24 16 octets are;
             link_local = number_is (network_number 8 16 octets / 2 ^ 118) 0x3fa is.may;
             len_fits = omega (arith, number, total_is);
           };
@@ -625,11 +626,11 @@ ipv6_in octets all payload upper are long version there past is =
     }
 
 module _ (place : Place) (octets : List ℕ) (all : ℕ) (are : AreOctets octets) where
-  abbrev Over6 : Place → Address → List ℕ → Type 0
+  abbrev Over6 : Place → Ends → List ℕ → Type 0
   Over6 = IpSeen place 0x86dd octets all
 
-  some_udp : (sender : Address) (carried : List ℕ) (whole : ℕ) (payload : List ℕ) → IsUdp sender carried whole payload → 0 < length carried
-  some_udp sender carried whole payload is = omega (arith, ap length is.whole, length-append (udp_octets is.udp) is.rest)
+  some_udp : (ends : Ends) (carried : List ℕ) (whole : ℕ) (payload : List ℕ) → IsUdp ends carried whole payload → 0 < length carried
+  some_udp ends carried whole payload is = omega (arith, ap length is.whole, length-append (udp_octets is.udp) is.rest)
 
   ipv6_carried_seen : ip_version octets ≡ 6 → (past_headers 8 (first_header octets)).number ≡ 17 → OnPacket Over6 (ipv6_carried_sight place octets all (past_headers 8 (first_header octets)))
   ipv6_carried_seen version udp =
@@ -637,17 +638,17 @@ module _ (place : Place) (octets : List ℕ) (all : ℕ) (are : AreOctets octets
       let upper = past_headers 8 (first_header octets) in
       let cut = nat_lt all (40 + total) in
       let bytes = All-take (λ (octet : ℕ). octet < 256) total (drop 40 octets) (All-drop (λ (octet : ℕ). octet < 256) 40 octets are) in
-      let carried : Sight = udp_sight place (ipv6_sender octets) upper.is_fragment cut upper.octets upper.whole in
+      let carried : Sight = udp_sight place (ipv6_ends octets) upper.is_fragment cut upper.octets upper.whole in
       let none : Sight = unkept_sight upper.whole in
       choose Over6 (nat_lt (length octets) 40) none carried (λ _. unless Over6 (nat_lt upper.whole 4) other too_short tt (λ _. tt)) (λ long.
-      on-map (UdpSeen place (ipv6_sender octets) upper.is_fragment cut upper.octets upper.whole) Over6
+      on-map (UdpSeen place (ipv6_ends octets) upper.is_fragment cut upper.octets upper.whole) Over6
       (λ there from payload seen. (
         seen.0,
-        subst (λ (s : Address). IsIp 0x86dd s octets all payload) (sym seen.1)
+        subst (λ (s : Ends). IsIp 0x86dd s octets all payload) (sym seen.1)
             (ipv6_in octets all payload upper are (room (length octets) 40 long) version (room all (40 + total) seen.3)
-            (past-in 8 (first_header octets) bytes udp seen.2 (some_udp (ipv6_sender octets) upper.octets upper.whole payload seen.4)) seen.4),
+            (past-in 8 (first_header octets) bytes udp seen.2 (some_udp (ipv6_ends octets) upper.octets upper.whole payload seen.4)) seen.4),
       ))
-      carried (udp_seen place (ipv6_sender octets) upper.octets upper.whole (past-bytes 8 (first_header octets) bytes) upper.is_fragment cut))
+      carried (udp_seen place (ipv6_ends octets) upper.octets upper.whole (past-bytes 8 (first_header octets) bytes) upper.is_fragment cut))
 
   pub ipv6_seen : OnPacket Over6 (ipv6_sight place octets all)
   unfolding ipv6_sight

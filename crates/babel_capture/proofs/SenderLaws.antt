@@ -133,8 +133,8 @@ with_one before senders one passed is are = unchanged before senders one (λ ori
 with_one before senders one untold is are = unchanged before senders one (λ origin. ap (here origin (time_of one.came)) is) are
 with_one before senders one (left reason missed) is are = unchanged before senders one (λ origin. ap (here origin (time_of one.came)) is) are
 with_one before senders one (refused lack) is are = unchanged before senders one (λ origin. ap (here origin (time_of one.came)) is) are
-with_one before senders one (found place sender packet has_trailer) is are =
-    with_packet before senders one (record { place = place; sender = sender }) (record { time = time_of one.came; octets = packet; has_trailer = has_trailer }) (λ origin. ap (here origin (time_of one.came)) is) are
+with_one before senders one (found place ends packet has_trailer) is are =
+    with_packet before senders one (record { place = place; sender = ends.sender }) (record { time = time_of one.came; octets = packet; has_trailer = has_trailer }) (λ origin. ap (here origin (time_of one.came)) is) are
 
 -- ---- and so with all of them
 

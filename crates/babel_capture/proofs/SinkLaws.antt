@@ -72,7 +72,7 @@ octets_one came passed = refl
 octets_one came untold = refl
 octets_one came (left reason missed) = refl
 octets_one came (refused lack) = refl
-octets_one came (found place sender packet has_trailer) = append-nil packet
+octets_one came (found place ends packet has_trailer) = append-nil packet
 
 pub dump-one : (one : Made) → dump_of (one ∷ []) ≡ octets_found one.what
 dump-one one = ap (flat_map (λ (packet : Option ℕ × List ℕ). packet.1)) (packets-one one) ∙ octets_one one.came one.what
@@ -83,14 +83,14 @@ found-told came passed packet is = absurd cc
 found-told came untold packet is = absurd cc
 found-told came (left reason missed) packet is = absurd cc
 found-told came (refused lack) packet is = absurd cc
-found-told came (found place sender octets has_trailer) packet is = ap (λ (t : List ℕ). (time_of came, t) ∷ []) is.1
+found-told came (found place ends octets has_trailer) packet is = ap (λ (t : List ℕ). (time_of came, t) ∷ []) is.1
 
 none-told : (came : Came) (what : Found) → IsPacketOf what None → timed_found came what ≡ []
 none-told came passed is = refl
 none-told came untold is = refl
 none-told came (left reason missed) is = refl
 none-told came (refused lack) is = refl
-none-told came (found place sender octets has_trailer) is = absurd cc
+none-told came (found place ends octets has_trailer) is = absurd cc
 
 pub told-found : (one : Made) (told : Record) (packet : BabelPacket) → IsTold one told → packet_said told.said ≡ Some packet → packets_made (one ∷ []) ≡ (told.time, packet.octets.now) ∷ []
 told-found one told packet is_told says =

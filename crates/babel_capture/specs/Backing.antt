@@ -39,4 +39,4 @@ BacksCarried sender octets all (carries payload) =
 abbrev pub Backs : List ℕ → ℕ → Sight → Type 0
 Backs octets all other = Unit {0}
 Backs octets all too_short = Unit {0}
-Backs octets all (datagram place sender carried) = BacksCarried sender octets all carried
+Backs octets all (datagram place ends carried) = BacksCarried ends.sender octets all carried

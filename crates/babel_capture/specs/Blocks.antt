@@ -108,7 +108,7 @@ sight_in packet =
 
 -- the section of a datagram of Babel that a router may read
 abbrev pub section_with : ℕ → Sight → Option ℕ
-section_with first (datagram place sender (carries payload)) = Some first
+section_with first (datagram place ends (carries payload)) = Some first
 section_with first what = None
 
 -- when the packet came, and in which section, which is seen so

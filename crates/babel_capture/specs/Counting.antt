@@ -51,7 +51,7 @@ packet_counted counts link interval has_trailer =
 abbrev pub counted : Counts → Link → Found → Counts
 counted counts link untold = short_counted counts
 counted counts link (left reason missed) = counted_with counts (Some reason)
-counted counts link (found place sender packet has_trailer) =
+counted counts link (found place ends packet has_trailer) =
     packet_counted counts link (interval_in packet) has_trailer
 counted counts link what = counted_with counts None
 

@@ -78,12 +78,12 @@ is_cooked_link links.Cooked = true
 is_cooked_link link = false
 
 abbrev pub is_cooked : Link → Found → Bool
-is_cooked link (found place sender packet has_trailer) = is_cooked_link link
+is_cooked link (found place ends packet has_trailer) = is_cooked_link link
 is_cooked link what = false
 
 -- a Babel packet was found, and octets come after its body
 abbrev pub has_trailer : Found → Bool
-has_trailer (found place sender packet trails) = trails
+has_trailer (found place ends packet trails) = trails
 has_trailer what = false
 
 abbrev pub sections_of : List Made → Sections
@@ -94,7 +94,7 @@ timing_of made = fold (λ timing one. timed timing one.number one.came) no_times
 
 -- the Interval of the packet, if one was found
 abbrev pub interval_found : Found → Option ℕ
-interval_found (found place sender packet has_trailer) = interval_in packet
+interval_found (found place ends packet has_trailer) = interval_in packet
 interval_found what = None
 
 abbrev pub interval_made : List Made → Option ℕ

@@ -7,7 +7,7 @@ use Rattle.babel_capture.specs.Times.{Came, time_of}
 
 -- the packet, if one was found, and the time of its record, if that has one
 abbrev pub timed_found : Came → Found → List (Option ℕ × List ℕ)
-timed_found came (found place sender packet has_trailer) = (time_of came, packet) ∷ []
+timed_found came (found place ends packet has_trailer) = (time_of came, packet) ∷ []
 timed_found came what = []
 
 -- all packets that were found, each with its time

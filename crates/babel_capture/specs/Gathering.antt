@@ -53,9 +53,9 @@ pub record IsGathered (sightings : List Sighting) (gathering : Gathering) : Type
 -- is named lacks something, or the sender is one more than are kept.
 abbrev pub RefusesFound : Senders → ℕ → Found → Fault → Type 0
 RefusesFound senders at (refused lack) fault = fault ≡ lack_fault at lack
-RefusesFound senders at (found place sender packet has_trailer) fault =
+RefusesFound senders at (found place ends packet has_trailer) fault =
     (fault ≡ faults.TooManySenders at)
-    × IsOneTooMany senders (record { place = place; sender = sender })
+    × IsOneTooMany senders (record { place = place; sender = ends.sender })
 RefusesFound senders at what fault = ⊥
 
 -- the block at this offset holds a packet that is refused
@@ -66,8 +66,8 @@ IsRefused wanted senders at content fault = ⊥
 
 -- memory is needed to list the sender of the packet, if one was found
 abbrev pub FoundNeedsMemory : Senders → Found → Type 0
-FoundNeedsMemory senders (found place sender packet has_trailer) =
-    CountNeedsMemory (tally_of senders (record { place = place; sender = sender })) packet
+FoundNeedsMemory senders (found place ends packet has_trailer) =
+    CountNeedsMemory (tally_of senders (record { place = place; sender = ends.sender })) packet
     has_trailer
 FoundNeedsMemory senders what = ⊥
 

@@ -1,8 +1,8 @@
 -- IPv4 packets: RFC 791.
 use Rattle.std.specs.Prelude.{ℕ, ◌+◌, ◌-◌, ◌*◌, Bool, not, ◌==◌, ◌||◌, nat_lt, bit_and}
 use Rattle.std.specs.Prelude.{if◌then◌else◌, List, length, drop, take, slice_index}
-use Rattle.babel_prefix.specs.Address.{Address}
 use Rattle.babel_prefix.specs.declared.family.Family.TheVariants.{V4}
+use Rattle.babel_capture.specs.declared.ends.Ends.{Ends}
 use Rattle.babel_capture.specs.declared.place.Place.{Place}
 use Rattle.babel_capture.specs.Octets.{network_number, ip_version}
 use Rattle.babel_capture.specs.Sight.{Sight, other, too_short}
@@ -27,13 +27,16 @@ has_more_fragments octets = not (bit_and (network_number 6 2 octets) 0x2000 == 0
 abbrev pub carries_udp : List ℕ → Bool
 carries_udp octets = slice_index octets 9 == 17
 
-abbrev pub ipv4_sender : List ℕ → Address
-ipv4_sender octets = record { family = V4; bits = network_number 12 4 octets }
+abbrev pub ipv4_ends : List ℕ → Ends
+ipv4_ends octets = record {
+  sender = record { family = V4; bits = network_number 12 4 octets };
+  destination = record { family = V4; bits = network_number 16 4 octets };
+}
 
 -- UDP in a packet of at least 20 octets: from the end of the header to the total length
 abbrev pub ipv4_carried_sight : Place → List ℕ → ℕ → Sight
 ipv4_carried_sight place octets all =
-    udp_sight place (ipv4_sender octets) (has_more_fragments octets) (nat_lt all (total_len octets))
+    udp_sight place (ipv4_ends octets) (has_more_fragments octets) (nat_lt all (total_len octets))
     (drop (ipv4_header_len octets) (take (total_len octets) octets))
     (total_len octets - ipv4_header_len octets)
 

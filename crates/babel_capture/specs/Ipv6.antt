@@ -1,8 +1,8 @@
 -- IPv6 packets: RFC 8200.
 use Rattle.std.specs.Prelude.{ℕ, ◌+◌, false, not, ◌==◌, nat_lt, if◌then◌else◌, List}
 use Rattle.std.specs.Prelude.{length, drop, take, slice_index}
-use Rattle.babel_prefix.specs.Address.{Address}
 use Rattle.babel_prefix.specs.declared.family.Family.TheVariants.{V6}
+use Rattle.babel_capture.specs.declared.ends.Ends.{Ends}
 use Rattle.babel_capture.specs.declared.place.Place.{Place}
 use Rattle.babel_capture.specs.Headers.{NextHeader, past_headers, is_unkept}
 use Rattle.babel_capture.specs.Octets.{network_number, ip_version}
@@ -13,8 +13,11 @@ use Rattle.babel_capture.specs.Udp.{udp_sight, unkept_sight}
 abbrev pub payload_len : List ℕ → ℕ
 payload_len octets = network_number 4 2 octets
 
-abbrev pub ipv6_sender : List ℕ → Address
-ipv6_sender octets = record { family = V6; bits = network_number 8 16 octets }
+abbrev pub ipv6_ends : List ℕ → Ends
+ipv6_ends octets = record {
+  sender = record { family = V6; bits = network_number 8 16 octets };
+  destination = record { family = V6; bits = network_number 24 16 octets };
+}
 
 -- the first header after the fixed one, which says its number; the packet ends where its payload
 -- does
@@ -30,7 +33,7 @@ first_header octets = record {
 abbrev pub ipv6_carried_sight : Place → List ℕ → ℕ → NextHeader → Sight
 ipv6_carried_sight place octets all upper =
     if nat_lt (length octets) 40 then unkept_sight upper.whole
-    else udp_sight place (ipv6_sender octets) upper.is_fragment
+    else udp_sight place (ipv6_ends octets) upper.is_fragment
     (nat_lt all (40 + payload_len octets)) upper.octets upper.whole
 
 -- RFC 768: UDP has the number 17; before another extension header whose octets the recorder did not

@@ -3,8 +3,8 @@ use Rattle.std.specs.Prelude.{◌≡◌, ℕ, ◌+◌, ◌*◌, ◌/◌, ◌^◌
 use Rattle.std.specs.Prelude.{length, Contains}
 use Rattle.std.specs.List.{All}
 use Rattle.byteorder.specs.Endian.{big_bytes}
-use Rattle.babel_prefix.specs.Address.{Address}
 use Rattle.babel_prefix.specs.declared.family.Family.TheVariants.{V4, V6}
+use Rattle.babel_capture.specs.declared.ends.Ends.{Ends}
 use Rattle.babel_capture.specs.declared.lack.Lack.TheVariants.{Fragment}
 use Rattle.babel_capture.specs.Sight.{Carried, carries, lacking}
 
@@ -94,11 +94,12 @@ ipv6_octets ip headers carried more =
     ipv6_header ip (length (extensions headers) + (length carried + more)) (first_number headers)
     ++ (extensions headers ++ carried)
 
--- class, length and sender fit their fields, and the sender begins with the ten bits of fe80::/10:
--- RFC 4291, 2.5.6; RFC 8966, 4
+-- class, length and addresses fit their fields, and the sender begins with the ten bits of
+-- fe80::/10: RFC 4291, 2.5.6; RFC 8966, 4
 pub record IsIpv6 (ip : Ipv6Header) (len : ℕ) : Type 0 where
   pub class_fits : ip.class < 2 ^ 4
   pub sender_fits : ip.sender < 2 ^ 128
+  pub destination_fits : ip.destination < 2 ^ 128
   pub link_local : ip.sender / 2 ^ 118 ≡ 0x3fa
   pub len_fits : len < 2 ^ 16
 
@@ -128,11 +129,12 @@ ipv4_header ip len =
 abbrev pub ipv4_octets : Ipv4Header → List ℕ → (more : ℕ) → List ℕ
 ipv4_octets ip carried more = ipv4_header ip (length carried + more) ++ carried
 
--- options, length and sender fit their fields
+-- options, length and addresses fit their fields
 pub record IsIpv4 (ip : Ipv4Header) (len : ℕ) : Type 0 where
   pub words_fit : ip.words ≤ 10
   pub options_len : length ip.options ≡ 4 * ip.words
   pub sender_fits : ip.sender < 2 ^ 32
+  pub destination_fits : ip.destination < 2 ^ 32
   pub len_fits : 20 + 4 * ip.words + len < 2 ^ 16
 
 -- ---- IP packets of Babel datagrams, with their EtherType: RFC 894; RFC 2464, 3
@@ -144,51 +146,64 @@ pub record HasFlags (flag flags : ℕ) : Type 0 where
   pub bits_fit : bits < 2 ^ 2
   pub are_flags : flags ≡ (2 * bits + flag) * 2 ^ 13
 
--- a whole one from this sender, which is no fragment: the packet up to the end of the datagram, and
--- how many octets more it has, since IP may carry more than the datagram (RFC 9868, 3)
-pub record OverIpv4 (ether_type : ℕ) (sender : Address) (udp : UdpDatagram) (packet : List ℕ)
+-- the addresses of these headers
+abbrev pub ends4 : Ipv4Header → Ends
+ends4 ip = record {
+  sender = record { family = V4; bits = ip.sender };
+  destination = record { family = V4; bits = ip.destination };
+}
+
+abbrev pub ends6 : Ipv6Header → Ends
+ends6 ip = record {
+  sender = record { family = V6; bits = ip.sender };
+  destination = record { family = V6; bits = ip.destination };
+}
+
+-- a whole one between these addresses, which is no fragment: the packet up to the end of the
+-- datagram, and how many octets more it has, since IP may carry more than that (RFC 9868, 3)
+pub record OverIpv4 (ether_type : ℕ) (ends : Ends) (udp : UdpDatagram) (packet : List ℕ)
     (more : ℕ) : Type 0 where
   pub is_type : ether_type ≡ 0x0800
   pub ip : Ipv4Header
   pub fits : IsIpv4 ip (length (udp_octets udp) + more)
   pub no_fragment : HasFlags 0 ip.flags
-  pub is_sender : sender ≡ record { family = V4; bits = ip.sender }
+  pub are_ends : ends ≡ ends4 ip
   pub is_packet : packet ≡ ipv4_octets ip (udp_octets udp) more
 
-pub record OverIpv6 (ether_type : ℕ) (sender : Address) (udp : UdpDatagram) (packet : List ℕ)
+pub record OverIpv6 (ether_type : ℕ) (ends : Ends) (udp : UdpDatagram) (packet : List ℕ)
     (more : ℕ) : Type 0 where
   pub is_type : ether_type ≡ 0x86dd
   pub ip : Ipv6Header
-  pub is_sender : sender ≡ record { family = V6; bits = ip.sender }
+  pub are_ends : ends ≡ ends6 ip
   pub headers : List Extension
   pub few : length headers ≤ 8
   pub are_headers : All IsExtension headers
   pub fits : IsIpv6 ip (length (extensions headers) + (length (udp_octets udp) + more))
   pub is_packet : packet ≡ ipv6_octets ip headers (udp_octets udp) more
 
-abbrev pub IsOverIp : ℕ → Address → UdpDatagram → List ℕ → (more : ℕ) → Type 0
-IsOverIp ether_type sender udp packet more =
-    OverIpv4 ether_type sender udp packet more ⊎ OverIpv6 ether_type sender udp packet more
+abbrev pub IsOverIp : ℕ → Ends → UdpDatagram → List ℕ → (more : ℕ) → Type 0
+IsOverIp ether_type ends udp packet more =
+    OverIpv4 ether_type ends udp packet more ⊎ OverIpv6 ether_type ends udp packet more
 
 -- the first of several fragments, up to the end of its ports, and how many octets more it has
 abbrev pub ports : List ℕ
 ports = big_bytes 2 6696 ++ big_bytes 2 6696
 
-pub record FirstOverIpv4 (ether_type : ℕ) (sender : Address) (packet : List ℕ)
+pub record FirstOverIpv4 (ether_type : ℕ) (ends : Ends) (packet : List ℕ)
     (more : ℕ) : Type 0 where
   pub is_type : ether_type ≡ 0x0800
   pub ip : Ipv4Header
   pub fits : IsIpv4 ip (length ports + more)
   pub is_first : HasFlags 1 ip.flags
-  pub is_sender : sender ≡ record { family = V4; bits = ip.sender }
+  pub are_ends : ends ≡ ends4 ip
   pub is_packet : packet ≡ ipv4_octets ip ports more
 
 -- RFC 8200, 4.5: the fragment header stands among the others
-pub record FirstOverIpv6 (ether_type : ℕ) (sender : Address) (packet : List ℕ)
+pub record FirstOverIpv6 (ether_type : ℕ) (ends : Ends) (packet : List ℕ)
     (more : ℕ) : Type 0 where
   pub is_type : ether_type ≡ 0x86dd
   pub ip : Ipv6Header
-  pub is_sender : sender ≡ record { family = V6; bits = ip.sender }
+  pub are_ends : ends ≡ ends6 ip
   pub front : List Extension
   pub fragment : Extension
   pub back : List Extension
@@ -199,17 +214,17 @@ pub record FirstOverIpv6 (ether_type : ℕ) (sender : Address) (packet : List �
   pub fits : IsIpv6 ip (length (extensions (front ++ fragment ∷ back)) + (length ports + more))
   pub is_packet : packet ≡ ipv6_octets ip (front ++ fragment ∷ back) ports more
 
-abbrev pub IsFirstFragment : ℕ → Address → List ℕ → (more : ℕ) → Type 0
-IsFirstFragment ether_type sender packet more =
-    FirstOverIpv4 ether_type sender packet more ⊎ FirstOverIpv6 ether_type sender packet more
+abbrev pub IsFirstFragment : ℕ → Ends → List ℕ → (more : ℕ) → Type 0
+IsFirstFragment ether_type ends packet more =
+    FirstOverIpv4 ether_type ends packet more ⊎ FirstOverIpv6 ether_type ends packet more
 
 -- what such a packet is seen as
-abbrev pub IsWhole : ℕ → Address → List ℕ → (more : ℕ) → Carried → Type 0
-IsWhole ether_type sender packet more carried =
-    (udp : UdpDatagram) × IsBabel udp × IsOverIp ether_type sender udp packet more
+abbrev pub IsWhole : ℕ → Ends → List ℕ → (more : ℕ) → Carried → Type 0
+IsWhole ether_type ends packet more carried =
+    (udp : UdpDatagram) × IsBabel udp × IsOverIp ether_type ends udp packet more
     × (carried ≡ carries udp.payload)
 
-abbrev pub HasBabel : ℕ → Address → List ℕ → (more : ℕ) → Carried → Type 0
-HasBabel ether_type sender packet more carried =
-    IsWhole ether_type sender packet more carried
-    ⊎ (IsFirstFragment ether_type sender packet more × (carried ≡ lacking Fragment))
+abbrev pub HasBabel : ℕ → Ends → List ℕ → (more : ℕ) → Carried → Type 0
+HasBabel ether_type ends packet more carried =
+    IsWhole ether_type ends packet more carried
+    ⊎ (IsFirstFragment ether_type ends packet more × (carried ≡ lacking Fragment))

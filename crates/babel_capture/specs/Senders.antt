@@ -16,8 +16,8 @@ use Rattle.babel_capture.specs.Tallies.{Senders, origin_cmp, tally_of}
 
 -- a packet of this sender at this place was found
 abbrev pub is_from : Origin → Found → Bool
-is_from origin (found place sender packet has_trailer) =
-    is_at (origin_cmp origin) (record { place = place; sender = sender })
+is_from origin (found place ends packet has_trailer) =
+    is_at (origin_cmp origin) (record { place = place; sender = ends.sender })
 is_from origin what = false
 
 -- what was made of its packets

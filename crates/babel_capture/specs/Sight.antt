@@ -1,6 +1,6 @@
 -- What a captured frame is to us.
 use Rattle.std.specs.Prelude.{List, ℕ}
-use Rattle.babel_prefix.specs.Address.{Address}
+use Rattle.babel_capture.specs.declared.ends.Ends.{Ends}
 use Rattle.babel_capture.specs.declared.flaw.Flaw.{Flaw}
 use Rattle.babel_capture.specs.declared.flaw.Flaw.TheVariants as flaws
 use Rattle.babel_capture.specs.declared.lack.Lack.{Lack}
@@ -17,11 +17,11 @@ pub data Carried : Type 0 where
   carries : (payload : List ℕ) → Carried
 
 -- nothing of Babel; too short to tell; or a datagram from or to the port of Babel, captured at this
--- place and from this sender
+-- place, and between which addresses
 pub data Sight : Type 0 where
   other : Sight
   too_short : Sight
-  datagram : (place : Place) (sender : Address) (carried : Carried) → Sight
+  datagram : (place : Place) (ends : Ends) (carried : Carried) → Sight
 
 -- what `look` answers, without where the payload lies in memory
 abbrev pub flaw_of : Flaw → Carried
@@ -32,5 +32,5 @@ flaw_of (flaws.Lacking lack) = lacking lack
 abbrev pub sight_of : Seen → Sight
 sight_of seens.Other = other
 sight_of seens.Short = too_short
-sight_of (seens.Flawed place sender flaw) = datagram place sender (flaw_of flaw)
-sight_of (seens.Datagram place sender payload) = datagram place sender (carries payload.now)
+sight_of (seens.Flawed place ends flaw) = datagram place ends (flaw_of flaw)
+sight_of (seens.Datagram place ends payload) = datagram place ends (carries payload.now)

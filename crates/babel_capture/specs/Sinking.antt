@@ -1,6 +1,7 @@
 -- What a sink is told of the packets of a capture, and what it took: this project's own.
 use Rattle.std.specs.Prelude.{◌≡◌, ℕ, List, [], ◌++◌, Option, None, Some}
 use Rattle.babel_capture.specs.declared.missed.Missed.{Missed}
+use Rattle.babel_capture.specs.declared.reason.Reason.{Reason}
 use Rattle.babel_capture.specs.declared.sink.BabelPacket.{BabelPacket}
 use Rattle.babel_capture.specs.declared.sink.Record.{Record}
 use Rattle.babel_capture.specs.declared.sink.Said.{Said}
@@ -8,7 +9,8 @@ use Rattle.babel_capture.specs.declared.sink.Said.TheVariants as saids
 use Rattle.babel_capture.specs.declared.wanted.Wanted.{Wanted}
 use Rattle.babel_capture.specs.Blocks.{AreBlocks, BlockAt, Sighting, octets_of, sightings_of, start}
 use Rattle.babel_capture.specs.Counts.{Made}
-use Rattle.babel_capture.specs.Findings.{Found, missed_in, octets_found, origin_found}
+use Rattle.babel_capture.specs.Findings.{Found, destination_found, missed_in, octets_found}
+use Rattle.babel_capture.specs.Findings.{origin_found, reason_left}
 use Rattle.babel_capture.specs.Gathering.{AreTaken, Gathering, IsGathered}
 use Rattle.babel_capture.specs.Reading.{HasTaken, LeadTo, Progress}
 use Rattle.babel_capture.specs.Times.{time_of}
@@ -23,11 +25,18 @@ abbrev pub missed_said : Said → Option Missed
 missed_said (saids.Missed missed) = Some missed
 missed_said said = None
 
+-- why a datagram is told to be left out, if one is
+abbrev pub left_said : Said → Option Reason
+left_said (saids.Missed missed) = Some missed.reason
+left_said (saids.LeftOut origin reason) = Some reason
+left_said said = None
+
 -- it is the Babel packet that was found, if one was
 abbrev pub IsPacketOf : Found → Option BabelPacket → Type 0
 IsPacketOf what None = (origin_found what ≡ None) × (octets_found what ≡ [])
 IsPacketOf what (Some packet) =
     (origin_found what ≡ Some packet.origin) × (octets_found what ≡ packet.octets.now)
+    × (destination_found what ≡ Some packet.destination)
 
 -- this is told of a packet
 pub record IsTold (one : Made) (told : Record) : Type 0 where
@@ -35,6 +44,7 @@ pub record IsTold (one : Made) (told : Record) : Type 0 where
   pub time : told.time ≡ time_of one.came
   pub packet : IsPacketOf one.what (packet_said told.said)
   pub missed : missed_said told.said ≡ missed_in one.what
+  pub left : left_said told.said ≡ reason_left one.what
 
 -- a sink took some packets, which are those that are read besides
 pub record Sinks {S : Type 0} (has : S → S → List Made → Type 0) (old new : S)

@@ -87,8 +87,8 @@ tallied senders origin time packet has_trailer =
 
 -- with what was made of one packet of the capture, which came then
 abbrev pub senders_with : Senders → Option ℕ → Found → Senders
-senders_with senders time (found place sender packet has_trailer) =
-    tallied senders (record { place = place; sender = sender }) time packet has_trailer
+senders_with senders time (found place ends packet has_trailer) =
+    tallied senders (record { place = place; sender = ends.sender }) time packet has_trailer
 senders_with senders time what = senders
 
 -- each sender at each place of which a packet was found, by place, then by address

@@ -4,6 +4,7 @@ use Rattle.std.specs.Prelude.{if◌then◌else◌, List, length, drop, take}
 use Rattle.babel_prefix.specs.Address.{Address}
 use Rattle.babel_prefix.specs.declared.family.Family.{Family}
 use Rattle.babel_prefix.specs.declared.family.Family.TheVariants.{V4, V6}
+use Rattle.babel_capture.specs.declared.ends.Ends.{Ends}
 use Rattle.babel_capture.specs.declared.lack.Lack.TheVariants as lacks
 use Rattle.babel_capture.specs.declared.place.Place.{Place}
 use Rattle.babel_capture.specs.Octets.{network_number}
@@ -38,24 +39,24 @@ abbrev pub udp_len : List ℕ → ℕ
 udp_len octets = network_number 4 2 octets
 
 -- a datagram that routers read, by its length, if IP carries that much, and the recorder kept it
-abbrev pub len_sight : Place → Address → List ℕ → ℕ → Sight
-len_sight place sender octets all =
+abbrev pub len_sight : Place → Ends → List ℕ → ℕ → Sight
+len_sight place ends octets all =
     if nat_lt all 6 then other
-    else if nat_lt (length octets) 6 then datagram place sender (lacking lacks.Snapped)
-    else if nat_lt all (udp_len octets) then datagram place sender (lacking lacks.CutShort)
+    else if nat_lt (length octets) 6 then datagram place ends (lacking lacks.Snapped)
+    else if nat_lt all (udp_len octets) then datagram place ends (lacking lacks.CutShort)
     else if nat_lt (udp_len octets) 8 then other
     else if nat_lt (length octets) (udp_len octets)
-    then datagram place sender (lacking lacks.Snapped)
-    else datagram place sender (carries (take (udp_len octets - 8) (drop 8 octets)))
+    then datagram place ends (lacking lacks.Snapped)
+    else datagram place ends (carries (take (udp_len octets - 8) (drop 8 octets)))
 
 -- a datagram from or to the port of Babel: the first of these that applies
-abbrev pub babel_sight : Place → Address → Bool → Bool → List ℕ → ℕ → Sight
-babel_sight place sender is_fragment is_cut octets all =
-    if not (is_of_routers octets) then datagram place sender other_port
-    else if not (may_send sender) then datagram place sender not_link_local
-    else if is_fragment then datagram place sender (lacking lacks.Fragment)
-    else if is_cut then datagram place sender (lacking lacks.CutShort)
-    else len_sight place sender octets all
+abbrev pub babel_sight : Place → Ends → Bool → Bool → List ℕ → ℕ → Sight
+babel_sight place ends is_fragment is_cut octets all =
+    if not (is_of_routers octets) then datagram place ends other_port
+    else if not (may_send ends.sender) then datagram place ends not_link_local
+    else if is_fragment then datagram place ends (lacking lacks.Fragment)
+    else if is_cut then datagram place ends (lacking lacks.CutShort)
+    else len_sight place ends octets all
 
 -- what has no ports to be read: IP carries so many octets, too few for ports, or more
 abbrev pub unkept_sight : ℕ → Sight
@@ -63,9 +64,9 @@ unkept_sight all = if nat_lt all 4 then other else too_short
 
 -- RFC 768: what IP carries, which are `all` octets, of which the recorder kept these; whether this
 -- is the first of several fragments, and whether IP says more octets than its frame had
-unfoldable pub udp_sight : Place → Address → Bool → Bool → List ℕ → ℕ → Sight
-udp_sight place sender is_fragment is_cut octets all =
+unfoldable pub udp_sight : Place → Ends → Bool → Bool → List ℕ → ℕ → Sight
+udp_sight place ends is_fragment is_cut octets all =
     if nat_lt all 4 then other
     else if nat_lt (length octets) 4 then too_short
     else if not (is_babel octets) then other
-    else babel_sight place sender is_fragment is_cut octets all
+    else babel_sight place ends is_fragment is_cut octets all

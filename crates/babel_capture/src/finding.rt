@@ -1,17 +1,20 @@
 ghost use Rattle.std.specs.Prelude.{◌≡◌, None};
 ghost use Rattle.babel_capture.specs.Findings.{CarriedIs, Finds, PayloadIs, finding_of};
-ghost use Rattle.babel_capture.specs.Findings.{lack_found, left, missed_in};
+ghost use Rattle.babel_capture.specs.Findings.{lack_found, left, missed_in, reason_left};
 ghost use Rattle.babel_capture.specs.Sight.{flaw_of, sight_of};
-ghost use Rattle.babel_capture.specs.Sinking.{IsPacketOf, missed_said, packet_said};
+ghost use Rattle.babel_capture.specs.Sinking.{IsPacketOf, left_said, missed_said, packet_said};
 
+use crate::ends::Ends;
 use crate::flaw::Flaw;
 use crate::lack::Lack;
 use crate::missed::Missed;
+use crate::place::Place;
 use crate::reason::Reason;
 use crate::seen::Seen;
 use crate::sink::{BabelPacket, Said};
 use crate::tallies::Origin;
 use crate::wanted::Wanted;
+use babel_prefix::Addr;
 use babel_tlv::{Fault, Frame, frame};
 
 /// What is made of a packet of a capture.
@@ -21,16 +24,18 @@ pub enum Finding<'a> {
     Passed,
     /// It is too short to tell.
     Short,
-    /// It is left out, and missed of this sender, if it lacks something.
+    /// A datagram of this sender is left out, and missed if it lacks something.
     Left {
         reason: Reason,
-        missed: Option<Origin>,
+        origin: Origin,
+        is_missed: bool,
     },
     /// It lacks something, and its sender is named.
     Refused(Lack),
     /// A Babel packet: RFC 8966, 4.2. `has_trailer` says whether octets come after its body.
     Packet {
         origin: Origin,
+        destination: Addr,
         octets: &'a [u8],
         has_trailer: bool,
     },
@@ -41,41 +46,57 @@ impl<'a> Finding<'a> {
     pub fn said(&self) -> Said<'a>
         ensures packet { IsPacketOf (finding_of self.now) (packet_said result) }
         ensures missed { missed_said result ≡ missed_in (finding_of self.now) }
+        ensures left { left_said result ≡ reason_left (finding_of self.now) }
     {
         match *self {
-            Finding::Packet { origin, octets, .. } => Said::Packet(BabelPacket { origin, octets }),
+            Finding::Packet {
+                origin,
+                destination,
+                octets,
+                ..
+            } => Said::Packet(BabelPacket {
+                origin,
+                destination,
+                octets,
+            }),
             Finding::Left {
                 reason,
-                missed: Some(origin),
+                origin,
+                is_missed: true,
             } => Said::Missed(Missed { origin, reason }),
+            Finding::Left { reason, origin, .. } => Said::LeftOut { origin, reason },
             _ => Said::Nothing,
         }
     }
 
-    /// It is left out for this reason, and not missed.
-    fn left(reason: Reason) -> Finding<'a>
+    /// A datagram of this sender is left out for this reason, and not missed.
+    fn left(origin: Origin, reason: Reason) -> Finding<'a>
         ensures { finding_of result ≡ left reason None }
     {
         Finding::Left {
             reason,
-            missed: None,
+            origin,
+            is_missed: false,
         }
     }
 }
 
 /// What is made of a datagram's payload: the packet without what comes after its body.
-fn payload_finding<'a>(origin: Origin, payload: &'a [u8]) -> Finding<'a>
-    ensures { PayloadIs origin.place origin.sender payload.now (finding_of result) }
+fn payload_finding<'a>(place: Place, ends: &Ends, payload: &'a [u8]) -> Finding<'a>
+    ensures { PayloadIs place ends.now payload.now (finding_of result) }
 {
+    let sender = ends.sender;
+    let origin = Origin { place, sender };
     match frame(payload, 0) {
         Frame::Whole { used, .. } => Finding::Packet {
             origin,
+            destination: ends.destination,
             octets: &payload[..used],
             has_trailer: used < payload.len(),
         },
-        Frame::More => Finding::left(Reason::Truncated),
-        Frame::Bad(Fault::BadMagic { .. }) => Finding::left(Reason::BadMagic),
-        Frame::Bad(_) => Finding::left(Reason::BadVersion),
+        Frame::More => Finding::left(origin, Reason::Truncated),
+        Frame::Bad(Fault::BadMagic { .. }) => Finding::left(origin, Reason::BadMagic),
+        Frame::Bad(_) => Finding::left(origin, Reason::BadVersion),
     }
 }
 
@@ -88,24 +109,20 @@ impl Wanted {
         match *seen {
             Seen::Other => Finding::Passed,
             Seen::Short => Finding::Short,
-            Seen::Flawed {
-                place,
-                sender,
-                flaw,
-            } => {
-                if self.takes(sender, place) {
-                    self.flaw_finding(Origin { place, sender }, flaw)
+            Seen::Flawed { place, ends, flaw } => {
+                if self.takes(ends.sender, place) {
+                    self.flaw_finding(place, &ends, flaw)
                 } else {
                     Finding::Passed
                 }
             }
             Seen::Datagram {
                 place,
-                sender,
+                ends,
                 payload,
             } => {
-                if self.takes(sender, place) {
-                    payload_finding(Origin { place, sender }, payload)
+                if self.takes(ends.sender, place) {
+                    payload_finding(place, &ends, payload)
                 } else {
                     Finding::Passed
                 }
@@ -114,13 +131,14 @@ impl Wanted {
     }
 
     /// What is made of a wanted datagram that can't be read.
-    fn flaw_finding(&self, origin: Origin, flaw: Flaw) -> Finding<'static>
-        ensures { CarriedIs self.now origin.place origin.sender (flaw_of flaw)
-            (finding_of result) }
+    fn flaw_finding(&self, place: Place, ends: &Ends, flaw: Flaw) -> Finding<'static>
+        ensures { CarriedIs self.now place ends.now (flaw_of flaw) (finding_of result) }
     {
+        let sender = ends.sender;
+        let origin = Origin { place, sender };
         match flaw {
-            Flaw::OtherPort => Finding::left(Reason::OtherPort),
-            Flaw::NotLinkLocal => Finding::left(Reason::NotLinkLocal),
+            Flaw::OtherPort => Finding::left(origin, Reason::OtherPort),
+            Flaw::NotLinkLocal => Finding::left(origin, Reason::NotLinkLocal),
             Flaw::Lacking(lack) => self.lack_finding(origin, lack),
         }
     }
@@ -135,7 +153,8 @@ impl Wanted {
         }
         Finding::Left {
             reason: lack.reason(),
-            missed: Some(origin),
+            origin,
+            is_missed: true,
         }
     }
 }

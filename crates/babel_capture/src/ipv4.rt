@@ -3,6 +3,7 @@ ghost use Rattle.babel_capture.specs.Ipv4.{ipv4_header_len, ipv4_carried_sight, 
 ghost use Rattle.babel_capture.specs.Ipv4.{ipv4_sight};
 ghost use Rattle.babel_capture.specs.Sight.{sight_of};
 
+use crate::ends::Ends;
 use crate::field::{ipv4_address, number16};
 use crate::part::Part;
 use crate::place::Place;
@@ -87,9 +88,12 @@ fn look_at_carried(place: Place, packet: Part<'_>) -> Seen<'_>
 {
     let octets = packet.octets;
     let total_len = number16(octets, 2) as usize;
-    let sender = ipv4_address(octets, 12);
+    let ends = Ends {
+        sender: ipv4_address(octets, 12),
+        destination: ipv4_address(octets, 16),
+    };
     let is_fragment = number16(octets, 6) & MORE_FRAGMENTS != 0;
     let is_cut = packet.whole < total_len;
     let part = packet.first(total_len).after(header_len(octets));
-    look_into_udp(place, sender, is_fragment, is_cut, part)
+    look_into_udp(place, &ends, is_fragment, is_cut, part)
 }

@@ -3,6 +3,7 @@ ghost use Rattle.babel_capture.specs.Ipv6.{ipv6_carried_sight, ipv6_sight, upper
 ghost use Rattle.babel_capture.specs.Layers.{next_header};
 ghost use Rattle.babel_capture.specs.Sight.{sight_of};
 
+use crate::ends::Ends;
 use crate::field::{ipv6_address, number16};
 use crate::headers::NextHeader;
 use crate::part::Part;
@@ -63,7 +64,10 @@ fn look_at_carried<'a>(place: Place, packet: Part<'a>, upper: NextHeader<'a>) ->
     if octets.len() < HEADER_LEN {
         return look_at_none(upper.part.whole);
     }
-    let sender = ipv6_address(octets, 8);
+    let ends = Ends {
+        sender: ipv6_address(octets, 8),
+        destination: ipv6_address(octets, 24),
+    };
     let is_cut = packet.whole < HEADER_LEN + number16(octets, 4) as usize;
-    look_into_udp(place, sender, upper.is_fragment, is_cut, upper.part)
+    look_into_udp(place, &ends, upper.is_fragment, is_cut, upper.part)
 }

@@ -29,7 +29,7 @@ ghost use Rattle.babel_capture.specs.LaidOut.{HasBabel, IsBabel, IsOverIp, UdpDa
 ghost use Rattle.babel_capture.specs.LinkHeaders.{HasEtherType, HasFamily, IsHeader};
 ghost use Rattle.babel_capture.specs.LinkHeaders.{IsOtherFamily, IsOtherType};
 ghost use Rattle.byteorder.specs.Endian.{big_bytes, little_bytes};
-ghost use Rattle.babel_prefix.specs.Address.{Address};
+ghost use Rattle.babel_capture.specs.declared.ends.Ends.{Ends};
 ghost use Rattle.babel_capture.specs.Sight.{Carried, Sight, carries, datagram, lacking, other};
 ghost use Rattle.babel_capture.specs.declared.link.Link.{Link as LinkType};
 ghost use Rattle.babel_capture.specs.declared.lack.Lack.TheVariants.{Snapped};
@@ -46,25 +46,25 @@ pub fn sight_is_backed()
 
 /// A Babel datagram that is laid out as the RFCs say, over IPv4 with any options or over IPv6 with
 /// up to eight extension headers, in a frame of any link type that is read, with up to four VLAN
-/// tags where it has an EtherType, and with any padding, is seen as what it carries, from its
-/// sender and at its place, whatever its IP packet has after it, kept or not; and the first of
+/// tags where it has an EtherType, and with any padding, is seen as what it carries, between its
+/// addresses and at its place, whatever its IP packet has after it, kept or not; and the first of
 /// several fragments of one is seen as a fragment.
 pub fn laid_out_is_seen()
-    ensures { (link : LinkType) (interface ether_type : ℕ) (place : Place) (sender : Address)
+    ensures { (link : LinkType) (interface ether_type : ℕ) (place : Place) (ends : Ends)
         (carried : Carried) (header packet after : List ℕ) (more all : ℕ)
         → IsHeader link interface ether_type place header
-        → HasBabel ether_type sender packet more carried
+        → HasBabel ether_type ends packet more carried
         → length header + (length packet + more) ≤ all
         → frame_sight interface link (header ++ (packet ++ after)) all
-        ≡ datagram place sender carried }
+        ≡ datagram place ends carried }
 {}
 
 /// And nothing else is: where the octets of a frame are seen as a packet, they are laid out so.
 pub fn seen_is_laid_out()
-    ensures { (link : LinkType) (interface : ℕ) (place : Place) (sender : Address)
+    ensures { (link : LinkType) (interface : ℕ) (place : Place) (ends : Ends)
         (payload octets : List ℕ) (all : ℕ) → AreOctets octets
-        → frame_sight interface link octets all ≡ datagram place sender (carries payload)
-        → IsInFrame link interface place sender payload octets all }
+        → frame_sight interface link octets all ≡ datagram place ends (carries payload)
+        → IsInFrame link interface place ends payload octets all }
 {}
 
 /// After a link header whose EtherType, up to four tags included, or whose protocol family is none
@@ -83,14 +83,14 @@ pub fn other_type_is_passed()
 /// Where the recorder kept the first octets of such a frame, the datagram's ports within, it is
 /// seen as one that was cut.
 pub fn cut_is_seen()
-    ensures { (link : LinkType) (interface ether_type : ℕ) (place : Place) (sender : Address)
+    ensures { (link : LinkType) (interface ether_type : ℕ) (place : Place) (ends : Ends)
         (udp : UdpDatagram) (header packet : List ℕ) (more n all : ℕ)
         → IsHeader link interface ether_type place header
-        → IsBabel udp → IsOverIp ether_type sender udp packet more
+        → IsBabel udp → IsOverIp ether_type ends udp packet more
         → length packet ≤ n + (4 + length udp.payload) → n < length packet
         → length header + (length packet + more) ≤ all
         → frame_sight interface link (header ++ take n packet) all
-        ≡ datagram place sender (lacking Snapped) }
+        ≡ datagram place ends (lacking Snapped) }
 {}
 
 /// Octets hold one list of packets: whatever a capture gives, it is gathered of these.

@@ -30,6 +30,7 @@ mod block;
 mod capture;
 mod clock;
 mod context;
+mod ends;
 mod ethernet;
 mod fault;
 mod field;
@@ -67,6 +68,7 @@ mod wanted;
 mod window;
 
 pub use capture::Capture;
+pub use ends::Ends;
 pub use fault::Fault;
 pub use flaw::Flaw;
 pub use frame::look;

@@ -1,9 +1,9 @@
+use crate::ends::Ends;
 use crate::flaw::Flaw;
 use crate::place::Place;
-use babel_prefix::Addr;
 
-/// What one captured frame is to us. A datagram has the place where it was captured, and the source
-/// address of its IP header.
+/// What one captured frame is to us. A datagram has the place where it was captured, and the
+/// addresses of its IP header.
 #[derive(Clone, Copy)]
 pub enum Seen<'a> {
     /// No datagram of Babel: another protocol or port, or a header that contradicts itself.
@@ -14,13 +14,13 @@ pub enum Seen<'a> {
     /// A datagram from or to the port of Babel that can't be read.
     Flawed {
         place: Place,
-        sender: Addr,
+        ends: Ends,
         flaw: Flaw,
     },
     /// A datagram that routers read, and the octets that UDP carries.
     Datagram {
         place: Place,
-        sender: Addr,
+        ends: Ends,
         payload: &'a [u8],
     },
 }

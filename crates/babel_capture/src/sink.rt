@@ -4,8 +4,10 @@ ghost use Rattle.babel_capture.specs.Counts.{Made};
 ghost use Rattle.babel_capture.specs.Sinking.{IsTold};
 
 use crate::missed::Missed;
+use crate::reason::Reason;
 use crate::tallies::Origin;
 use crate::time::Time;
+use babel_prefix::Addr;
 
 /// What is told of a packet of a capture.
 #[derive(Clone, Copy)]
@@ -27,6 +29,8 @@ pub enum Said<'a> {
     Packet(BabelPacket<'a>),
     /// A wanted datagram that lacks something and is left out, where no sender is named.
     Missed(Missed),
+    /// A wanted datagram that is left out for this reason, though nothing of it is missing.
+    LeftOut { origin: Origin, reason: Reason },
 }
 
 /// A Babel packet of a capture: RFC 8966, 4.2.
@@ -34,6 +38,8 @@ pub enum Said<'a> {
 pub struct BabelPacket<'a> {
     /// Who sent it, and where it was captured.
     pub origin: Origin,
+    /// The address that it was sent to.
+    pub destination: Addr,
     /// Its header and its body.
     pub octets: &'a [u8],
 }

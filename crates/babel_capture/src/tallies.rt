@@ -145,6 +145,7 @@ impl Tallies {
             origin,
             octets,
             has_trailer,
+            ..
         } = finding
         else {
             return Ok(None);

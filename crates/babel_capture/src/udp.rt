@@ -3,6 +3,7 @@ ghost use Rattle.babel_capture.specs.Sight.{sight_of};
 ghost use Rattle.babel_capture.specs.Udp.{babel_sight, is_babel, is_of_routers, len_sight};
 ghost use Rattle.babel_capture.specs.Udp.{may_send, udp_sight, unkept_sight};
 
+use crate::ends::Ends;
 use crate::field::number16;
 use crate::flaw::Flaw;
 use crate::lack::Lack;
@@ -28,17 +29,17 @@ const LINK_LOCAL: u128 = 0x3fa;
 
 const LINK_LOCAL_REST: u32 = 118;
 
-/// What a UDP datagram is, or the first fragment of one, from this sender: RFC 768. `is_cut` says
-/// whether IP says more octets than its frame had.
+/// What a UDP datagram is, or the first fragment of one, between these addresses: RFC 768.
+/// `is_cut` says whether IP says more octets than its frame had.
 #[tactic(auto, unfolding(crate::specs::Udp::udp_sight))]
-pub(crate) fn look_into_udp(
+pub(crate) fn look_into_udp<'a>(
     place: Place,
-    sender: Addr,
+    ends: &Ends,
     is_fragment: bool,
     is_cut: bool,
-    part: Part<'_>,
-) -> Seen<'_>
-    ensures { sight_of result ≡ udp_sight place sender is_fragment is_cut
+    part: Part<'a>,
+) -> Seen<'a>
+    ensures { sight_of result ≡ udp_sight place ends.now is_fragment is_cut
         part.entry.octets.now part.entry.whole }
 {
     let octets = part.octets;
@@ -49,82 +50,82 @@ pub(crate) fn look_into_udp(
         return Seen::Short;
     }
     if is_babel(octets) {
-        look_at_babel(place, sender, is_fragment, is_cut, part)
+        look_at_babel(place, ends, is_fragment, is_cut, part)
     } else {
         Seen::Other
     }
 }
 
 /// What a datagram from or to the port of Babel is.
-fn look_at_babel(
+fn look_at_babel<'a>(
     place: Place,
-    sender: Addr,
+    ends: &Ends,
     is_fragment: bool,
     is_cut: bool,
-    part: Part<'_>,
-) -> Seen<'_>
+    part: Part<'a>,
+) -> Seen<'a>
     requires { 4 ≤ length part.octets.now }
-    ensures { sight_of result ≡ babel_sight place sender is_fragment is_cut
+    ensures { sight_of result ≡ babel_sight place ends.now is_fragment is_cut
         part.entry.octets.now part.entry.whole }
 {
     if !is_of_routers(part.octets) {
         return Seen::Flawed {
             place,
-            sender,
+            ends: *ends,
             flaw: Flaw::OtherPort,
         };
     }
-    if !may_send(sender) {
+    if !may_send(ends.sender) {
         return Seen::Flawed {
             place,
-            sender,
+            ends: *ends,
             flaw: Flaw::NotLinkLocal,
         };
     }
     if is_fragment {
-        return lacking(place, sender, Lack::Fragment);
+        return lacking(place, ends, Lack::Fragment);
     }
     if is_cut {
-        return lacking(place, sender, Lack::CutShort);
+        return lacking(place, ends, Lack::CutShort);
     }
-    look_by_length(place, sender, part)
+    look_by_length(place, ends, part)
 }
 
 /// What a datagram that routers read is, by its length.
-fn look_by_length(place: Place, sender: Addr, part: Part<'_>) -> Seen<'_>
-    ensures { sight_of result ≡ len_sight place sender part.entry.octets.now part.entry.whole }
+fn look_by_length<'a>(place: Place, ends: &Ends, part: Part<'a>) -> Seen<'a>
+    ensures { sight_of result ≡ len_sight place ends.now part.entry.octets.now part.entry.whole }
 {
     let octets = part.octets;
     if part.whole < LEN_END {
         return Seen::Other;
     }
     if octets.len() < LEN_END {
-        return lacking(place, sender, Lack::Snapped);
+        return lacking(place, ends, Lack::Snapped);
     }
     let len = number16(octets, PORTS_LEN) as usize;
     if part.whole < len {
-        return lacking(place, sender, Lack::CutShort);
+        return lacking(place, ends, Lack::CutShort);
     }
     if len < HEADER_LEN {
         return Seen::Other;
     }
     if octets.len() < len {
-        return lacking(place, sender, Lack::Snapped);
+        return lacking(place, ends, Lack::Snapped);
     }
     Seen::Datagram {
         place,
-        sender,
+        ends: *ends,
         payload: &octets[HEADER_LEN..len],
     }
 }
 
 /// A datagram that is not all there.
-fn lacking(place: Place, sender: Addr, lack: Lack) -> Seen<'static>
-    ensures { result ≡ Seen.Flawed place sender (Flaw.Lacking lack) }
+fn lacking(place: Place, ends: &Ends, lack: Lack) -> Seen<'static>
+    ensures { result ≡ Seen.Flawed place ends.now (Flaw.Lacking lack) }
 {
     Seen::Flawed {
         place,
-        sender,
+        ends: *ends,
         flaw: Flaw::Lacking(lack),
     }
 }

@@ -34,7 +34,7 @@ impl Wanted {
     /// Whether this is a datagram of the sender that is named, at whichever place.
     pub fn names(&self, seen: &Seen<'_>) -> bool {
         match seen {
-            Seen::Datagram { sender, .. } => self.sender == Some(*sender),
+            Seen::Datagram { ends, .. } => self.sender == Some(ends.sender),
             _ => false,
         }
     }

@@ -2,6 +2,7 @@
 use Rattle.std.proofs.Common.{◌≡◌, ℕ, ◌≤◌, List, [], ◌∷◌, ◌++◌, map, Option, None, Some, refl, sym, ap, subst, ◌∙◌, append_assoc, arith}
 use Rattle.std.specs.Prelude.{IfSome}
 use Rattle.std.proofs.lemmas.List.{append-nil, map-append}
+use Rattle.std.proofs.lemmas.List.Elements.{filter-append}
 use Rattle.babel_capture.specs.declared.tallies.Origin.{Origin}
 use Rattle.babel_capture.specs.Counts.{Made}
 use Rattle.babel_capture.specs.Findings.{Found, passed, untold, left, refused, found}
@@ -12,7 +13,7 @@ use Rattle.babel_timeline.specs.declared.telling.Telling.{Telling}
 use Rattle.babel_timeline.specs.declared.telling.Telling.TheVariants as tellings
 use Rattle.babel_timeline.specs.Accounts.{Said}
 use Rattle.babel_timeline.specs.Rows.{Rows}
-use Rattle.babel_timeline.specs.Telling.{AreAnswers, AskedFor, IsTold, Tells, TellsEnds}
+use Rattle.babel_timeline.specs.Telling.{AreAnswers, AskedFor, IsTold, Tells, TellsEnds, is_of_rows, of_rows}
 use Rattle.babel_timeline.proofs.AccountLaws.{begins}
 use Rattle.babel_timeline.proofs.TellingLaws.{ends_tell, expired_account, tells_then}
 use Rattle.babel_dump.specs.EventsRun.{AreInOrder, AreSaid, AreTold, AreUpTo, HaveTold, IsSaid, Says, asked_by}
@@ -44,7 +45,7 @@ says_nothing events time passed none = refl
 says_nothing events time untold none = refl
 says_nothing events time (left reason missed) none = refl
 says_nothing events time (refused lack) none = refl
-says_nothing events time (found place sender packet has_trailer) none = absurd (let origin : Origin = record { place = place; sender = sender } in let bad : None ≡ Some origin = none in cc)
+says_nothing events time (found place ends packet has_trailer) none = absurd (let origin : Origin = record { place = place; sender = ends.sender } in let bad : None ≡ Some origin = none in cc)
 
 pub says_packet : (events : Events) (time : ℕ) (what : Found) (origin : Origin) (packet : List ℕ) (said : List (Said Speaker)) → Some origin ≡ origin_found what → packet ≡ octets_found what
     → IsSaid events time origin.place origin.sender packet said → Says events (Some time) what said
@@ -52,8 +53,8 @@ says_packet events time passed origin packet said is octets is_said = absurd (le
 says_packet events time untold origin packet said is octets is_said = absurd (let bad : Some origin ≡ None = is in cc)
 says_packet events time (left reason missed) origin packet said is octets is_said = absurd (let bad : Some origin ≡ None = is in cc)
 says_packet events time (refused lack) origin packet said is octets is_said = absurd (let bad : Some origin ≡ None = is in cc)
-says_packet events time (found place sender found_octets has_trailer) origin packet said is octets is_said =
-    let own : Origin = record { place = place; sender = sender } in
+says_packet events time (found place ends found_octets has_trailer) origin packet said is octets is_said =
+    let own : Origin = record { place = place; sender = ends.sender } in
     let some : Some origin ≡ Some own = is in
     let same : origin ≡ own = cc in
     subst (λ (o : Origin). IsSaid events time o.place o.sender found_octets said) same
@@ -61,20 +62,20 @@ says_packet events time (found place sender found_octets has_trailer) origin pac
 
 -- ---- in order
 
-up_to_front : (time : ℕ) (made : List Made) (one : Made) → AreUpTo time (made ++ one ∷ []) → AreUpTo time made × IfSome (time_of one.came) (λ came. came ≤ time)
+pub up_to_front : (time : ℕ) (made : List Made) (one : Made) → AreUpTo time (made ++ one ∷ []) → AreUpTo time made × IfSome (time_of one.came) (λ came. came ≤ time)
 up_to_front time [] one (here, none) = (tt, here)
 up_to_front time (first ∷ made) one (here, are) = let on = up_to_front time made one are in ((here, on.0), on.1)
 
-in_order_front : (made : List Made) (one : Made) → AreInOrder (made ++ one ∷ []) → AreInOrder made
+pub in_order_front : (made : List Made) (one : Made) → AreInOrder (made ++ one ∷ []) → AreInOrder made
 in_order_front made one order front back at time split came =
     order front (back ++ one ∷ []) at time (ap (λ (m : List Made). m ++ one ∷ []) split ∙ append_assoc front (at ∷ back) (one ∷ [])) came
 
 -- ---- what is told
 
 told_more : (asked : AskedFor) (changes more : List (Change Speaker)) (rows after : Rows Speaker) (before here : Tellings)
-    → AreTold asked changes rows before → IsTold speaker_cmp asked more rows after [] here → AreTold asked (changes ++ more) after (before ++ here)
+    → AreTold asked changes rows before → IsTold speaker_cmp asked more rows after [] (of_rows asked here) → AreTold asked (changes ++ more) after (before ++ here)
 told_more None changes more rows after before here are is =
-    ap (λ (t : Tellings). before ++ t) is ∙ ap (λ (t : Tellings). t ++ map tellings.Change more) are ∙ sym (map-append tellings.Change changes more)
+    filter-append is_of_rows before here ∙ ap (λ (t : Tellings). of_rows None before ++ t) is ∙ ap (λ (t : Tellings). t ++ map tellings.Change more) are ∙ sym (map-append tellings.Change changes more)
 told_more (Some pair) changes more rows after before here are (answers, is, keeps) =
     subst (λ (t : Tellings). AreAnswers speaker_cmp pair (before ++ t) after) (sym is) (keeps before are)
 
@@ -122,7 +123,7 @@ module _ (events : Events) where
 
     -- a record with a time, of which this is told
     told_timed : (time : ℕ) (said : List (Said Speaker)) (rows after : Rows Speaker) (here : Tellings) → time_of one.came ≡ Some time → Says events (Some time) one.what said
-        → Tells speaker_cmp events.expiry (asked_by events) said time rows after [] here → HaveTold events None made before rows
+        → Tells speaker_cmp events.expiry (asked_by events) said time rows after [] (of_rows (asked_by events) here) → HaveTold events None made before rows
         → HaveTold events None (made ++ one ∷ []) (before ++ here) after
     told_timed time said rows after here came says tells have = record {
       said = have.said ++ said;
@@ -141,25 +142,26 @@ module _ (events : Events) where
 
     -- one that gives no packet: what has expired is told
     pub told_of_no_packet : (time : ℕ) (rows after : Rows Speaker) (here : Tellings) → time_of one.came ≡ Some time → None ≡ origin_found one.what
-        → TellsEnds speaker_cmp events.expiry (asked_by events) time rows after [] here → HaveTold events None made before rows
+        → TellsEnds speaker_cmp events.expiry (asked_by events) time rows after [] (of_rows (asked_by events) here) → HaveTold events None made before rows
         → HaveTold events None (made ++ one ∷ []) (before ++ here) after
     told_of_no_packet time rows after here came none ends have =
         told_timed time [] rows after here came (says_nothing events time one.what none)
-        (ends_tell speaker_cmp speaker_total speaker_exact events.expiry (asked_by events) time rows after [] here ends) have
+        (ends_tell speaker_cmp speaker_total speaker_exact events.expiry (asked_by events) time rows after [] (of_rows (asked_by events) here) ends) have
 
     -- one that gives a packet
     pub told_of_packet : (time : ℕ) (origin : Origin) (packet : List ℕ) (said : List (Said Speaker)) (rows mid after : Rows Speaker) (told here : Tellings) → time_of one.came ≡ Some time
         → Some origin ≡ origin_found one.what → packet ≡ octets_found one.what → IsSaid events time origin.place origin.sender packet said
-        → TellsEnds speaker_cmp events.expiry (asked_by events) time rows mid [] told → Tells speaker_cmp events.expiry (asked_by events) said time mid after told here
+        → TellsEnds speaker_cmp events.expiry (asked_by events) time rows mid [] (of_rows (asked_by events) told)
+        → Tells speaker_cmp events.expiry (asked_by events) said time mid after (of_rows (asked_by events) told) (of_rows (asked_by events) here)
         → HaveTold events None made before rows → HaveTold events None (made ++ one ∷ []) (before ++ here) after
     told_of_packet time origin packet said rows mid after told here came is octets is_said ends tells have =
         told_timed time said rows after here came (says_packet events time one.what origin packet said is octets is_said)
-        (tells_then speaker_cmp speaker_total speaker_exact events.expiry (asked_by events) [] said time rows mid after [] told here
-        (ends_tell speaker_cmp speaker_total speaker_exact events.expiry (asked_by events) time rows mid [] told ends) tells) have
+        (tells_then speaker_cmp speaker_total speaker_exact events.expiry (asked_by events) [] said time rows mid after [] (of_rows (asked_by events) told) (of_rows (asked_by events) here)
+        (ends_tell speaker_cmp speaker_total speaker_exact events.expiry (asked_by events) time rows mid [] (of_rows (asked_by events) told) ends) tells) have
 
   -- what expires besides, up to a moment
   pub told_until : (made : List Made) (moment : ℕ) (rows after : Rows Speaker) (before here : Tellings)
-      → TellsEnds speaker_cmp events.expiry (asked_by events) moment rows after [] here → HaveTold events None made before rows
+      → TellsEnds speaker_cmp events.expiry (asked_by events) moment rows after [] (of_rows (asked_by events) here) → HaveTold events None made before rows
       → HaveTold events (Some moment) made (before ++ here) after
   told_until made moment rows after before here ends have = record {
     said = have.said;

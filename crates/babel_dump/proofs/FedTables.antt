@@ -154,7 +154,7 @@ whole_answer reader fed dst src answer none answered is =
     record {
       table = table;
       gave = table_by reader fed table is (none_then fed.feeder table fed.expired none) (λ _. (told.0, told.1.is_table));
-      held = told.1.same;
+      row = told.1.row;
       report = told.1.report;
     }
 
@@ -283,7 +283,7 @@ pub gave_answer : (reader : Input) (fed : Fed) (dst src : Address) (answer : Ans
 gave_answer reader fed dst src answer is whole = record {
   table = is.table;
   gave = gave_table reader fed is.table is.gave (λ strict. subst (IsReadWhole fed.left_out) is.report (whole strict));
-  held = is.held;
+  row = is.row;
   report = is.report;
 }
 

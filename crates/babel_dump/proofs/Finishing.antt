@@ -180,8 +180,8 @@ not_compared reader other view Many untouched (inr (inr (many, gave))) = cc
 -- a job's fault is not that of a write
 no_write : (work : Work) (reader other : Reads) (untouched : Type 0) → CauseBy work reader other untouched run_faults.Write → ⊥
 no_write (works.Dump source task) reader other untouched cause = cause
-no_write (works.Each source pairs) reader other untouched (inl (refuses, unread)) = absurd cc
-no_write (works.Each source pairs) reader other untouched (inr (asked, no_failure, cause)) = cause
+no_write (works.Each source pairs with_prefix) reader other untouched (inl (refuses, unread)) = absurd cc
+no_write (works.Each source pairs with_prefix) reader other untouched (inr (asked, no_failure, cause)) = cause
 no_write (works.Two first second view task) reader other untouched cause = not_compared _ _ view _ untouched cause
 no_write (works.Capture reading file task) reader other untouched cause = cause
 

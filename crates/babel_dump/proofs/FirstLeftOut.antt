@@ -36,7 +36,7 @@ what_is reason (left other missed) is =
 what_is reason passed is = absurd cc
 what_is reason untold is = absurd cc
 what_is reason (refused lack) is = absurd cc
-what_is reason (found place sender packet has_trailer) is = absurd cc
+what_is reason (found place ends packet has_trailer) is = absurd cc
 
 is_for : (reason : Reason) (one : Made) → tests reason one ≡ true → IsLeftFor reason one
 is_for reason one is = what_is reason one.what is

@@ -32,16 +32,18 @@ use Rattle.babel_timeline.specs.Hearing.{CountsPacket, heard_of, nothing_heard}
 use Rattle.babel_timeline.proofs.WordLaws.{IsInner, snoc_split}
 use Rattle.babel_timeline.specs.declared.teller.Teller.{Teller}
 use Rattle.babel_timeline.specs.declared.telling.Telling.{Telling}
-use Rattle.babel_timeline.specs.Telling.{TellsEnds}
+use Rattle.babel_timeline.specs.SilencesTold.{TellsSilences, hellos_heard, watches}
+use Rattle.babel_timeline.specs.Telling.{TellsEnds, of_rows}
 use Rattle.babel_dump.specs.EventText.{speaker_of}
 use Rattle.babel_dump.specs.EventText.{time_of as time_told}
-use Rattle.babel_dump.specs.EventsRun.{AreTlvsOf, HaveTold, HaveToldSo, OpensRightly, Step, asked_by, first_time, have_come, is_from, is_heard, is_lost, is_of, made_in, packets_heard, requests_made, since_in, speaker_at, told_from, told_in, unlost, written_in}
-use Rattle.babel_dump.specs.Followed.{HasHeard, HearsPacket, HearsRecord, IsHeardOf, Suits, TellsFrom, TellsNext, unlost_by}
+use Rattle.babel_dump.specs.EventsRun.{AreTlvsOf, HaveTold, HaveToldSo, OpensRightly, Step, TellsSilent, asked_by, first_time, have_come, is_from, is_heard, is_lost, is_of, last_time, made_in, packets_heard, requests_made, since_in, speaker_at, told_from, told_in, unlost, written_in}
+use Rattle.babel_dump.specs.Followed.{HasHeard, HearsPacket, HearsRecord, IsHeardOf, KnowsSilent, Suits, TellsFrom, TellsNext, unlost_by}
 use Rattle.babel_dump.specs.Speakers.{speaker_cmp, speaker_exact}
 use Rattle.babel_dump.specs.declared.events_job.Events.{Events}
 use Rattle.babel_dump.specs.declared.hearing.Hearing.{Hearing}
 use Rattle.babel_dump.specs.declared.speaker.Speaker.{Speaker}
 use Rattle.babel_dump.proofs.EventsFollowed.{suits_still}
+use Rattle.babel_dump.proofs.SilentRuns.{its_hellos, knows_none, knows_timed, knows_untimed, no_hellos, silences_both, tells_now}
 use Rattle.babel_dump.proofs.EventsRuns.{Tellings, told_of_no_packet, told_of_none, told_of_packet, told_untimed}
 use Rattle.babel_dump.specs.declared.since.Since.{Since}
 use Rattle.babel_dump.proofs.SinceLaws.{AwaitsAfter, awaits_begun, awaits_none, awaits_on, quiet_more}
@@ -199,14 +201,19 @@ module _ (events : Events) where
 
   -- ---- one after another
 
+  abbrev TellsNow : List Step → Type 0
+  TellsNow steps = TellsSilent events (last_time (made_in steps)) (made_in steps) (told_in steps)
+
   told_so : (front : List Step) (all : List Step) → front ≡ all → HaveToldSo events all → HaveToldSo events front
   told_so front all is = subst (HaveToldSo events) (sym is)
 
   -- nothing was heard
   pub has_heard_none : (hearing : Hearing) → Suits events hearing.teller → hearing.teller.timeline.rows ≡ [] → hearing.lost.keys ≡ [] → hearing.teller.heard.entries ≡ []
-      → hearing.since.moment ≡ None → hearing.since.has_come ≡ false → hearing.since.answers.entries ≡ [] → HasHeard events [] [] hearing
-  has_heard_none hearing suits rows lost heard moment come answers =
+      → hearing.since.moment ≡ None → hearing.since.has_come ≡ false → hearing.since.answers.entries ≡ []
+      → hearing.teller.watch ≡ record { rows = []; silent = record { keys = [] } } → HasHeard events [] [] hearing
+  has_heard_none hearing suits rows lost heard moment come answers watch =
       let have : HaveTold events None [] [] hearing.teller.timeline.rows = subst (HaveTold events None [] []) (sym rows) (told_of_none events) in
+      let knows = knows_none events hearing.teller watch in
       record {
         suits = suits;
         steps = [];
@@ -217,6 +224,8 @@ module _ (events : Events) where
         opens = λ front back step split. absurd (no_step front step back split);
         awaits = awaits_none events.since hearing.since moment come answers;
         quiet = λ none. refl;
+        silent = λ front back split. subst TellsNow (sym (no_front front back split)) (tells_now events [] [] hearing.teller knows);
+        knows = knows;
         lost = λ speaker. ap (list_any (is_at (speaker_cmp speaker))) lost;
         heard = none_heard hearing.teller.heard.entries heard;
       }
@@ -257,7 +266,7 @@ module _ (events : Events) where
       suits = hears.suits;
       steps = steps;
       are_made = made_is ∙ ap (λ (m : List Made). m ++ one ∷ []) was.are_made;
-      each = each;
+      each = fronts (HaveToldSo events) (new.teller.timeline.rows, have) was.each;
       have_told = have;
       written_is = ap (λ (t : Tellings). t ++ unlost_by old.lost all) was.written_is
           ∙ ap (λ (t : Tellings). written_in events [] was.steps ++ t) (unlost_is made written old was all ∙ ap (unlost (made_in was.steps)) all_is)
@@ -266,6 +275,8 @@ module _ (events : Events) where
       awaits = subst (λ (m : List Made). AwaitsAfter events.since m (told_in steps) new.since) (sym made_is)
           (subst (λ (t : Tellings). AwaitsAfter events.since (made_in was.steps ++ one ∷ []) t new.since) (sym told_is)
           (awaits_on (since_in events.since (made_in was.steps ++ one ∷ [])) (made_in was.steps) one (told_in was.steps ++ told) new.since from.awaits));
+      silent = fronts TellsNow (tells_now events (made_in steps) (told_in steps) new.teller knows) was.silent;
+      knows = knows;
       quiet = λ none. told_is ∙ quiet_more (made_in was.steps) one (told_in was.steps) told was.quiet untimed (ap first_time (sym made_is) ∙ none);
       lost = λ speaker. lost speaker ∙ ap (λ (b : Bool). b || missed speaker) (was.lost speaker) ∙ sym (lost_here speaker) ∙ ap (λ (m : List Made). is_lost m speaker) (sym made_is);
       heard = λ speaker. subst (λ (m : List Made). IsHeardOf events m new.teller.heard.entries speaker) (sym made_is) (hears.heard (made_in was.steps) speaker (was.heard speaker));
@@ -303,13 +314,19 @@ module _ (events : Events) where
             (subst (λ (t : Tellings). HaveTold events None (made_in was.steps ++ one ∷ []) t new.teller.timeline.rows) (sym told_is)
             (hears.tells (made_in was.steps) (told_in was.steps) was.have_told))
 
-        each : (front back : List Step) → steps ≡ front ++ back → HaveToldSo events front
-        each front [] split = told_so front steps (sym (split ∙ append-nil front)) (new.teller.timeline.rows, have)
-        each front (here ∷ later) split = by (snoc_split was.steps step front here later split)
+        knows : KnowsSilent events (made_in steps) (told_in steps) new.teller
+        knows = subst (λ (m : List Made). KnowsSilent events m (told_in steps) new.teller) (sym made_is)
+            (subst (λ (t : Tellings). KnowsSilent events (made_in was.steps ++ one ∷ []) t new.teller) (sym told_is)
+            (hears.silences (made_in was.steps) (told_in was.steps) was.knows))
+
+        -- what holds of all steps, and of those that were first before, holds of all that are first
+        fronts : (P : List Step → Type 0) → P steps → ((front back : List Step) → was.steps ≡ front ++ back → P front) → (front back : List Step) → steps ≡ front ++ back → P front
+        fronts P whole before front [] split = subst P (split ∙ append-nil front) whole
+        fronts P whole before front (here ∷ later) split = by (snoc_split was.steps step front here later split)
           where
-            by : ((front ≡ was.steps) × (here ≡ step)) ⊎ IsInner was.steps step front here later → HaveToldSo events front
-            by (inl (all, last)) = told_so front was.steps all (was.each was.steps [] (sym (append-nil was.steps)))
-            by (inr inner) = was.each front (here ∷ inner.rest) inner.whole
+            by : ((front ≡ was.steps) × (here ≡ step)) ⊎ IsInner was.steps step front here later → P front
+            by (inl (all, last)) = subst P (sym all) (before was.steps [] (sym (append-nil was.steps)))
+            by (inr inner) = before front (here ∷ inner.rest) inner.whole
 
         opens : (front back : List Step) (here : Step) → steps ≡ front ++ here ∷ back → OpensRightly events front here
         opens front back here split = by (snoc_split was.steps step front here back split)
@@ -334,28 +351,33 @@ module _ (events : Events) where
       suits = suits;
       tells = λ made before have. subst (λ (t : Tellings). HaveTold events None (made ++ one ∷ []) t old.timeline.rows) (sym (append-nil before))
           (told_untimed events made one before before old.timeline.rows none have);
+      silences = λ made before knows. subst (λ (t : Tellings). KnowsSilent events (made ++ one ∷ []) t old) (sym (append-nil before)) (knows_untimed events made one before old none knows);
       heard = λ made speaker. heard_nothing made one old.heard.entries (untimed_heard one none) speaker;
     }
 
     module _ (mid : Teller Speaker) where
       pub hears_no_packet : Suits events old → (mid.timeline.factor ≡ old.timeline.factor) × (mid.interest ≡ old.interest) → mid.heard ≡ old.heard → (time : ℕ) (told : Tellings)
-          → time_of one.came ≡ Some time → None ≡ origin_found one.what → TellsEnds speaker_cmp events.expiry (asked_by events) time old.timeline.rows mid.timeline.rows [] told
-          → HearsRecord events one old mid told
-      hears_no_packet suits same heard time told came none ends = record {
+          → time_of one.came ≡ Some time → None ≡ origin_found one.what → TellsEnds speaker_cmp events.expiry (asked_by events) time old.timeline.rows mid.timeline.rows [] (of_rows (asked_by events) told)
+          → (watches events.expiry (asked_by events) ≡ true → TellsSilences speaker_cmp [] time [] told old.watch mid.watch) → HearsRecord events one old mid told
+      hears_no_packet suits same heard time told came none ends silences = record {
         suits = suits_still old mid events same suits;
         tells = λ made before have. told_of_no_packet events made one before time old.timeline.rows mid.timeline.rows told came none ends have;
+        silences = λ made before knows. knows_timed events made one before told time [] old mid came (no_hellos time one.what none) silences knows;
         heard = λ made speaker was. subst (λ h. IsHeardOf events (made ++ one ∷ []) h speaker) (ap (λ h. h.entries) (sym heard))
             (heard_nothing made one old.heard.entries (no_packet_heard one time came none) speaker was);
       }
 
       pub hears_one_packet : (new : Teller Speaker) → mid.heard ≡ old.heard → (time : ℕ) (origin : Origin) (packet : List ℕ) (ended told : Tellings) → time_of one.came ≡ Some time
           → Some origin ≡ origin_found one.what → packet ≡ octets_found one.what
-          → TellsEnds speaker_cmp events.expiry (asked_by events) time old.timeline.rows mid.timeline.rows [] ended → HearsPacket events origin time packet mid new ended told
+          → TellsEnds speaker_cmp events.expiry (asked_by events) time old.timeline.rows mid.timeline.rows [] (of_rows (asked_by events) ended)
+          → (watches events.expiry (asked_by events) ≡ true → TellsSilences speaker_cmp [] time [] ended old.watch mid.watch) → HearsPacket events origin time packet mid new ended told
           → HearsRecord events one old new told
-      hears_one_packet new heard time origin packet ended told came is octets ends here = record {
+      hears_one_packet new heard time origin packet ended told came is octets ends silences here = record {
         suits = here.suits;
         tells = λ made before have.
             told_of_packet events made one before time origin packet here.said old.timeline.rows mid.timeline.rows new.timeline.rows ended told came is octets here.is_said ends here.tells have;
+        silences = λ made before knows. knows_timed events made one before told time (hellos_heard (speaker_at origin) time packet) old new came (its_hellos time one.what origin packet is octets)
+            (λ watching. silences_both time (hellos_heard (speaker_at origin) time packet) ended told old.watch mid.watch new.watch (silences watching) (here.silences watching)) knows;
         heard = λ made speaker was. heard_packet made one old.heard.entries new.heard.entries speaker time origin packet came is octets
             (subst (λ h. CountsPacket speaker_cmp (speaker_at origin) (start_by events (speaker_at origin)) packet h new.heard.entries) (ap (λ h. h.entries) heard) here.counts) was;
       }

@@ -18,7 +18,7 @@ use Rattle.babel_dump.specs.DiffText.{diff_in, head_lines}
 use Rattle.babel_dump.specs.Filter.{kept_pairs_in}
 use Rattle.babel_dump.specs.InFormat.{answer_line_in, differences_or_count_in, listed_in, verdict_in}
 use Rattle.babel_dump.specs.KeyText.{file_in, key_in}
-use Rattle.babel_dump.specs.RunText.{answer_in, differences_status, form_text, lookup_status, verdict_status}
+use Rattle.babel_dump.specs.RunText.{answer_in, differences_status, form_text, lookup_status, row_in, verdict_status}
 use Rattle.babel_dump.specs.TextParts.{lacks_route}
 use Rattle.babel_dump.specs.declared.addr_pair.AddrPair.{AddrPair}
 use Rattle.babel_dump.specs.declared.format.Format.{Format}
@@ -92,8 +92,8 @@ writes_one form reading view body table in_text it too is is_too =
 found_one : (task : Task) (format : Format) (quiet : Bool) (file : List ℕ) (reading : Reading) (table : Routes) (it too : Said)
     → TaskFinds task format quiet file reading table it.text it.outcome → TaskFinds task format quiet file reading table too.text too.outcome → it ≡ too
 found_one (tasks.Show filter summary) format quiet file reading table it too is is_too = tells_one _ _ _ _ it too refl is is_too
-found_one (tasks.Lookup pair) format quiet file reading table it too is is_too = tells_one _ _ _ _ it too refl is is_too
-found_one (tasks.AnySource dst) format quiet file reading table it too is is_too =
+found_one (tasks.Lookup pair with_prefix) format quiet file reading table it too is is_too = tells_one _ _ _ _ it too refl is is_too
+found_one (tasks.AnySource dst with_prefix) format quiet file reading table it too is is_too =
     let same = told_one is.told is_too.told _ _ is.told_if is_too.told_if in
     let status = lookup_status (answer_in table dst (any_source dst.family)) in
     said (is.text_is ∙ sym is_too.text_is)
@@ -130,12 +130,13 @@ task_one task format quiet file reading table = gives_one _ _ (found_one task fo
 
 -- ---- what is found of a table for each of the pairs that are asked for
 
-abbrev pub EachOf : Format → Reading → (text : List ℕ) → Routes → Said → Type 0
-EachOf format reading text table it = (asked : List AddrPair) × AreAskedBy reading text asked × LooksUpEach format asked table it.text it.outcome
+abbrev pub EachOf : Format → (with_prefix : Bool) → Reading → (text : List ℕ) → Routes → Said → Type 0
+EachOf format with_prefix reading text table it = (asked : List AddrPair) × AreAskedBy reading text asked × LooksUpEach format with_prefix asked table it.text it.outcome
 
-pub each_one : (format : Format) (reading : Reading) (text : List ℕ) (table : Routes) (it too : Said) → EachOf format reading text table it → EachOf format reading text table too → it ≡ too
-each_one format reading text table it too (asked, are, is) (asked_too, are_too, is_too) =
-    let texts = same_texts (λ dst src. answer_line_in format dst src (answer_in table dst src)) (asking (lines_of text)) asked asked_too are.asked are_too.asked in
+pub each_one : (format : Format) (with_prefix : Bool) (reading : Reading) (text : List ℕ) (table : Routes) (it too : Said) → EachOf format with_prefix reading text table it
+    → EachOf format with_prefix reading text table too → it ≡ too
+each_one format with_prefix reading text table it too (asked, are, is) (asked_too, are_too, is_too) =
+    let texts = same_texts (λ dst src. answer_line_in format with_prefix dst src (row_in table dst src)) (asking (lines_of text)) asked asked_too are.asked are_too.asked in
     let tests = same_tests (lacks_route table) (asking (lines_of text)) asked asked_too are.asked are_too.asked in
     said (is.text_is ∙ texts ∙ sym is_too.text_is)
     (is.outcome_is ∙ ap (λ (lacks : Bool). record { status = if lacks then 1 else 0; reports = reports.Dump table.report }) tests ∙ sym is_too.outcome_is)

@@ -51,8 +51,8 @@ BothCome first other contents others Next =
 abbrev pub Comes : Work → Job → (contents other : List ℕ) → Result Said RunFault → Type 0
 Comes (works.Dump source task) job contents other =
     Then (At sides.First (DumpComes source.reading contents)) (TaskGives task job.format job.quiet (name_of source.file) source.reading)
-Comes (works.Each source pairs) job contents other =
-    Then (PairsCome source.reading other) (λ is. Then (At sides.First (DumpComes source.reading contents)) (λ table. Always (EachOf job.format source.reading other table)))
+Comes (works.Each source pairs with_prefix) job contents other =
+    Then (PairsCome source.reading other) (λ is. Then (At sides.First (DumpComes source.reading contents)) (λ table. Always (EachOf job.format with_prefix source.reading other table)))
 Comes (works.Two first second view task) job contents other =
     BothCome first.reading second.reading contents other
     (ComparisonGives task job.format view (name_of first.file) (name_of second.file) first.reading second.reading)
@@ -63,9 +63,9 @@ Comes (works.Capture reading file task) job contents other =
 comes_one : (work : Work) (job : Job) (contents other : List ℕ) → IsOne (Comes work job contents other)
 comes_one (works.Dump source task) job contents other =
     then_one (at_one sides.First (dump_one source.reading contents)) (task_one task job.format job.quiet (name_of source.file) source.reading)
-comes_one (works.Each source pairs) job contents other =
+comes_one (works.Each source pairs with_prefix) job contents other =
     then_one (pairs_one source.reading other)
-    (λ is. then_one (at_one sides.First (dump_one source.reading contents)) (λ table. always_one (each_one job.format source.reading other table)))
+    (λ is. then_one (at_one sides.First (dump_one source.reading contents)) (λ table. always_one (each_one job.format with_prefix source.reading other table)))
 comes_one (works.Two first second view task) job contents other =
     then_one (at_one sides.First (dump_one first.reading contents)) (λ table. then_one (at_one sides.Other (dump_one second.reading other))
     (comparison_one task job.format view (name_of first.file) (name_of second.file) first.reading second.reading table))
@@ -77,7 +77,7 @@ says_comes : (work : Work) (job : Job) (reader second : Reads) (contents other t
     → second.old.left ≡ Some other → SaysBy work job reader second text outcome → Comes work job contents other (Ok (record { text = text; outcome = outcome }))
 says_comes (works.Dump source task) job reader second contents other text outcome has other_has says =
     inl (says.table, table_comes (dump_of reader source.reading) contents has says.table says.gave, says.holds)
-says_comes (works.Each source pairs) job reader second contents other text outcome has other_has says =
+says_comes (works.Each source pairs with_prefix) job reader second contents other text outcome has other_has says =
     let are = asked_by (dump_of second source.reading) other says.asked other_has says.gave in
     let answers = says.answers in
     inl (tt, (says.asked, are), inl (answers.table, table_comes (dump_of reader source.reading) contents has answers.table answers.gave, (says.asked, are, answers.holds)))
@@ -120,9 +120,9 @@ cause_comes (works.Dump source task) job reader second untouched contents other 
       | inl comes ↦ inr (run_faults.Input sides.First f, (f, refl, comes), refl)
       | inr (table, comes, same, many) ↦ inl (table, comes, (ap (λ (g : InputFault). run_faults.Input sides.First g) same, many))
     ]) is cause
-cause_comes (works.Each source pairs) job reader second untouched contents other fault has other_has is (inl (refuses, unread)) =
+cause_comes (works.Each source pairs with_prefix) job reader second untouched contents other fault has other_has is (inl (refuses, unread)) =
     inr (fault, pairs_fault (dump_of second source.reading) other fault other_has is refuses, refl)
-cause_comes (works.Each source pairs) job reader second untouched contents other fault has other_has is (inr ((asked, gave), no_failure, cause)) =
+cause_comes (works.Each source pairs with_prefix) job reader second untouched contents other fault has other_has is (inr ((asked, gave), no_failure, cause)) =
     let are = asked_by (dump_of second source.reading) other asked other_has gave in
     inl (tt, (asked, are), inr (fault, dump_at_first (dump_of reader source.reading) contents fault has is cause, refl))
 cause_comes (works.Two first another view task) job reader second untouched contents other fault has other_has is cause = elim cause [
@@ -244,11 +244,11 @@ dump_fault_of : (work : Work) (job : Job) (side : Side) (octets other : List ℕ
 dump_fault_of (works.Dump source task) job side octets other fault not_pairs (inr (e, at, ends)) =
     on_side sides.First side (works.Dump source task) source.reading octets other fault refl (own_at sides.First side source.reading octets fault e at ends)
 dump_fault_of (works.Dump source task) job side octets other fault not_pairs (inl (table, is, (many, pairs))) = absurd (not_pairs (cc))
-dump_fault_of (works.Each source pairs) job side octets other fault not_pairs (inr (e, inl (line, is, few, wrong), ends)) = absurd cc
-dump_fault_of (works.Each source pairs) job side octets other fault not_pairs (inr (e, inr (is, over), ends)) = absurd cc
-dump_fault_of (works.Each source pairs) job side octets other fault not_pairs (inl (asks, asked, inr (e, at, ends))) =
-    on_side sides.First side (works.Each source pairs) source.reading octets other fault refl (own_at sides.First side source.reading octets fault e at ends)
-dump_fault_of (works.Each source pairs) job side octets other fault not_pairs (inl (asks, asked, inl (table, is, never))) = absurd never
+dump_fault_of (works.Each source pairs with_prefix) job side octets other fault not_pairs (inr (e, inl (line, is, few, wrong), ends)) = absurd cc
+dump_fault_of (works.Each source pairs with_prefix) job side octets other fault not_pairs (inr (e, inr (is, over), ends)) = absurd cc
+dump_fault_of (works.Each source pairs with_prefix) job side octets other fault not_pairs (inl (asks, asked, inr (e, at, ends))) =
+    on_side sides.First side (works.Each source pairs with_prefix) source.reading octets other fault refl (own_at sides.First side source.reading octets fault e at ends)
+dump_fault_of (works.Each source pairs with_prefix) job side octets other fault not_pairs (inl (asks, asked, inl (table, is, never))) = absurd never
 dump_fault_of (works.Two first second view task) job side octets other fault not_pairs (inr (e, at, ends)) =
     on_side sides.First side (works.Two first second view task) first.reading octets other fault refl (own_at sides.First side first.reading octets fault e at ends)
 dump_fault_of (works.Two first second view task) job side octets other fault not_pairs (inl (table, is, inr (e, at, ends))) =

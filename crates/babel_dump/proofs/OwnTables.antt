@@ -126,19 +126,19 @@ own_one origin one passed None is told = none_here origin one passed is refl
 own_one origin one untold None is told = none_here origin one untold is refl
 own_one origin one (left reason missed) None is told = none_here origin one (left reason missed) is refl
 own_one origin one (refused lack) None is told = none_here origin one (refused lack) is refl
-own_one origin one (found place sender octets has_trailer) None is told = absurd (let bad = told.0 in cc)
+own_one origin one (found place ends octets has_trailer) None is told = absurd (let bad = told.0 in cc)
 own_one origin one passed (Some packet) is told = absurd (let bad = told.0 in cc)
 own_one origin one untold (Some packet) is told = absurd (let bad = told.0 in cc)
 own_one origin one (left reason missed) (Some packet) is told = absurd (let bad = told.0 in cc)
 own_one origin one (refused lack) (Some packet) is told = absurd (let bad = told.0 in cc)
-own_one origin one (found place sender octets has_trailer) (Some packet) is told =
-    let from : record { place = place; sender = sender } ≡ packet.origin = let same = told.0 in cc in
+own_one origin one (found place ends octets has_trailer) (Some packet) is told =
+    let from : record { place = place; sender = ends.sender } ≡ packet.origin = let same = told.0 in cc in
     ap (λ (b : Bool). packets_made (cond b (one ∷ []) [])) (ap (is_from origin) is ∙ ap (is_at (origin_cmp origin)) from) ∙ by (is_at (origin_cmp origin) packet.origin)
   where
     by : (b : Bool) → packets_made (cond b (one ∷ []) []) ≡ cond b ((unwrap_or (time_of one.came) 0, packet.octets.now) ∷ []) []
     by true =
         append-nil (timed_found (time_of one.came) one.what) ∙ ap (timed_found (time_of one.came)) is
-        ∙ packet_told (found place sender octets has_trailer) packet (time_of one.came) told
+        ∙ packet_told (found place ends octets has_trailer) packet (time_of one.came) told
     by false = refl
 
 pub own_told : (origin : Origin) (made : List Made) (one : Made) (told : Record) → IsTold one told

@@ -28,19 +28,20 @@ packet_told passed packet time is = absurd (let bad = is.0 in cc)
 packet_told untold packet time is = absurd (let bad = is.0 in cc)
 packet_told (left reason missed) packet time is = absurd (let bad = is.0 in cc)
 packet_told (refused lack) packet time is = absurd (let bad = is.0 in cc)
-packet_told (found place sender octets has_trailer) packet time is = ap (λ (t : List ℕ). (unwrap_or time 0, t) ∷ []) is.1
+packet_told (found place ends octets has_trailer) packet time is = ap (λ (t : List ℕ). (unwrap_or time 0, t) ∷ []) is.1
 
 none_told : (what : Found) (time : Option ℕ) → IsPacketOf what None → timed_found time what ≡ []
 none_told passed time is = refl
 none_told untold time is = refl
 none_told (left reason missed) time is = refl
 none_told (refused lack) time is = refl
-none_told (found place sender octets has_trailer) time is = absurd (let bad = is.0 in cc)
+none_told (found place ends octets has_trailer) time is = absurd (let bad = is.0 in cc)
 
 pub none_said : (said : Said) → ((packet : BabelPacket) → said ≡ saids.Packet packet → ⊥) → packet_said said ≡ None
 none_said saids.Nothing not = refl
 none_said (saids.Packet packet) not = absurd (not packet refl)
 none_said (saids.Missed missed) not = refl
+none_said (saids.LeftOut origin reason) not = refl
 
 -- what is told of the next record is the packet that is made of it, or none
 pub made_more : (made : List Made) (one : Made) → packets_made (made ++ one ∷ []) ≡ packets_made made ++ timed_found (time_of one.came) one.what

@@ -16,7 +16,7 @@ use Rattle.babel_prefix.proofs.Insertion.{is_at-sym}
 use Rattle.babel_capture.specs.declared.window.Moment.{Moment}
 use Rattle.babel_capture.specs.Counts.{Made}
 use Rattle.babel_capture.specs.Times.{time_of}
-use Rattle.babel_tlv.specs.Route.{Announcement}
+use Rattle.babel_timeline.specs.declared.best_match.BestMatch.{BestMatch}
 use Rattle.babel_timeline.specs.declared.telling.Telling.{Telling}
 use Rattle.babel_timeline.specs.declared.telling.Telling.TheVariants as tellings
 use Rattle.babel_timeline.specs.Telling.{answer_after, answered}
@@ -125,7 +125,7 @@ pub awaits_none : (asked : Option Moment) (kept : Since) → kept.moment ≡ Non
 awaits_none asked kept none not_yet no_answers = record {
   moment = none ∙ sym (by asked);
   has_come = not_yet;
-  answers = λ early speaker. ap (λ (es : List (Speaker × Announcement)). lookup (is_at (speaker_cmp speaker)) es) no_answers;
+  answers = λ early speaker. ap (λ (es : List (Speaker × BestMatch)). lookup (is_at (speaker_cmp speaker)) es) no_answers;
 }
   where
     by : (a : Option Moment) → since_at a None ≡ None
@@ -139,17 +139,17 @@ awaits_on since made one told kept awaits = subst (λ (b : Bool). Awaits since b
 -- ---- what is kept
 
 -- one answer more is kept
-pub answer_kept : (cmp : Speaker → Speaker → Ordering) → cmp ≡ speaker_cmp → (old new : BTreeMap Speaker Announcement) (sender : Speaker) (answer put : Option Announcement)
+pub answer_kept : (cmp : Speaker → Speaker → Ordering) → cmp ≡ speaker_cmp → (old new : BTreeMap Speaker BestMatch) (sender : Speaker) (answer put : Option BestMatch)
     → answer ≡ put → ((q : Speaker) → get cmp new q ≡ cond (is_at (cmp sender) q) put (get cmp old q)) → (speaker : Speaker)
     → lookup (is_at (speaker_cmp speaker)) new.entries ≡ cond (is_at (speaker_cmp speaker) sender) answer (lookup (is_at (speaker_cmp speaker)) old.entries)
 answer_kept cmp order old new sender answer put is updates speaker =
     subst (λ (k : Speaker → Speaker → Ordering). get k new speaker ≡ cond (is_at (k sender) speaker) put (get k old speaker)) order (updates speaker)
-    ∙ ap (λ (a : Option Announcement). cond (is_at (speaker_cmp sender) speaker) a (get speaker_cmp old speaker)) (sym is)
+    ∙ ap (λ (a : Option BestMatch). cond (is_at (speaker_cmp sender) speaker) a (get speaker_cmp old speaker)) (sym is)
     ∙ ap (λ (b : Bool). cond b answer (get speaker_cmp old speaker)) (is_at-sym speaker_total sender speaker)
 
 module _ (moment : ℕ) (earlier : Tellings) (old new : Since) (was : HasAnswers earlier old) where
   -- what is no answer
-  pub other_kept : (told : Telling Speaker) → ((speaker : Speaker) (answer : Option Announcement) → answer_after speaker_cmp speaker answer told ≡ answer) → new ≡ old
+  pub other_kept : (told : Telling Speaker) → ((speaker : Speaker) (answer : Option BestMatch) → answer_after speaker_cmp speaker answer told ≡ answer) → new ≡ old
       → HasAnswers (earlier ++ told_early (Some moment) (told ∷ [])) new
   other_kept told none same speaker = ap (λ (k : Since). lookup (is_at (speaker_cmp speaker)) k.answers.entries) same ∙ was speaker ∙ sym (by (nat_le moment (time_told told)))
     where
@@ -157,7 +157,7 @@ module _ (moment : ℕ) (earlier : Tellings) (old new : Since) (was : HasAnswers
       by true = ap (λ (t : Tellings). answered speaker_cmp t speaker) (append-nil earlier)
       by false = fold-append (answer_after speaker_cmp speaker) None earlier (told ∷ []) ∙ none speaker (answered speaker_cmp earlier speaker)
 
-  module _ (time : ℕ) (sender : Speaker) (answer before : Option Announcement) where
+  module _ (time : ℕ) (sender : Speaker) (answer before : Option BestMatch) where
     -- an answer of the moment or later is not kept
     pub late_kept : moment ≤ time → new ≡ old → HasAnswers (earlier ++ told_early (Some moment) (tellings.Answer time sender answer before ∷ [])) new
     late_kept le same speaker =
@@ -286,15 +286,15 @@ told_then moment time old new known heard opening told comes is since come earli
 
 -- ---- one answer after the other
 
-pub answers_next : (moment : ℕ) (all told now : Tellings) (left rest : List (Speaker × Announcement)) (one : Speaker × Announcement) → told ++ map (answer_told moment) left ≡ all → left ≡ one ∷ rest
+pub answers_next : (moment : ℕ) (all told now : Tellings) (left rest : List (Speaker × BestMatch)) (one : Speaker × BestMatch) → told ++ map (answer_told moment) left ≡ all → left ≡ one ∷ rest
     → now ≡ told ++ answer_told moment one ∷ [] → now ++ map (answer_told moment) rest ≡ all
 answers_next moment all told now left rest one before is put =
     ap (λ (t : Tellings). t ++ map (answer_told moment) rest) put ∙ append_assoc told (answer_told moment one ∷ []) (map (answer_told moment) rest)
-    ∙ ap (λ (l : List (Speaker × Announcement)). told ++ map (answer_told moment) l) (sym is) ∙ before
+    ∙ ap (λ (l : List (Speaker × BestMatch)). told ++ map (answer_told moment) l) (sym is) ∙ before
 
-pub answers_all : (moment : ℕ) (all told : Tellings) (left : List (Speaker × Announcement)) → told ++ map (answer_told moment) left ≡ all → left ≡ [] → told ≡ all
+pub answers_all : (moment : ℕ) (all told : Tellings) (left : List (Speaker × BestMatch)) → told ++ map (answer_told moment) left ≡ all → left ≡ [] → told ≡ all
 answers_all moment all told left before none =
-    sym (append-nil told) ∙ ap (λ (l : List (Speaker × Announcement)). told ++ map (answer_told moment) l) (sym none) ∙ before
+    sym (append-nil told) ∙ ap (λ (l : List (Speaker × BestMatch)). told ++ map (answer_told moment) l) (sym none) ∙ before
 
 -- ---- with a record
 
@@ -308,5 +308,5 @@ tells_next (Ok done) asked came time old begun mid new heard printed all whole s
     (tells since come earlier (subst (Awaits since come earlier) (sym is) (record {
       moment = moment ∙ awaits.moment;
       has_come = same.0 ∙ awaits.has_come;
-      answers = λ early speaker. ap (λ (m : BTreeMap Speaker Announcement). lookup (is_at (speaker_cmp speaker)) m.entries) same.1 ∙ awaits.answers early speaker;
+      answers = λ early speaker. ap (λ (m : BTreeMap Speaker BestMatch). lookup (is_at (speaker_cmp speaker)) m.entries) same.1 ∙ awaits.answers early speaker;
     }))))

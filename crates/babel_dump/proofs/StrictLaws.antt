@@ -1,5 +1,7 @@
 -- What strict reading refuses is refused with one fault.
-use Rattle.std.proofs.Common.{◌≡◌, refl, sym, ◌∙◌, Bool, true, ℕ, zero, suc, Option, None, Some, inl}
+use Rattle.std.proofs.Common.{◌≡◌, refl, sym, ap, subst, ◌∙◌, Bool, true, ℕ, zero, suc, ◌+◌, ◌<◌, ◌≤◌, List, [], ◌∷◌, length, get_or, drop, drop-cons, Option, None, Some, inl, arith}
+use Rattle.std.specs.List.{AllByRecursion}
+use Rattle.std.proofs.lemmas.List.{drop_all}
 use Rattle.babel_table.specs.Counts.{Counts}
 use Rattle.babel_table.specs.Rows.{Routes}
 use Rattle.babel_tlv.specs.declared.fault.Fault.{Fault}
@@ -58,3 +60,17 @@ pub whole_or_not : (left_out : Option LeftOutDatagram) (report : Counts) (fault 
 whole_or_not left_out report fault whole not =
     let same : None ≡ Some fault = sym (whole_is left_out report whole) ∙ not_whole_is left_out report fault not in
     absurd cc
+
+-- what holds of each item from one on holds of each from the item before it on, if it holds of that
+pub all_from : {A : Type 0} (P : A → Type 0) (xs : List A) (i : ℕ) (x : A) → i < length xs → x ≡ get_or xs i x → P x → AllByRecursion P (drop (i + 1) xs) → AllByRecursion P (drop i xs)
+all_from P xs i x within is holds later =
+    let next : suc i ≡ i + 1 = omega arith in
+    let rest : drop i xs ≡ x ∷ drop (i + 1) xs = drop-cons xs i x within ∙ ap (λ y. y ∷ drop (suc i) xs) (sym is) ∙ ap (λ (k : ℕ). x ∷ drop k xs) next in
+    let all : AllByRecursion P (x ∷ drop (i + 1) xs) = (holds, later) in
+    subst (AllByRecursion P) (sym rest) all
+
+-- and past the end of every item
+pub all_past : {A : Type 0} (P : A → Type 0) (xs : List A) (i : ℕ) → length xs ≤ i → AllByRecursion P (drop i xs)
+all_past P xs i past =
+    let none : AllByRecursion P [] = tt in
+    subst (AllByRecursion P) (sym (drop_all i xs past)) none

@@ -1,5 +1,5 @@
 -- How far a capture is followed with more of it, and what it gives at its end.
-use Rattle.std.proofs.Common.{◌≡◌, ℕ, List, [], ◌++◌, map, refl, sym, ap, subst, ◌∙◌, append_assoc, append-nil, Option, None, Some}
+use Rattle.std.proofs.Common.{◌≡◌, ℕ, ◌≤◌, List, [], ◌++◌, map, refl, sym, ap, subst, ◌∙◌, append_assoc, append-nil, Option, None, Some}
 use Rattle.std.specs.Prelude.{Bool, true, false, not, ◌&&◌, IfSome, if◌then◌else◌, Result, Ok, Err, OnOk}
 use Rattle.std.specs.declared.cmp.Ordering.{Ordering}
 use Rattle.babel_capture.specs.declared.fault.Fault.{Fault}
@@ -17,7 +17,7 @@ use Rattle.babel_timeline.specs.declared.telling.Telling.{Telling}
 use Rattle.babel_timeline.specs.Rows.{AllLast, Rows}
 use Rattle.babel_dump.specs.CaptureRun.{IsOutcomeOf}
 use Rattle.babel_dump.specs.CaptureText.{senders_status}
-use Rattle.babel_dump.specs.EventsRun.{HaveTold, Opens, OpensBy, Step, WroteLines, followed_by, followed_extent, have_come, made_in, moment_read, since_in, told_from, told_in, unlost, written_in}
+use Rattle.babel_dump.specs.EventsRun.{AreReadWhole, HaveTold, Opens, OpensBy, Step, TellsSilent, WroteLines, followed_by, followed_extent, have_come, last_time, made_in, moment_read, since_in, told_from, told_in, unlost, written_in}
 use Rattle.babel_dump.specs.Followed.{Ends, EndsAt, EndsBy, Follows, HasHeard, IsFollowed, Suits, TellsFrom, unlost_by}
 use Rattle.babel_dump.specs.HeardSenders.{heard_told, sender_heard}
 use Rattle.babel_dump.specs.Run.{Output}
@@ -31,6 +31,7 @@ use Rattle.babel_dump.specs.declared.hearing.Hearing.{Hearing}
 use Rattle.babel_dump.proofs.EventsRuns.{told_so, told_until}
 use Rattle.babel_dump.proofs.HeardLaws.{heard_senders}
 use Rattle.babel_dump.proofs.HeardRecords.{unlost_is}
+use Rattle.babel_dump.proofs.SilentRuns.{silent_until}
 use Rattle.babel_dump.proofs.FollowLaws.{same_made}
 
 abbrev Tellings : Type 0
@@ -108,6 +109,7 @@ record HasEnded (events : Events) (made : List Made) (moment : Option ℕ) (step
   rows : Rows Speaker
   have_told : HaveTold events moment made (told_in steps ++ ended) rows
   all_last : IfSome moment (λ m. AllLast speaker_cmp events.expiry m rows)
+  silent : IfSome moment (λ m. last_time made ≤ m → TellsSilent events m made (told_in steps ++ ended))
   opening : Tellings
   opens : OpensBy (since_in events.since (made_in steps)) moment (made_in steps) (told_in steps ++ ended) opening
   written_is : written ≡ written_in events [] steps ++ unlost (made_in steps) (opening ++ told_from (since_in events.since (made_in steps)) ended)
@@ -128,6 +130,7 @@ ended_by_then events made told None old new same was = record {
   rows = old.follower.hearing.teller.timeline.rows;
   have_told = subst (λ (t : Tellings). HaveTold events None (made_in was.steps) t old.follower.hearing.teller.timeline.rows) (sym (append-nil (told_in was.steps))) was.have_told;
   all_last = tt;
+  silent = tt;
   opening = [];
   opens = never_opens (since_in events.since (made_in was.steps)) (made_in was.steps) (told_in was.steps ++ []);
   written_is = ap (λ (f : Follower). told ++ f.told.items) same ∙ was.written_is ∙ sym (append-nil (written_in events [] was.steps));
@@ -137,6 +140,7 @@ ended_by_then events made told (Some moment) old new ends was = record {
   rows = new.follower.hearing.teller.timeline.rows;
   have_told = told_until events (made_in was.steps) moment old.follower.hearing.teller.timeline.rows new.follower.hearing.teller.timeline.rows (told_in was.steps) ends.ended ends.tells was.have_told;
   all_last = ends.last;
+  silent = silent_until events (made_in was.steps) moment (told_in was.steps) ends.ended old.follower.hearing.teller new.follower.hearing.teller ends.silences was.knows;
   opening = from.opening;
   opens = from.opens;
   written_is = ap (λ (t : Tellings). told ++ t) ends.written ∙ sym (append_assoc told old.follower.told.items (unlost_by old.follower.hearing.lost ends.printed))
@@ -162,8 +166,9 @@ pub ending : (events : Events) (fed : List ℕ) (told : Tellings) (writer : Outp
     → (events.accept_cut ≡ false → cut ≡ None) → EndsAt events (moment_of old.capture) old new → WroteLines events new.follower.told.items writer
     → status ≡ senders_status old.capture.progress.gathering.senders → IsOutcomeOf answer.outcome status old.capture.progress.gathering.report cut
     → map heard_told answer.senders.items ≡ map (sender_heard old) old.capture.progress.gathering.senders
+    → (events.strict ≡ true → AreReadWhole old.capture.progress.gathering.report answer.senders.items)
     → Ends events fed told writer answer
-ending events fed told writer old new status cut answer is read accepted ends wrote status_is outcome_is senders =
+ending events fed told writer old new status cut answer is read accepted ends wrote status_is outcome_is senders whole =
     by (same_made extent fed old.capture.progress old.capture.pending _ cut refl is.read given)
   where
     extent : Extent
@@ -210,6 +215,8 @@ ending events fed told writer old new status cut answer is read accepted ends wr
             rows = done.rows;
             have_told = known untimed moment (told_in was.steps ++ done.ended) done.rows done.have_told;
             all_last = λ timed. subst (λ (m : Option ℕ). IfSome m (λ t. AllLast speaker_cmp events.expiry t done.rows)) (when_timed untimed moment timed) done.all_last;
+            silent = was.silent;
+            silent_last = λ timed. subst (λ (m : Option ℕ). IfSome m (λ t. last_time (made_in was.steps) ≤ t → TellsSilent events t (made_in was.steps) (told_in was.steps ++ done.ended))) (when_timed untimed moment timed) done.silent;
             opening = done.opening;
             opens_last = done.opens;
             opens = was.opens;
@@ -217,6 +224,7 @@ ending events fed told writer old new status cut answer is read accepted ends wr
             senders = heard.0;
             heard = heard.1;
             outcome_is = subst (λ (s : ℕ). IsOutcomeOf answer.outcome s gathering.report cut) status_is outcome_is;
+            whole = whole;
           };
           wrote = wrote;
         }

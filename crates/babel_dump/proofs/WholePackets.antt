@@ -166,7 +166,7 @@ found_whole time passed whole = tt
 found_whole time untold whole = tt
 found_whole time (left reason missed) whole = tt
 found_whole time (refused lack) whole = tt
-found_whole time (found place sender packet has_trailer) whole = (whole, tt)
+found_whole time (found place ends packet has_trailer) whole = (whole, tt)
 
 pub whole_both : (front back : List (ℕ × List ℕ)) → AreWhole front → AreWhole back → AreWhole (front ++ back)
 whole_both [] back one two = two

@@ -1,16 +1,16 @@
 -- What each command finds of the tables of dumps: its own text and outcome; and what is said of the
 -- dumps that readers gave, and the causes of its faults. These are this project's own.
-use Rattle.std.specs.Prelude.{ℕ, Bool, ◌≡◌, ◌≢◌, ◌<◌, ◌≤◌, ◌⊎◌, List, length, Result}
+use Rattle.std.specs.Prelude.{ℕ, Bool, false, ◌≡◌, ◌≢◌, ◌<◌, ◌≤◌, ◌⊎◌, List, length, Result}
 use Rattle.std.specs.Prelude.{Option}
 use Rattle.babel_prefix.specs.Address.{Address}
 use Rattle.babel_tlv.specs.declared.fault.Fault.{Fault}
 use Rattle.babel_tlv.specs.declared.fault.Fault.TheVariants as faults
-use Rattle.babel_tlv.specs.declared.held.Held.{Held}
 use Rattle.babel_tlv.specs.declared.view.View.{View}
 use Rattle.babel_tlv.specs.Pair.{Pair}
 use Rattle.babel_tlv.specs.Views.{keeps_all}
 use Rattle.babel_table.specs.Bounds.{Bounds}
 use Rattle.babel_table.specs.Counts.{Counts}
+use Rattle.babel_table.specs.RowFor.{held_of}
 use Rattle.babel_table.specs.Rows.{Routes}
 use Rattle.babel_table.specs.Seen.{seen_rows, seen_table}
 use Rattle.babel_canon.specs.Canonical.{Canonical, IsCanonical}
@@ -25,8 +25,8 @@ use Rattle.babel_dump.specs.InFormat.{differences_or_count_in, lookup_in}
 use Rattle.babel_dump.specs.InFormat.{pairs_or_counts_in, show_in, verdict_in}
 use Rattle.babel_dump.specs.Octets.{AreNormal, HasTooMany}
 use Rattle.babel_dump.specs.Run.{Called, InputCause, OfStatus, Output, Ran, RanAlone, calls_of}
-use Rattle.babel_dump.specs.RunText.{answer_in, differences_status, form_text}
-use Rattle.babel_dump.specs.RunText.{lookup_status, verdict_status}
+use Rattle.babel_dump.specs.RunText.{differences_status, form_text}
+use Rattle.babel_dump.specs.RunText.{lookup_status, row_in, verdict_status}
 use Rattle.babel_dump.specs.declared.format.Format.{Format}
 use Rattle.babel_dump.specs.declared.input_fault.InputFault.TheVariants as input_faults
 use Rattle.babel_dump.specs.declared.job.Form.{Form}
@@ -54,11 +54,12 @@ pub record Tells (report : Counts) (told : List ℕ) (status : ℕ) (text : List
   pub text_is : text ≡ told
   pub outcome_is : IsOutcome outcome status report
 
--- `lookup`: what is answered for a destination and a source
+-- `lookup`: what is answered for a destination and a source by this row
 abbrev pub LooksUp :
-    Format → (dst src : Address) → Counts → Option Held → List ℕ → Outcome → Type 0
-LooksUp format dst src report answer =
-    Tells report (lookup_in format dst src answer) (lookup_status answer)
+    Format → (with_prefix : Bool) → (dst src : Address) → Counts → Option Pair → List ℕ → Outcome
+    → Type 0
+LooksUp format with_prefix dst src report row =
+    Tells report (lookup_in format with_prefix dst src row) (lookup_status (held_of row))
 
 -- octets of which this holds, in a text
 pub record WritesOctets (Are : List ℕ → Type 0) (in_text : List ℕ → List ℕ) (report : Counts)
@@ -198,7 +199,7 @@ RanShow reader format writer =
 abbrev pub RanLookup : Input → Address → Address → Format → Output → Result ℕ RunFault → Type 0
 RanLookup reader dst src format writer =
     RanAlone reader (InputCause reader (IsFaultOfGiven reader)) writer
-    (SaysOf reader (λ table. LooksUp format dst src table.report (answer_in table dst src)))
+    (SaysOf reader (λ table. LooksUp format false dst src table.report (row_in table dst src)))
 
 abbrev pub RanNormalise : Input → ℕ → Bool → Output → Result ℕ RunFault → Type 0
 RanNormalise reader body hex writer =

@@ -1,6 +1,6 @@
 -- What `lookup --each` promises: the pairs are read first, and then each is looked up in the dump.
 -- No RFC speaks of it: this is the project's own.
-use Rattle.std.specs.Prelude.{ℕ, ◌≡◌, ◌<◌, ◌≤◌, ◌⊎◌, List, length}
+use Rattle.std.specs.Prelude.{ℕ, Bool, ◌≡◌, ◌<◌, ◌≤◌, ◌⊎◌, List, length}
 use Rattle.babel_table.specs.Rows.{Routes}
 use Rattle.babel_dump.specs.AskedPairs.{AskFor, IsFirstWrong, lines_of}
 use Rattle.babel_dump.specs.Command.{IsOfMemory, SaysOf, Tells}
@@ -53,16 +53,17 @@ RefusesPairs reader (run_faults.Pairs (pairs_faults.NotAPair line)) = GaveWrong 
 RefusesPairs reader fault = RefusesText reader fault
 
 -- what a table answers for each of these pairs
-abbrev pub LooksUpEach : Format → List AddrPair → Routes → List ℕ → Outcome → Type 0
-LooksUpEach format pairs table =
-    Tells table.report (each_in format table pairs) (each_status table pairs)
+abbrev pub LooksUpEach :
+    Format → (with_prefix : Bool) → List AddrPair → Routes → List ℕ → Outcome → Type 0
+LooksUpEach format with_prefix pairs table =
+    Tells table.report (each_in format with_prefix table pairs) (each_status table pairs)
 
 -- what a dump answers for each of the pairs that the reader of pairs gave
-pub record LooksUpAsked (reader pairs : Input) (format : Format) (text : List ℕ)
-    (outcome : Outcome) : Type 0 where
+pub record LooksUpAsked (reader pairs : Input) (format : Format) (with_prefix : Bool)
+    (text : List ℕ) (outcome : Outcome) : Type 0 where
   pub asked : List AddrPair
   pub gave : GavePairsOf pairs asked
-  pub answers : SaysOf reader (LooksUpEach format asked) text outcome
+  pub answers : SaysOf reader (LooksUpEach format with_prefix asked) text outcome
 
 -- A fault of a lookup of each of the pairs: that of the pairs, and then the dump's reader is as it
 -- was; or, where these have none, that of the dump.

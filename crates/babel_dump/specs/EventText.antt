@@ -18,14 +18,16 @@ use Rattle.babel_tlv.specs.declared.held.Held.TheVariants as helds
 use Rattle.babel_tlv.specs.declared.view.View.{View}
 use Rattle.babel_tlv.specs.Route.{Announcement}
 use Rattle.babel_timeline.specs.Changes.{held_after, held_before}
+use Rattle.babel_timeline.specs.declared.best_match.BestMatch.{BestMatch}
 use Rattle.babel_timeline.specs.declared.change.ChangeKind.{ChangeKind}
 use Rattle.babel_timeline.specs.declared.change.ChangeKind.TheVariants as kinds
 use Rattle.babel_timeline.specs.declared.telling.Telling.{Telling}
 use Rattle.babel_timeline.specs.declared.telling.Telling.TheVariants as tellings
 use Rattle.babel_dump.specs.CaptureText.{link_text, name_json, name_text, place_json, vlans_text}
 use Rattle.babel_dump.specs.JsonText.{addressed_json, answer_json}
-use Rattle.babel_dump.specs.RequestText.{key_text, request_json, request_text}
-use Rattle.babel_dump.specs.RunText.{announcement_text, answer_text, newline}
+use Rattle.babel_dump.specs.RequestText.{key_json, key_text, request_json, request_text, to_json}
+use Rattle.babel_dump.specs.RequestText.{to_text}
+use Rattle.babel_dump.specs.RunText.{announcement_text, newline}
 use Rattle.babel_dump.specs.Spelling.{address_text, prefix_text}
 use Rattle.babel_dump.specs.TimeText.{time_json, time_or}
 use Rattle.babel_dump.specs.declared.addr_pair.AddrPair.{AddrPair}
@@ -40,24 +42,36 @@ use Rattle.babel_dump.specs.declared.spelling.Spelling.{Spelling}
 abbrev pub time_of : Telling Speaker → ℕ
 time_of (tellings.Change change) = change.time
 time_of (tellings.Answer time sender answer before) = time
-time_of (tellings.Request time sender request) = time
+time_of (tellings.Request time sender to request) = time
+time_of (tellings.Silent time sender since routes) = time
+time_of (tellings.Returns time sender) = time
 
 abbrev pub speaker_of : Telling Speaker → Speaker
 speaker_of (tellings.Change change) = change.subject.sender
 speaker_of (tellings.Answer time sender answer before) = sender
-speaker_of (tellings.Request time sender request) = sender
+speaker_of (tellings.Request time sender to request) = sender
+speaker_of (tellings.Silent time sender since routes) = sender
+speaker_of (tellings.Returns time sender) = sender
+
+-- what is announced for a best match
+abbrev pub ann_of : Option BestMatch → Option Announcement
+ann_of best = option_map (λ its. its.ann) best
 
 -- what is held after it, or answered from then on
 abbrev pub held_from : Telling Speaker → Option Held
 held_from (tellings.Change change) = option_map helds.Route (held_after change.kind)
-held_from (tellings.Answer time sender answer before) = option_map helds.Route answer
-held_from (tellings.Request time sender request) = None
+held_from (tellings.Answer time sender answer before) = option_map helds.Route (ann_of answer)
+held_from (tellings.Request time sender to request) = None
+held_from (tellings.Silent time sender since routes) = None
+held_from (tellings.Returns time sender) = None
 
 -- what was held before it, or answered until then
 abbrev pub held_until : Telling Speaker → Option Held
 held_until (tellings.Change change) = option_map helds.Route (held_before change.kind)
-held_until (tellings.Answer time sender answer before) = option_map helds.Route before
-held_until (tellings.Request time sender request) = None
+held_until (tellings.Answer time sender answer before) = option_map helds.Route (ann_of before)
+held_until (tellings.Request time sender to request) = None
+held_until (tellings.Silent time sender since routes) = None
+held_until (tellings.Returns time sender) = None
 
 abbrev pub kind_verb : ChangeKind → List ℕ
 kind_verb (kinds.Announced ann) = codes "announces"
@@ -68,7 +82,9 @@ kind_verb (kinds.Expired before) = codes "expires"
 abbrev pub verb : Telling Speaker → List ℕ
 verb (tellings.Change change) = kind_verb change.kind
 verb (tellings.Answer time sender answer before) = codes "answers"
-verb (tellings.Request time sender request) = codes "requests"
+verb (tellings.Request time sender to request) = codes "requests"
+verb (tellings.Silent time sender since routes) = codes "silent"
+verb (tellings.Returns time sender) = codes "returns"
 
 -- ---- text
 
@@ -118,15 +134,30 @@ abbrev pub was_text : Spelling → ChangeKind → List ℕ
 was_text spelling (kinds.Changed before now) = codes " was" ++ differing_text spelling before now
 was_text spelling kind = []
 
--- of a change ` DST from SRC`, what is held after it, and what was before; of an answer that, or
--- ` none`; and what is requested
+-- ` DST from SRC via NEXTHOP id ROUTERID seqno N metric N`, of the route that answers, or ` none`
+abbrev pub best_text : Spelling → View → Option BestMatch → List ℕ
+best_text spelling view None = codes " none"
+best_text spelling view (Some best) =
+    key_text spelling best.key ++ after_text spelling view (Some best.ann)
+
+-- ` since TIME, holding N routes`
+abbrev pub silence_text : (since routes : ℕ) → List ℕ
+silence_text since routes = codes " since " ++ time_or (within_years since) ++ codes ", holding "
+    ++ decimal routes ++ (if routes == 1 then codes " route" else codes " routes")
+
+-- of a change ` DST from SRC`, what is held after it, and what was before; of an answer the route
+-- that answers; of whom something is requested, and what; of who falls silent since when, and what it
+-- holds; of who returns nothing
 abbrev pub told_text : Spelling → View → Telling Speaker → List ℕ
 told_text spelling view (tellings.Change change) =
     key_text spelling change.subject.key ++ after_text spelling view (held_after change.kind)
     ++ was_text spelling change.kind
 told_text spelling view (tellings.Answer time sender answer before) =
-    codes " " ++ answer_text spelling view (option_map helds.Route answer)
-told_text spelling view (tellings.Request time sender request) = request_text spelling request
+    best_text spelling view answer
+told_text spelling view (tellings.Request time sender to request) =
+    to_text spelling to ++ request_text spelling request
+told_text spelling view (tellings.Silent time sender since routes) = silence_text since routes
+told_text spelling view (tellings.Returns time sender) = []
 
 -- ` link N vlan N.N VERB `, and what is told
 abbrev pub event_end : Spelling → View → Telling Speaker → List ℕ
@@ -135,7 +166,7 @@ event_end spelling view told =
     ++ codes " " ++ verb told ++ told_text spelling view told ++ newline
 
 -- `TIME ADDRESS interface N (NAME) link N vlan N.N VERB DST from SRC via NEXTHOP ..`, or
--- `TIME ADDRESS interface N (NAME) link N vlan N.N answers via NEXTHOP ..`
+-- `TIME ADDRESS interface N (NAME) link N vlan N.N answers none`
 abbrev pub event_line : Spelling → View → (name : List ℕ) → Telling Speaker → List ℕ
 event_line spelling view name told =
     event_front spelling name told ++ name_text name ++ event_end spelling view told
@@ -155,27 +186,43 @@ asked_json spelling None = codes "\"destination\":null,\"source\":null"
 asked_json spelling (Some pair) =
     addressed_json (address_text spelling pair.dst) (address_text spelling pair.src)
 
+-- `,"route":{"destination":"DST","source":"SRC"}`, of the route that answers, or `,"route":null`
+abbrev pub route_json : Spelling → Option BestMatch → List ℕ
+route_json spelling None = codes ",\"route\":null"
+route_json spelling (Some best) =
+    codes ",\"route\":{" ++ key_json spelling best.key ++ codes "}"
+
 -- `,"answer":ANSWER,"before":ANSWER`
 abbrev pub answers_json : Spelling → View → Telling Speaker → List ℕ
 answers_json spelling view told =
     codes ",\"answer\":" ++ answer_json spelling view (held_from told)
     ++ codes ",\"before\":" ++ answer_json spelling view (held_until told)
 
--- of a change and an answer, of what it is and these two; of a request, what is requested
+-- `,"since":"TIME","routes":N`
+abbrev pub silence_json : (since routes : ℕ) → List ℕ
+silence_json since routes =
+    codes ",\"since\":" ++ time_json (within_years since) ++ codes ",\"routes\":" ++ decimal routes
+
+-- of a change and an answer, of what it is and these two, before which an answer has its route; of a
+-- request, of whom, and what; of who falls silent these two; of who returns nothing
 abbrev pub told_json : Spelling → View → Option AddrPair → Telling Speaker → List ℕ
 told_json spelling view pair (tellings.Change change) =
-    addressed_json (prefix_text spelling change.subject.key.dst)
+    codes "," ++ addressed_json (prefix_text spelling change.subject.key.dst)
     (prefix_text spelling change.subject.key.src)
     ++ answers_json spelling view (tellings.Change change)
 told_json spelling view pair (tellings.Answer time sender answer before) =
-    asked_json spelling pair
+    codes "," ++ asked_json spelling pair ++ route_json spelling answer
     ++ answers_json spelling view (tellings.Answer time sender answer before)
-told_json spelling view pair (tellings.Request time sender request) = request_json spelling request
+told_json spelling view pair (tellings.Request time sender to request) =
+    codes "," ++ to_json spelling to ++ request_json spelling request
+told_json spelling view pair (tellings.Silent time sender since routes) = silence_json since routes
+told_json spelling view pair (tellings.Returns time sender) = []
 
--- `,"event":"VERB","destination":"DST","source":"SRC","answer":ANSWER,"before":ANSWER}`
+-- `,"event":"VERB"`, what is told, and `}`: of a change, say, `"destination":"DST","source":"SRC",
+-- "answer":ANSWER,"before":ANSWER`
 abbrev pub event_end_json : Spelling → View → Option AddrPair → Telling Speaker → List ℕ
 event_end_json spelling view pair told =
-    codes ",\"event\":\"" ++ verb told ++ codes "\"," ++ told_json spelling view pair told
+    codes ",\"event\":\"" ++ verb told ++ codes "\"" ++ told_json spelling view pair told
     ++ codes "}" ++ newline
 
 -- `{"time":"TIME","sender":"ADDRESS","interface":N,"link":N,"vlans":[N,N],"name":"NAME"`, and then

@@ -3,13 +3,13 @@
 use Rattle.std.specs.Prelude.{ℕ, ◌≡◌, ◌+◌, ◌≤◌, ◌^◌, Bool, true, false, not, ◌&&◌, ◌||◌, List, []}
 use Rattle.std.specs.Prelude.{◌∷◌, ◌++◌}
 use Rattle.std.specs.Prelude.{Option, None, Some, IfSome, is_none, length, map, nat_le}
-use Rattle.std.specs.Prelude.{if◌then◌else◌}
+use Rattle.std.specs.Prelude.{fold, if◌then◌else◌}
 use Rattle.std.specs.BTreeMap.{is_at}
 use Rattle.std.specs.Io.KnownBytes.{Appends}
 use Rattle.std.specs.List.{AllByRecursion, filter, flat_map, list_any}
 use Rattle.std.specs.List.Sorted.{IsStrictlySortedBy}
 use Rattle.std.specs.Map.{keys_of, lookup}
-use Rattle.std.specs.Option.{is_some, option_map, option_or}
+use Rattle.std.specs.Option.{is_some, option_map, option_or, unwrap_or}
 use Rattle.babel_prefix.specs.Address.{Address}
 use Rattle.babel_capture.specs.declared.missed.Missed.{Missed}
 use Rattle.babel_capture.specs.declared.place.Place.{Place}
@@ -17,7 +17,7 @@ use Rattle.babel_capture.specs.declared.tallies.Origin.{Origin}
 use Rattle.babel_capture.specs.declared.wanted.Wanted.{Wanted}
 use Rattle.babel_capture.specs.Blocks.{BlockAt, context_behind, start}
 use Rattle.babel_capture.specs.Capture.{IsReadToCut}
-use Rattle.babel_capture.specs.Counts.{Made}
+use Rattle.babel_capture.specs.Counts.{Counts, Made}
 use Rattle.babel_capture.specs.Findings.{Found, found, missed_in, octets_found, origin_found}
 use Rattle.babel_capture.specs.Gathering.{Gathering, name_of}
 use Rattle.babel_capture.specs.Times.{time_of}
@@ -31,24 +31,28 @@ use Rattle.babel_tlv.specs.declared.request.Request.TheVariants as requests
 use Rattle.babel_tlv.specs.Says.{sayings}
 use Rattle.babel_table.specs.Counts.{counts_of}
 use Rattle.babel_table.specs.Counts.{Counts as Report}
-use Rattle.babel_table.specs.Moments.{told_from as said_from}
+use Rattle.babel_table.specs.Moments.{Stamp, told_from as said_from}
+use Rattle.babel_timeline.specs.declared.best_match.BestMatch.{BestMatch}
 use Rattle.babel_timeline.specs.declared.change.Change.{Change}
 use Rattle.babel_timeline.specs.declared.telling.Telling.{Telling}
 use Rattle.babel_timeline.specs.declared.telling.Telling.TheVariants as tellings
 use Rattle.babel_timeline.specs.Accounts.{IsAccount, Said}
-use Rattle.babel_timeline.specs.RequestsTold.{requests_told}
+use Rattle.babel_timeline.specs.RequestsTold.{requests_told, unicast}
 use Rattle.babel_timeline.specs.Rows.{AllLast, Rows}
-use Rattle.babel_timeline.specs.Telling.{AreAnswers, AskedFor, answered, said_of}
+use Rattle.babel_timeline.specs.SilencesTold.{TellsWhoIsSilent, hellos_heard, watches}
+use Rattle.babel_timeline.specs.Telling.{AreAnswers, AskedFor, answered, of_rows, said_of}
 use Rattle.babel_dump.specs.CaptureRun.{IsOutcomeOf}
 use Rattle.babel_dump.specs.CaptureText.{senders_status}
 use Rattle.babel_dump.specs.Device.{GaveOctets, InputState}
 use Rattle.babel_dump.specs.EventText.{event_in, speaker_of}
 use Rattle.babel_dump.specs.Filter.{if_asked, keeps_key}
+use Rattle.babel_dump.specs.LeftOut.{first_left_out}
 use Rattle.babel_dump.specs.declared.filter.Filter.{Filter}
 use Rattle.std.specs.Str.{bytes_eq}
 use Rattle.babel_timeline.specs.Changes.{held_after, held_before}
 use Rattle.babel_dump.specs.EventText.{time_of as time_told}
 use Rattle.babel_dump.specs.Run.{Output}
+use Rattle.babel_dump.specs.Strict.{IsReadWhole}
 use Rattle.babel_dump.specs.declared.addr_pair.AddrPair.{AddrPair}
 use Rattle.babel_dump.specs.declared.events_job.Events.{Events}
 use Rattle.babel_dump.specs.declared.events_outcome.EventsOutcome.{EventsOutcome}
@@ -84,8 +88,8 @@ pub record IsSaid (events : Events) (time : ℕ) (place : Place) (sender : Addre
 
 -- what a record of a capture says: what its packet does, where it has one, and a time
 abbrev pub Says : Events → Option ℕ → Found → List (Said Speaker) → Type 0
-Says events (Some time) (found place sender packet has_trailer) said =
-    IsSaid events time place sender packet said
+Says events (Some time) (found place ends packet has_trailer) said =
+    IsSaid events time place ends.sender packet said
 Says events time what said = said ≡ []
 
 -- what the records of a capture say, in order
@@ -101,19 +105,38 @@ AreSaid events (one ∷ made) said =
 abbrev pub speaker_at : Origin → Speaker
 speaker_at origin = record { sender = origin.sender; place = origin.place }
 
--- what a packet of a sender at a place, which came at this time, requests, if that is asked for
-abbrev pub requests_asked : Events → ℕ → Origin → (packet : List ℕ) → List (Telling Speaker)
-requests_asked events time origin packet = if events.requests
-    then requests_told events.limits.via_v6 (speaker_at origin) time packet else []
+-- what a packet of a sender at a place, which came at this time and was sent to this address,
+-- requests, if that is asked for
+abbrev pub requests_asked : Events → ℕ → Origin → (destination : Address) → (packet : List ℕ)
+    → List (Telling Speaker)
+requests_asked events time origin destination packet = if events.requests
+    then requests_told events.limits.via_v6 (speaker_at origin) (unicast destination) time packet
+    else []
 
 -- what a record's packet requests, where it has one, and a time
 abbrev pub requests_found : Events → Option ℕ → Found → List (Telling Speaker)
-requests_found events (Some time) (found place sender packet has_trailer) =
-    requests_asked events time (record { place = place; sender = sender }) packet
+requests_found events (Some time) (found place ends packet has_trailer) =
+    requests_asked events time (record { place = place; sender = ends.sender }) ends.destination
+    packet
 requests_found events time what = []
 
 abbrev pub requests_made : Events → Made → List (Telling Speaker)
 requests_made events one = requests_found events (time_of one.came) one.what
+
+-- ---- whose Hellos are waited for
+
+-- the Hellos of a record's packet, where it has one, and a time
+abbrev pub hellos_found : Option ℕ → Found → List (Speaker × Stamp)
+hellos_found (Some time) (found place ends packet has_trailer) =
+    hellos_heard (record { sender = ends.sender; place = place }) time packet
+hellos_found time what = []
+
+abbrev pub hellos_made : List Made → List (Speaker × Stamp)
+hellos_made made = flat_map (λ one. hellos_found (time_of one.came) one.what) made
+
+-- when the last of these records came that has a time; 0 where none has
+abbrev pub last_time : List Made → ℕ
+last_time made = fold (λ last one. unwrap_or (time_of one.came) last) 0 made
 
 -- ---- in order
 
@@ -129,10 +152,11 @@ AreInOrder made =
 
 -- ---- what is told
 
--- the tellings are these changes; or, where addresses are asked for, their answers
+-- but for who is silent or returns, the tellings are these changes; or, where addresses are asked
+-- for, their answers
 abbrev pub AreTold : AskedFor → List (Change Speaker) → Rows Speaker → List (Telling Speaker)
     → Type 0
-AreTold None changes rows told = told ≡ map tellings.Change changes
+AreTold None changes rows told = of_rows None told ≡ map tellings.Change changes
 AreTold (Some pair) changes rows told = AreAnswers speaker_cmp pair told rows
 
 -- the changes account for what records said, up to a moment that is no later than they are, or than
@@ -154,6 +178,13 @@ pub record HaveTold (events : Events) (until : Option ℕ) (made : List Made)
   pub changes : List (Change Speaker)
   pub account : AreInOrder made → IsAccountOf events until made said changes rows
   pub are_told : AreTold (asked_by events) changes rows told
+
+-- Where rows end and each change is told, and times do not run backwards: the senders that were told
+-- to be silent, and not to return since, are exactly those that are silent at the moment.
+abbrev pub TellsSilent : Events → (moment : ℕ) → List Made → List (Telling Speaker) → Type 0
+TellsSilent events moment made told =
+    AreInOrder made → watches events.expiry (asked_by events) ≡ true
+    → TellsWhoIsSilent speaker_cmp (hellos_made made) moment told
 
 -- a record, what it told, and what was answered just before the moment, where that came with it
 pub record Step : Type 0 where
@@ -208,12 +239,12 @@ abbrev pub have_come : Option ℕ → List Made → Bool
 have_come since made = list_any (λ one. has_come since (time_of one.came)) made
 
 -- what a sender answers, told at a time, after nothing
-abbrev pub answer_told : ℕ → Speaker × Announcement → Telling Speaker
+abbrev pub answer_told : ℕ → Speaker × BestMatch → Telling Speaker
 answer_told time answer = tellings.Answer time answer.0 (Some answer.1) None
 
 -- each sender's last answer before the moment, if that is a route, told at it: by sender
 pub record AreJustBefore (since : ℕ) (told opening : List (Telling Speaker)) : Type 0 where
-  pub answers : List (Speaker × Announcement)
+  pub answers : List (Speaker × BestMatch)
   pub rising : IsStrictlySortedBy speaker_cmp (keys_of answers)
   pub last : (speaker : Speaker) → lookup (is_at (speaker_cmp speaker)) answers
       ≡ answered speaker_cmp (told_early (Some since) told) speaker
@@ -274,6 +305,11 @@ IsHeardSender events made gathering heard =
     (heard.name.items ≡ name_of gathering heard.origin.place.interface)
     × IsReportOf events made (speaker_at heard.origin) heard.report
 
+-- of none of these senders a TLV was ignored, each has an Update, and no datagram was left out
+abbrev pub AreReadWhole : Counts → List HeardSender → Type 0
+AreReadWhole counts senders =
+    AllByRecursion (λ heard. IsReadWhole (first_left_out counts) heard.report) senders
+
 -- ---- what is written
 
 -- in one of these records a datagram of this sender lacks something, and was left out
@@ -309,13 +345,15 @@ keeps_request filter (requests.Seqno key router_id seqno) =
     keeps_key filter key && if_asked filter.router_id (bytes_eq router_id)
 
 -- whether the filter keeps what is told: a change for a key that it keeps, from or to the router-id
--- that it asks for; a request that it keeps; each answer
+-- that it asks for; a request that it keeps; each answer, and each sender that is silent or returns
 abbrev pub keeps_told : Filter → Telling Speaker → Bool
 keeps_told filter (tellings.Change told) =
     keeps_key filter told.subject.key && if_asked filter.router_id
     (λ id. is_with id (held_before told.kind) || is_with id (held_after told.kind))
 keeps_told filter (tellings.Answer time sender answer before) = true
-keeps_told filter (tellings.Request time sender request) = keeps_request filter request
+keeps_told filter (tellings.Request time sender to request) = keeps_request filter request
+keeps_told filter (tellings.Silent time sender since routes) = true
+keeps_told filter (tellings.Returns time sender) = true
 
 -- the text is the lines of what is told and the filter keeps, each with a name for its interface
 pub record AreLines (events : Events) (told : List (Telling Speaker)) (text : List ℕ) : Type 0 where
@@ -338,10 +376,10 @@ moment_read events blocks gathering =
     gathering.report.timing.latest
 
 -- The octets are a capture, whose records told what they say, one after another; and then all that
--- ends by the moment that it was read to is told. Of it, and of what each record requests, if that is
--- asked for, this is written: what is told of the moment or later that is asked for, behind the
--- answers just before it; of a sender nothing more once a datagram of it was left out that lacks
--- something. The answer is of what was read.
+-- ends by the moment that it was read to is told. At each time exactly those senders are told to be
+-- silent that are. Of it, and of what each record requests, if that is asked for, this is written: what
+-- is told of the moment or later that is asked for, behind the answers just before it; of a sender
+-- nothing more once a datagram of it was left out that lacks something. The answer is of what was read.
 pub record TellsCapture (events : Events) (octets : List ℕ) (written : List (Telling Speaker))
     (answer : EventsOutcome) : Type 0 where
   pub gathering : Gathering
@@ -354,6 +392,8 @@ pub record TellsCapture (events : Events) (octets : List ℕ) (written : List (T
   pub each : (front back : List Step) → steps ≡ front ++ back → HaveToldSo events front
   pub opens : (front back : List Step) (step : Step) → steps ≡ front ++ step ∷ back
       → OpensRightly events front step
+  pub silent : (front back : List Step) → steps ≡ front ++ back
+      → TellsSilent events (last_time (made_in front)) (made_in front) (told_in front)
   pub ended : List (Telling Speaker)
   pub rows : Rows Speaker
   pub have_told : HaveTold events (moment_read events is_read.is_read.blocks gathering)
@@ -361,6 +401,10 @@ pub record TellsCapture (events : Events) (octets : List ℕ) (written : List (T
   pub all_last : gathering.report.timing.has_untimed ≡ false
       → IfSome (moment_read events is_read.is_read.blocks gathering)
       (λ moment. AllLast speaker_cmp events.expiry moment rows)
+  pub silent_last : gathering.report.timing.has_untimed ≡ false
+      → IfSome (moment_read events is_read.is_read.blocks gathering) (λ moment.
+      last_time (made_in steps) ≤ moment
+      → TellsSilent events moment (made_in steps) (told_in steps ++ ended))
   pub opening : List (Telling Speaker)
   pub opens_last : OpensBy (since_in events.since (made_in steps))
       (if gathering.report.timing.has_untimed then None
@@ -371,6 +415,7 @@ pub record TellsCapture (events : Events) (octets : List ℕ) (written : List (T
   pub senders : map (λ heard. heard.origin) answer.senders.items ≡ keys_of gathering.senders
   pub heard : AllByRecursion (IsHeardSender events (made_in steps) gathering) answer.senders.items
   pub outcome_is : IsOutcomeOf answer.outcome (senders_status gathering.senders) gathering.report cut
+  pub whole : events.strict ≡ true → AreReadWhole gathering.report answer.senders.items
 
 -- A run of `events` that ends well: the reader gave a capture, all that it had, and the writer took
 -- the lines of what it tells.

@@ -1,6 +1,6 @@
 -- How far a capture was followed, and what was heard of its senders.
-use Rattle.std.specs.Prelude.{ℕ, ◌≡◌, Bool, false, not, ◌&&◌, ◌||◌, List, [], ◌∷◌, ◌++◌}
-use Rattle.std.specs.Prelude.{Option, None, Some}
+use Rattle.std.specs.Prelude.{ℕ, ◌≡◌, Bool, false, true, not, ◌&&◌, ◌||◌, List, [], ◌∷◌, ◌++◌}
+use Rattle.std.specs.Prelude.{IfSome, Option, None, Some}
 use Rattle.std.specs.Prelude.{if◌then◌else◌, length}
 use Rattle.std.specs.BTreeMap.{is_at}
 use Rattle.std.specs.BTreeSet.{BTreeSet, contains}
@@ -10,17 +10,24 @@ use Rattle.std.specs.Option.{option_or}
 use Rattle.babel_capture.specs.Counts.{Made}
 use Rattle.babel_capture.specs.Gathering.{Gathering, name_of}
 use Rattle.babel_capture.specs.Reading.{HasTaken}
+use Rattle.babel_capture.specs.Sinking.{IsTold, left_said, packet_said}
+use Rattle.babel_capture.specs.declared.sink.BabelPacket.{BabelPacket}
+use Rattle.babel_capture.specs.declared.sink.Record.{Record}
 use Rattle.babel_capture.specs.declared.tallies.Origin.{Origin}
 use Rattle.babel_capture.specs.declared.window.Moment.{Moment}
+use Rattle.babel_tlv.specs.declared.start.Start.{Start}
+use Rattle.babel_tlv.specs.Framing.{TlvAt, packet_octets}
 use Rattle.babel_timeline.specs.Hearing.{CountsPacket, octets_heard, report_of}
 use Rattle.babel_timeline.specs.Rows.{AllLast}
-use Rattle.babel_timeline.specs.Telling.{Tells, TellsEnds, answered}
+use Rattle.babel_timeline.specs.SilencesTold.{IsWatchedWhole, TellsSilences, hellos_heard, watches}
+use Rattle.babel_timeline.specs.Telling.{Tells, TellsEnds, answered, of_rows}
 use Rattle.babel_timeline.specs.Accounts.{Said}
 use Rattle.babel_timeline.specs.declared.heard.Heard.{Heard}
 use Rattle.babel_timeline.specs.declared.teller.Teller.{Teller}
 use Rattle.babel_timeline.specs.declared.telling.Telling.{Telling}
 use Rattle.babel_dump.specs.Device.{GaveOctets, InputState}
 use Rattle.babel_dump.specs.EventText.{event_in, speaker_of}
+use Rattle.babel_dump.specs.EventsRun.{AreInOrder, TellsSilent, hellos_made, last_time}
 use Rattle.babel_dump.specs.EventsRun.{HaveTold, HaveToldSo, IsReportOf, IsSaid, Step}
 use Rattle.babel_dump.specs.EventsRun.{TellsCapture, WroteLines, asked_by, followed_by}
 use Rattle.babel_dump.specs.EventsRun.{followed_extent, is_lost, keeps_told, made_in, packets_heard}
@@ -30,12 +37,16 @@ use Rattle.babel_dump.specs.EventsRun.{told_in}
 use Rattle.babel_dump.specs.EventsRun.{written_in}
 use Rattle.babel_dump.specs.Run.{Output}
 use Rattle.babel_dump.specs.Speakers.{speaker_cmp}
+use Rattle.babel_dump.specs.StrictPackets.{IsReadTo, IsReadWholly}
 use Rattle.babel_dump.specs.declared.events.Followed.{Followed}
 use Rattle.babel_dump.specs.declared.events_job.Events.{Events}
 use Rattle.babel_dump.specs.declared.follower.Follower.{Follower}
 use Rattle.babel_dump.specs.declared.hearing.Hearing.{Hearing}
+use Rattle.babel_dump.specs.declared.input_fault.InputFault.TheVariants as input_faults
 use Rattle.babel_dump.specs.declared.since.Since.{Since}
 use Rattle.babel_dump.specs.declared.events_outcome.EventsOutcome.{EventsOutcome}
+use Rattle.babel_dump.specs.declared.stop.Stop.{Stop}
+use Rattle.babel_dump.specs.declared.stop.Stop.TheVariants as stops
 use Rattle.babel_dump.specs.declared.speaker.Speaker.{Speaker}
 
 -- it tells what these words ask for
@@ -96,6 +107,11 @@ TellsNext asked came old heard new told =
     → Awaits since come earlier (record old { moment = option_or old.moment (since_at asked came) })
     → TellsFrom since come came earlier heard new told
 
+-- of these records it was told who is silent, and the last Hellos of the others are waited for
+abbrev pub KnowsSilent : Events → List Made → List (Telling Speaker) → Teller Speaker → Type 0
+KnowsSilent events made told teller = AreInOrder made → watches events.expiry (asked_by events) ≡ true
+    → IsWatchedWhole speaker_cmp (hellos_made made) (last_time made) told teller.watch
+
 -- the records were heard, one after another, and this is to be written of what they told
 pub record HasHeard (events : Events) (made : List Made) (written : List (Telling Speaker))
     (hearing : Hearing) : Type 0 where
@@ -111,10 +127,56 @@ pub record HasHeard (events : Events) (made : List Made) (written : List (Tellin
       (have_come (since_in events.since (made_in steps)) (made_in steps)) (told_in steps)
       hearing.since
   pub quiet : first_time (made_in steps) ≡ None → told_in steps ≡ []
+  pub silent : (front back : List Step) → steps ≡ front ++ back
+      → TellsSilent events (last_time (made_in front)) (made_in front) (told_in front)
+  pub knows : KnowsSilent events (made_in steps) (told_in steps) hearing.teller
   pub lost : (speaker : Speaker)
       → contains speaker_cmp hearing.lost speaker ≡ is_lost (made_in steps) speaker
   pub heard : (speaker : Speaker)
       → IsHeardOf events (made_in steps) hearing.teller.heard.entries speaker
+
+-- what was heard is now of this record, too, and to be written of what it tells besides
+abbrev pub HearsTold : Events → Record → Follower → Follower → Type 0
+HearsTold events told old new =
+    (made : List Made) (one : Made) (before : List (Telling Speaker)) → IsTold one told
+    → HasHeard events made (before ++ old.told.items) old.hearing
+    → HasHeard events (made ++ one ∷ []) (before ++ new.told.items) new.hearing
+
+-- how the packets of a sender begin, and how many octets of them were heard
+abbrev pub start_of : Events → Origin → Start
+start_of events origin = record { sender = origin.sender; via_v6 = events.limits.via_v6 }
+
+abbrev pub octets_before : Follower → Origin → ℕ
+octets_before follower origin =
+    octets_heard speaker_cmp follower.hearing.teller.heard.entries (speaker_at origin)
+
+-- The record is read whole: it is no datagram that was left out, and of its packet, if it has one, no
+-- TLV is ignored.
+abbrev pub IsWholeTold : Events → Record → Follower → Type 0
+IsWholeTold events told old = (left_said told.said ≡ None) × IfSome (packet_said told.said)
+    (λ (packet : BabelPacket). IsReadWholly (start_of events packet.origin)
+    (octets_before old packet.origin) packet.octets.now)
+
+-- These octets of a packet were heard, in place of the packet.
+abbrev pub HearsFront : Events → Record → BabelPacket → (octets : List ℕ) → Follower → Follower
+    → Type 0
+HearsFront events told packet octets old new = (front : Record) × HearsTold events front old new
+    × (front.number ≡ told.number) × (front.time ≡ told.time)
+    × ((said : BabelPacket) × (packet_said front.said ≡ Some said)
+    × (said.origin ≡ packet.origin) × (said.octets.now ≡ octets))
+
+-- The record, which is read strictly, is refused for this: it is a datagram that was left out; or a
+-- packet, for its first TLV that is ignored, and the TLVs before that were heard.
+abbrev pub RefusesTold : Events → Record → Follower → Follower → Stop → Type 0
+RefusesTold events told old new (stops.Ignored origin tlv ignores_4) =
+    (packet : BabelPacket) × (front : List TlvAt) × (packet_said told.said ≡ Some packet)
+    × (packet.origin ≡ origin)
+    × IsReadTo (start_of events origin) (octets_before old origin) packet.octets.now front
+    (input_faults.Ignored tlv ignores_4)
+    × HearsFront events told packet (packet_octets front) old new
+RefusesTold events told old new (stops.LeftOut datagram) =
+    (left_said told.said ≡ Some datagram.reason) × (datagram.packet ≡ told.number)
+RefusesTold events told old new fault = Unit {0}
 
 -- these records made the second of the first: of what they told this is to be written besides
 abbrev pub Follows : Follower → Follower → List Made → Type 0
@@ -168,7 +230,9 @@ pub record EndsBy (events : Events) (moment : ℕ) (old new : Hearing)
     (before told : List (Telling Speaker)) : Type 0 where
   pub ended : List (Telling Speaker)
   pub tells : TellsEnds speaker_cmp events.expiry (asked_by events) moment old.teller.timeline.rows
-      new.teller.timeline.rows [] ended
+      new.teller.timeline.rows [] (of_rows (asked_by events) ended)
+  pub silences : watches events.expiry (asked_by events) ≡ true
+      → TellsSilences speaker_cmp [] moment [] ended old.teller.watch new.teller.watch
   pub last : AllLast speaker_cmp events.expiry moment new.teller.timeline.rows
   pub printed : List (Telling Speaker)
   pub from : TellsThen (Some moment) old.since ended new.since printed
@@ -196,10 +260,13 @@ pub record HearsPacket (events : Events) (origin : Origin) (time : ℕ) (packet 
   pub said : List (Said Speaker)
   pub is_said : IsSaid events time origin.place origin.sender packet said
   pub tells : Tells speaker_cmp events.expiry (asked_by events) said time old.timeline.rows
-      new.timeline.rows before told
+      new.timeline.rows (of_rows (asked_by events) before) (of_rows (asked_by events) told)
   pub counts : CountsPacket speaker_cmp (speaker_at origin)
       (record { sender = origin.sender; via_v6 = events.limits.via_v6 }) packet old.heard.entries
       new.heard.entries
+  pub silences : watches events.expiry (asked_by events) ≡ true
+      → TellsSilences speaker_cmp (hellos_heard (speaker_at origin) time packet) time before told
+      old.watch new.watch
 
 -- with this record this is told besides, and what was heard of senders is of it, too
 pub record HearsRecord (events : Events) (one : Made) (old new : Teller Speaker)
@@ -208,6 +275,9 @@ pub record HearsRecord (events : Events) (one : Made) (old new : Teller Speaker)
   pub tells : (made : List Made) (before : List (Telling Speaker))
       → HaveTold events None made before old.timeline.rows
       → HaveTold events None (made ++ one ∷ []) (before ++ told) new.timeline.rows
+  pub silences : (made : List Made) (before : List (Telling Speaker))
+      → KnowsSilent events made before old
+      → KnowsSilent events (made ++ one ∷ []) (before ++ told) new
   pub heard : (made : List Made) (speaker : Speaker)
       → IsHeardOf events made old.heard.entries speaker
       → IsHeardOf events (made ++ one ∷ []) new.heard.entries speaker

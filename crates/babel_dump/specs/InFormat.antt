@@ -4,6 +4,7 @@ use Rattle.std.specs.List.{flat_map}
 use Rattle.babel_prefix.specs.Address.{Address}
 use Rattle.babel_tlv.specs.declared.held.Held.{Held}
 use Rattle.babel_tlv.specs.declared.view.View.{View}
+use Rattle.babel_tlv.specs.Pair.{Pair}
 use Rattle.babel_tlv.specs.Route.{RouteKey}
 use Rattle.babel_tlv.specs.Views.{keeps_all}
 use Rattle.babel_table.specs.Counts.{Counts}
@@ -12,9 +13,9 @@ use Rattle.babel_canon.specs.declared.verdict.Verdict.{Verdict}
 use Rattle.babel_canon.specs.declared.every_difference.Difference.{Difference}
 use Rattle.babel_dump.specs.JsonText.{count_json, counts_json, difference_json}
 use Rattle.babel_dump.specs.JsonText.{lookup_json, pair_json, report_json, same_json, verdict_json}
-use Rattle.babel_dump.specs.RunText.{answer_in, answer_line, answer_text, counts_text}
+use Rattle.babel_dump.specs.RunText.{answer_line, counts_text}
 use Rattle.babel_dump.specs.RunText.{count_text, difference_text, newline, pair_line}
-use Rattle.babel_dump.specs.RunText.{report_text, same_text, verdict_text}
+use Rattle.babel_dump.specs.RunText.{report_text, row_in, row_text, same_text, verdict_text}
 use Rattle.babel_dump.specs.declared.addr_pair.AddrPair.{AddrPair}
 use Rattle.babel_dump.specs.declared.format.Format.{Format}
 use Rattle.babel_dump.specs.declared.format.Format.TheVariants as formats
@@ -54,18 +55,24 @@ report_in format counts = in_format format (report_text counts) (report_json cou
 abbrev pub show_in : Format → Routes → List ℕ
 show_in format table = pairs_in format keeps_all table.rows ++ report_in format table.report
 
-abbrev pub lookup_in : Format → (dst src : Address) → Option Held → List ℕ
-lookup_in (formats.Text spelling) dst src answer = answer_text spelling keeps_all answer ++ newline
-lookup_in (formats.Json spelling) dst src answer = lookup_json spelling dst src answer
+-- what is answered for a destination and a source by this row
+abbrev pub lookup_in : Format → (with_prefix : Bool) → (dst src : Address) → Option Pair → List ℕ
+lookup_in (formats.Text spelling) with_prefix dst src row =
+    row_text spelling with_prefix row ++ newline
+lookup_in (formats.Json spelling) with_prefix dst src row =
+    lookup_json spelling with_prefix dst src row
 
-abbrev pub answer_line_in : Format → (dst src : Address) → Option Held → List ℕ
-answer_line_in (formats.Text spelling) dst src answer = answer_line spelling dst src answer
-answer_line_in (formats.Json spelling) dst src answer = lookup_json spelling dst src answer
+abbrev pub answer_line_in :
+    Format → (with_prefix : Bool) → (dst src : Address) → Option Pair → List ℕ
+answer_line_in (formats.Text spelling) with_prefix dst src row =
+    answer_line spelling with_prefix dst src row
+answer_line_in (formats.Json spelling) with_prefix dst src row =
+    lookup_json spelling with_prefix dst src row
 
 -- a line for each pair of addresses
-abbrev pub each_in : Format → Routes → List AddrPair → List ℕ
-each_in format table pairs =
-    flat_map (λ pair. answer_line_in format pair.dst pair.src (answer_in table pair.dst pair.src))
+abbrev pub each_in : Format → (with_prefix : Bool) → Routes → List AddrPair → List ℕ
+each_in format with_prefix table pairs = flat_map
+    (λ pair. answer_line_in format with_prefix pair.dst pair.src (row_in table pair.dst pair.src))
     pairs
 
 abbrev pub verdict_in : Format → View → Verdict → List ℕ

@@ -23,8 +23,9 @@ capture_of reader reading task = capture_from reader.old reader.new reading (wan
 abbrev pub SaysBy : Work → Job → (reader other : Reads) → List ℕ → Outcome → Type 0
 SaysBy (works.Dump source task) job reader other =
     TaskSays task job.format job.quiet (name_of source.file) (dump_of reader source.reading)
-SaysBy (works.Each source pairs) job reader other =
+SaysBy (works.Each source pairs with_prefix) job reader other =
     LooksUpAsked (dump_of reader source.reading) (dump_of other source.reading) job.format
+    with_prefix
 SaysBy (works.Two first second view task) job reader other =
     ComparisonSays task job.format view (name_of first.file) (name_of second.file)
     (dump_of reader first.reading) (dump_of other second.reading)
@@ -36,7 +37,7 @@ abbrev pub CauseBy : Work → (reader other : Reads) → (untouched : Type 0) �
 CauseBy (works.Dump source task) reader other untouched =
     let dump = dump_of reader source.reading in
     OfFirst (InputCause dump (IsFaultOf task dump))
-CauseBy (works.Each source pairs) reader other untouched =
+CauseBy (works.Each source pairs with_prefix) reader other untouched =
     EachCause (dump_of reader source.reading) (dump_of other source.reading)
 CauseBy (works.Two first second view task) reader other untouched =
     ComparisonCause task view (dump_of reader first.reading)
@@ -48,13 +49,14 @@ CauseBy (works.Capture reading file task) reader other untouched =
 -- how often it may call its first reader, and the other where it reads that too
 abbrev pub first_calls : Work → Reads → Calls
 first_calls (works.Dump source task) reader = calls_of (dump_of reader source.reading)
-first_calls (works.Each source pairs) reader = calls_of (dump_of reader source.reading)
+first_calls (works.Each source pairs with_prefix) reader = calls_of (dump_of reader source.reading)
 first_calls (works.Two first second view task) reader = calls_of (dump_of reader first.reading)
 first_calls (works.Capture reading file task) reader =
     capture_calls (capture_of reader reading task)
 
 abbrev pub other_calls : Work → Reads → Option Calls
-other_calls (works.Each source pairs) other = Some (stream_calls (dump_of other source.reading))
+other_calls (works.Each source pairs with_prefix) other =
+    Some (stream_calls (dump_of other source.reading))
 other_calls (works.Two first second view task) other =
     Some (calls_of (dump_of other second.reading))
 other_calls work other = None

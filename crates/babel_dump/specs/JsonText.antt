@@ -1,7 +1,7 @@
 -- The lines that the runs write as JSON (RFC 8259): one object a line, with the members in the
 -- order that is shown here. No string has a character that needs an escape, but the name of an
 -- interface. These are this project's own.
-use Rattle.std.specs.Prelude.{Bool, if◌then◌else◌, ℕ, List, ◌++◌, codes, Option, Some, None}
+use Rattle.std.specs.Prelude.{Bool, if◌then◌else◌, ℕ, List, [], ◌++◌, codes, Option, Some, None}
 use Rattle.std.specs.List.{filter_map, join_by}
 use Rattle.std.specs.Option.{option_map}
 use Rattle.std.specs.Fmt.{decimal}
@@ -10,9 +10,11 @@ use Rattle.babel_prefix.specs.Address.{Address}
 use Rattle.babel_tlv.specs.declared.held.Held.{Held}
 use Rattle.babel_tlv.specs.declared.held.Held.TheVariants as helds
 use Rattle.babel_tlv.specs.declared.view.View.{View}
+use Rattle.babel_tlv.specs.Pair.{Pair}
 use Rattle.babel_tlv.specs.Route.{RouteKey, Announcement}
 use Rattle.babel_tlv.specs.Views.{keeps_all}
 use Rattle.babel_table.specs.Counts.{Counts, all_reasons}
+use Rattle.babel_table.specs.RowFor.{held_of}
 use Rattle.babel_canon.specs.declared.verdict.Verdict.{Verdict}
 use Rattle.babel_canon.specs.declared.verdict.Verdict.TheVariants as verdicts
 use Rattle.babel_canon.specs.declared.every_difference.Difference.{Difference}
@@ -48,20 +50,39 @@ abbrev pub addressed_json : (dst src : List ℕ) → List ℕ
 addressed_json dst src =
     codes "\"destination\":\"" ++ dst ++ codes "\",\"source\":\"" ++ src ++ codes "\""
 
--- `{"destination":"DST","source":"SRC","answer":ANSWER}`
-abbrev pub answered_line : Spelling → View → (dst src : List ℕ) → Option Held → List ℕ
-answered_line spelling view dst src answer =
+-- `{"destination":"DST","source":"SRC","answer":ANSWER`
+abbrev pub answered_front : Spelling → View → (dst src : List ℕ) → Option Held → List ℕ
+answered_front spelling view dst src answer =
     codes "{" ++ addressed_json dst src ++ codes ",\"answer\":" ++ answer_json spelling view answer
-    ++ codes "}" ++ newline
 
+-- the end of an object on a line of its own
+abbrev pub line_end : List ℕ
+line_end = codes "}" ++ newline
+
+-- `{"destination":"DST","source":"SRC","answer":ANSWER}`
 abbrev pub pair_json : Spelling → View → RouteKey × Held → List ℕ
 pair_json spelling view pair =
-    answered_line spelling view (prefix_text spelling pair.0.dst) (prefix_text spelling pair.0.src)
-    (Some pair.1)
+    answered_front spelling view (prefix_text spelling pair.0.dst) (prefix_text spelling pair.0.src)
+    (Some pair.1) ++ line_end
 
-abbrev pub lookup_json : Spelling → (dst src : Address) → Option Held → List ℕ
-lookup_json spelling dst src answer =
-    answered_line spelling keeps_all (address_text spelling dst) (address_text spelling src) answer
+-- `{"destination":"DST","source":"SRC"}`, the prefixes of the row, or `null`
+abbrev pub route_json : Spelling → Option Pair → List ℕ
+route_json spelling None = codes "null"
+route_json spelling (Some row) =
+    codes "{" ++ addressed_json (prefix_text spelling row.0.dst) (prefix_text spelling row.0.src)
+    ++ codes "}"
+
+-- `,"route":ROUTE`, where the prefixes are asked for
+abbrev pub route_member : Spelling → (with_prefix : Bool) → Option Pair → List ℕ
+route_member spelling with_prefix row =
+    if with_prefix then codes ",\"route\":" ++ route_json spelling row else []
+
+-- the same of a lookup, with the member for the row that answers
+abbrev pub lookup_json :
+    Spelling → (with_prefix : Bool) → (dst src : Address) → Option Pair → List ℕ
+lookup_json spelling with_prefix dst src row =
+    answered_front spelling keeps_all (address_text spelling dst) (address_text spelling src)
+    (held_of row) ++ route_member spelling with_prefix row ++ line_end
 
 -- `{"routes":N,"pairs":N}`
 abbrev pub counts_json : ℕ → ℕ → List ℕ

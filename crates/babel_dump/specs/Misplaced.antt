@@ -51,7 +51,7 @@ misplaced first other is_capture other_is_capture =
 -- that of a job's work
 abbrev pub misplaced_in : Work → (is_capture other_is_capture : Bool) → Option (List ℕ)
 misplaced_in (works.Dump source task) = misplaced source.reading None
-misplaced_in (works.Each source pairs) = misplaced source.reading None
+misplaced_in (works.Each source pairs with_prefix) = misplaced source.reading None
 misplaced_in (works.Two first other view task) = misplaced first.reading (Some other.reading)
 misplaced_in (works.Capture reading file task) = λ is_capture other_is_capture. None
 
@@ -80,8 +80,8 @@ source_begun is_capture seed source = record source
 abbrev pub work_begun : (is_capture other_is_capture : Bool) → (seed : ℕ) → Work → Work
 work_begun first second seed (works.Dump source task) =
     works.Dump (source_begun first seed source) task
-work_begun first second seed (works.Each source pairs) =
-    works.Each (source_begun first seed source) pairs
+work_begun first second seed (works.Each source pairs with_prefix) =
+    works.Each (source_begun first seed source) pairs with_prefix
 work_begun first second seed (works.Two one other view task) =
     works.Two (source_begun first seed one) (source_begun second seed other) view task
 work_begun first second seed (works.Capture reading file task) = works.Capture reading file task

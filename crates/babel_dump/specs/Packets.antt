@@ -8,7 +8,7 @@ use Rattle.babel_capture.specs.Times.{time_of}
 
 -- the packet, if one was found, with the time of its record, or the first time where it has none
 abbrev pub timed_found : Option ℕ → Found → List (ℕ × List ℕ)
-timed_found time (found place sender packet has_trailer) = (unwrap_or time 0, packet) ∷ []
+timed_found time (found place ends packet has_trailer) = (unwrap_or time 0, packet) ∷ []
 timed_found time what = []
 
 -- all packets that were found, each with its time

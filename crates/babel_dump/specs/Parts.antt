@@ -15,7 +15,7 @@ use Rattle.babel_dump.specs.Command.{IsOfMany, IsOfMemory, OfBoth}
 use Rattle.babel_dump.specs.Given.{GaveAll, Input, Reads}
 use Rattle.babel_dump.specs.JobRun.{CauseBy, OtherCalled, SaysBy, first_calls, other_calls}
 use Rattle.babel_dump.specs.Run.{Called, Calls, OfFirst, capture_calls}
-use Rattle.babel_dump.specs.RunText.{answer_in}
+use Rattle.babel_dump.specs.RunText.{row_in}
 use Rattle.babel_dump.specs.SlicedRows.{found_text}
 use Rattle.babel_dump.specs.declared.both.SeenTables.{SeenTables}
 use Rattle.babel_dump.specs.declared.format.Format.{Format}
@@ -33,11 +33,11 @@ pub record IsFedAll (feeder : Progress) (reader : Input) : Type 0 where
   pub fed : HasRead feeder given
   pub gave : GaveAll reader given
 
--- a dump was given, and this is what its table answers for the addresses, and its report
+-- a dump was given, and this is the row by which its table answers for the addresses, and its report
 pub record GaveAnswer (Gave : Routes → Type 0) (dst src : Address) (answer : Answer) : Type 0 where
   pub table : Routes
   pub gave : Gave table
-  pub held : answer.held ≡ answer_in table dst src
+  pub row : answer.row ≡ row_in table dst src
   pub report : answer.report ≡ table.report
 
 -- what reading from a device promises, of which something was made, and whose faults have these

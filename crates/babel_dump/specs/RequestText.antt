@@ -1,17 +1,23 @@
 -- What `events` writes of a request: this project's own.
-use Rattle.std.specs.Prelude.{ℕ, List, ◌++◌, codes}
+use Rattle.std.specs.Prelude.{ℕ, List, [], ◌++◌, Option, None, Some, codes}
 use Rattle.std.specs.Fmt.{decimal}
 use Rattle.hex.specs.Hex.{encode_lower}
+use Rattle.babel_prefix.specs.Address.{Address}
 use Rattle.babel_tlv.specs.declared.request.Request.{Request}
 use Rattle.babel_tlv.specs.declared.request.Request.TheVariants as requests
 use Rattle.babel_tlv.specs.Route.{RouteKey}
 use Rattle.babel_dump.specs.JsonText.{addressed_json}
-use Rattle.babel_dump.specs.Spelling.{from_prefix, prefix_text}
+use Rattle.babel_dump.specs.Spelling.{address_text, from_prefix, prefix_text}
 use Rattle.babel_dump.specs.declared.spelling.Spelling.{Spelling}
 
 -- ` DST from SRC`
 abbrev pub key_text : Spelling → RouteKey → List ℕ
 key_text spelling key = codes " " ++ prefix_text spelling key.dst ++ from_prefix spelling key.src
+
+-- ` to ADDRESS`, where it is requested of one
+abbrev pub to_text : Spelling → Option Address → List ℕ
+to_text spelling None = []
+to_text spelling (Some address) = codes " to " ++ address_text spelling address
 
 -- ` all`, or ` DST from SRC`, or ` DST from SRC id ROUTERID seqno N`
 abbrev pub request_text : Spelling → Request → List ℕ
@@ -20,6 +26,12 @@ request_text spelling (requests.Route key) = key_text spelling key
 request_text spelling (requests.Seqno key router_id seqno) =
     key_text spelling key ++ codes " id " ++ encode_lower router_id
     ++ codes " seqno " ++ decimal seqno
+
+-- `"to":"ADDRESS",`, or null where it is not requested of one
+abbrev pub to_json : Spelling → Option Address → List ℕ
+to_json spelling None = codes "\"to\":null,"
+to_json spelling (Some address) =
+    codes "\"to\":\"" ++ address_text spelling address ++ codes "\","
 
 -- `"destination":"DST","source":"SRC"`
 abbrev pub key_json : Spelling → RouteKey → List ℕ

@@ -20,7 +20,7 @@ use Rattle.babel_dump.specs.declared.slices.Rows.TheVariants as rows
 -- what is answered for a destination and a source
 abbrev pub answered_in : Format → Answered → List ℕ
 answered_in format answered =
-    answer_line_in format answered.pair.dst answered.pair.src answered.held
+    answer_line_in format answered.with_prefix answered.pair.dst answered.pair.src answered.row
 
 -- the lines that name two dumps, and the rows that they hold differently
 abbrev pub diff_lines : DiffRows → List ℕ

@@ -16,7 +16,7 @@ use Rattle.babel_dump.specs.Given.{Input}
 use Rattle.babel_dump.specs.InFormat.{listed_in, rows_or_count_in}
 use Rattle.babel_dump.specs.KeyText.{file_in, key_in}
 use Rattle.babel_dump.specs.Octets.{AreOctets, HasTooMany}
-use Rattle.babel_dump.specs.RunText.{answer_in, form_text}
+use Rattle.babel_dump.specs.RunText.{form_text, row_in}
 use Rattle.babel_dump.specs.Summary.{shown_in}
 use Rattle.babel_dump.specs.declared.format.Format.{Format}
 use Rattle.babel_dump.specs.declared.job.Comparison.{Comparison}
@@ -35,10 +35,10 @@ abbrev pub TaskFinds :
     Task → Format → (quiet : Bool) → (file : List ℕ) → Reading → Routes → List ℕ → Outcome → Type 0
 TaskFinds (tasks.Show filter summary) format quiet file reading table =
     Tells table.report (shown_in format filter summary quiet table) 0
-TaskFinds (tasks.Lookup pair) format quiet file reading table =
-    LooksUp format pair.dst pair.src table.report (answer_in table pair.dst pair.src)
-TaskFinds (tasks.AnySource dst) format quiet file reading table =
-    LooksUpAnySource format dst table
+TaskFinds (tasks.Lookup pair with_prefix) format quiet file reading table =
+    LooksUp format with_prefix pair.dst pair.src table.report (row_in table pair.dst pair.src)
+TaskFinds (tasks.AnySource dst with_prefix) format quiet file reading table =
+    LooksUpAnySource format with_prefix dst table
 TaskFinds (tasks.Normalise form view body hex) format quiet file reading table =
     WritesOctets (AreOctets form reading view body table) (form_text hex) table.report
 TaskFinds (tasks.Key form view) format quiet file reading table =

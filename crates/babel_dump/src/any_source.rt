@@ -9,7 +9,7 @@ use crate::addr_pair::AddrPair;
 use crate::format::Format;
 use crate::lookup::lookup_status;
 use crate::outcome::{Outcome, Reports};
-use crate::output::lookup_output;
+use crate::output::{Answered, lookup_output};
 use crate::slices::Found;
 use babel_prefix::{Addr, Family, Prefix};
 use babel_table::Table;
@@ -20,18 +20,24 @@ use std::alloc::{AllocError, Global};
 pub(crate) fn found_any_source(
     alloc: Global,
     dst: Addr,
+    with_prefix: bool,
     format: Format,
     table: &Table,
 ) -> Result<Found, AllocError>
-    ensures { IfOk result (Says (LooksUpAnySource format dst table.now)) }
+    ensures { IfOk result (Says (LooksUpAnySource format with_prefix dst table.now)) }
 {
     let src = any_source(dst.family());
-    let held = table.lookup(&dst, &src);
+    let row = table.best(&dst, &src);
     let outcome = Outcome {
-        status: lookup_status(held.as_ref()),
+        status: lookup_status(&row),
         reports: Reports::AnySource(*table.report(), source_to_tell(table, &dst)),
     };
-    let text = lookup_output(alloc, format, AddrPair { dst, src }, held)?;
+    let answered = Answered {
+        pair: AddrPair { dst, src },
+        row,
+        with_prefix,
+    };
+    let text = lookup_output(alloc, format, answered)?;
     Found::text(alloc, text, outcome)
 }
 

@@ -42,13 +42,14 @@ pub(crate) fn read_pairs<S: ByteIn>(
 /// The lines of what a table answers for each of these pairs.
 pub(crate) fn found_answers(
     alloc: Global,
+    with_prefix: bool,
     format: Format,
     asked: &[AddrPair],
     table: &Table,
 ) -> Result<Found, AllocError>
-    ensures { IfOk result (Says (LooksUpEach format asked.now table.now)) }
+    ensures { IfOk result (Says (LooksUpEach format with_prefix asked.now table.now)) }
 {
-    let (answers, status) = answers(alloc, table, asked)?;
+    let (answers, status) = answers(alloc, with_prefix, table, asked)?;
     let outcome = Outcome::of_dump(status, *table.report());
     let rows = Rows::Answers(answers);
     Found::rows(alloc, format, rows, Vec::new(alloc), outcome)
@@ -57,21 +58,27 @@ pub(crate) fn found_answers(
 /// What a table answers for each of these pairs, and the status that these make.
 fn answers(
     alloc: Global,
+    with_prefix: bool,
     table: &Table,
     asked: &[AddrPair],
 ) -> Result<(Vec<Answered>, u8), AllocError>
     ensures answers { IfOk result (λ answers. (format : Format)
-        → flat_map (answered_in format) answers.0.items ≡ each_in format table.now asked.now) }
+        → flat_map (answered_in format) answers.0.items
+        ≡ each_in format with_prefix table.now asked.now) }
     ensures status { IfOk result (λ answers. answers.1 ≡ each_status table.now asked.now) }
 {
     let mut answers = Vec::with_capacity(alloc, asked.len())?;
     let mut status = 0;
     for pair in asked {
-        let held = table.lookup(&pair.dst, &pair.src);
-        if lookup_status(held.as_ref()) == 1 {
+        let row = table.best(&pair.dst, &pair.src);
+        if lookup_status(&row) == 1 {
             status = 1;
         }
-        answers.push(Answered { pair: *pair, held })?;
+        answers.push(Answered {
+            pair: *pair,
+            row,
+            with_prefix,
+        })?;
     }
     Ok((answers, status))
 }

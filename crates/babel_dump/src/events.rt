@@ -1,13 +1,13 @@
 //! `events`: what the senders in a capture announce, change and retract, and what expires, told as
 //! the capture is read.
 ghost use Rattle.std.specs.Prelude.{◌≡◌, ◌+◌, ◌-◌, ◌++◌, ◌^◌, ◌<◌, ◌≤◌, ℕ, List, []};
-ghost use Rattle.std.specs.Prelude.{None, IfOk, OnOk, false, map, vec_capacity};
+ghost use Rattle.std.specs.Prelude.{None, IfOk, OnOk, false, map, true, vec_capacity};
 ghost use Rattle.std.specs.List.{flat_map};
 ghost use Rattle.babel_capture.specs.Capture.{HasRead, IsReadToCut, moment_read};
 ghost use Rattle.babel_timeline.specs.declared.telling.Telling.{Telling as TellingSaid};
 ghost use Rattle.babel_dump.specs.CaptureText.{senders_status};
 ghost use Rattle.babel_dump.specs.Device.{HasRoomToCount, HasRoomToWrite};
-ghost use Rattle.babel_dump.specs.EventsRun.{TellsEvents, WroteLines};
+ghost use Rattle.babel_dump.specs.EventsRun.{AreReadWhole, TellsEvents, WroteLines};
 ghost use Rattle.babel_dump.specs.Followed.{Ends, EndsAt, Goes, HasFollowed, IsFollowed};
 ghost use Rattle.babel_dump.specs.Followed.{Suits, named_event};
 ghost use Rattle.babel_dump.specs.HeardSenders.{heard_of, heard_told, sender_heard};
@@ -22,7 +22,9 @@ use crate::event_line::write_event;
 use crate::events_job::Events;
 use crate::events_outcome::{EventsOutcome, HeardSender};
 use crate::follower::Follower;
+use crate::input::refuse_unread;
 use crate::input_fault::InputFault;
+use crate::left_out::first_left_out;
 use crate::moment_words::{moment_from, moments_of};
 use crate::outcome::{Outcome, Reports};
 use crate::push_event::speaker_of;
@@ -32,7 +34,7 @@ use crate::speaker::Speaker;
 use crate::told_filter::keeps_told;
 use crate::trouble::Trouble;
 use crate::write::{WriteFailed, write_text};
-use babel_capture::{Capture, Fault, Gathered, Origin, Wanted};
+use babel_capture::{Capture, Fault, Gathered, Origin, Report, Wanted};
 use babel_timeline::Telling;
 use std::alloc::{AllocError, Global};
 
@@ -67,8 +69,8 @@ pub fn run_events<R: ByteIn, W: ByteOut, S: Says>(
         (R.state reader.new) (output (W.state writer.old) (W.state writer.new)) answer) }
 {
     let mut followed = Followed::new(alloc, events)?;
-    match followed.follow(events, reader, writer, says) {
-        Ok(()) => followed.end(alloc, events, writer),
+    match followed.run(alloc, events, reader, writer, says) {
+        Ok(answer) => Ok(answer),
         Err(mut trouble) => {
             followed.add_name(alloc, &mut trouble)?;
             Err(trouble)
@@ -94,6 +96,28 @@ impl<'a> Followed<'a> {
             follower,
             buffer,
         })
+    }
+
+    /// Reads the capture to its end, and tells what ends then.
+    fn run<R: ByteIn, W: ByteOut, S: Says>(
+        &mut self,
+        alloc: Global,
+        events: &Events,
+        reader: &mut R,
+        writer: &mut W,
+        says: &mut S,
+    ) -> Result<EventsOutcome, Trouble>
+        requires reader { HasRoomToCount (R.state reader.old) }
+        requires writer { HasRoomToWrite (W.state writer.old) }
+        requires none { IsFollowed events.now [] [] self.old }
+        requires told { self.old.follower.told.items ≡ [] }
+        requires empty { self.old.buffer.items ≡ [] }
+        requires room { 512 ≤ vec_capacity self.old.buffer }
+        ensures { IfOk result (λ answer. TellsEvents events.now (R.state reader.old)
+            (R.state reader.new) (output (W.state writer.old) (W.state writer.new)) answer) }
+    {
+        self.follow(events, reader, writer, says)?;
+        self.end(alloc, events, writer)
     }
 
     /// Reads the capture to its end, piece by piece.
@@ -158,7 +182,7 @@ impl<'a> Followed<'a> {
     {
         let fed = self.capture.feed(piece, &mut self.follower);
         self.in_order(events)?;
-        self.follower.say_lost(self.capture.gathered(), says);
+        self.follower.say(self.capture.gathered(), says);
         self.write(events, writer)?;
         self.follower.fault()?;
         match fed {
@@ -215,7 +239,7 @@ impl<'a> Followed<'a> {
     }
 
     /// Ends the capture, of which all was read: tells what has expired up to the moment that it was
-    /// read to.
+    /// read to. One that is read strictly is refused then, if a sender has no Update.
     fn end<W: ByteOut>(
         &mut self,
         alloc: Global,
@@ -237,6 +261,7 @@ impl<'a> Followed<'a> {
         self.expire(events)?;
         self.write(events, writer)?;
         let report = self.capture.gathered().report();
+        refuse_senders(events.strict, &report, &senders)?;
         let outcome = Outcome {
             status,
             reports: Reports::Capture { report, cut },
@@ -374,6 +399,20 @@ fn write_kept<W: ByteOut>(
             told,
             buffer,
         )?;
+    }
+    Ok(())
+}
+
+/// Refuses a capture that is read strictly where of a sender something was not read, or it has no
+/// Update: the first of these senders.
+fn refuse_senders(strict: bool, report: &Report, senders: &[HeardSender]) -> Result<(), Trouble>
+    ensures { OnOk result (strict ≡ true → AreReadWhole report.now senders.now) }
+{
+    let left_out = first_left_out(report);
+    for heard in senders {
+        if let Err(fault) = refuse_unread(strict, left_out, &heard.report) {
+            return Err(Trouble::of_sender(heard.origin, fault));
+        }
     }
     Ok(())
 }

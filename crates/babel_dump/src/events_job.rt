@@ -37,6 +37,9 @@ pub struct Events {
     pub filter: Filter,
     /// Whether it is told, too, what senders request: `--requests`.
     pub requests: bool,
+    /// Whether no more is told from the first TLV on that is ignored, and the first datagram that is
+    /// left out; and whether each sender has to have an Update: `--strict`.
+    pub strict: bool,
     pub format: Format,
     pub file: DumpFile,
     /// Whether no note comes after the lines: `--quiet`.

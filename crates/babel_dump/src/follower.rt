@@ -1,32 +1,39 @@
 //! What the records of a capture tell, heard as they are read.
-ghost use Rattle.std.specs.Prelude.{◌≡◌, ◌++◌, ◌∷◌, List, [], None, OnOk};
-ghost use Rattle.babel_capture.specs.Counts.{Made};
-ghost use Rattle.babel_capture.specs.Sinking.{IsTold};
-ghost use Rattle.babel_timeline.specs.declared.telling.Telling.{Telling as TellingSaid};
-ghost use Rattle.babel_dump.specs.Followed.{HasHeard};
-ghost use Rattle.babel_dump.specs.declared.speaker.Speaker.{Speaker as SpeakerSaid};
+ghost use Rattle.std.specs.Prelude.{◌≡◌, ◌+◌, ◌^◌, ◌<◌, ◌≤◌, [], IfErr, IsErr, None, OnOk, Some};
+ghost use Rattle.std.specs.Prelude.{drop, length, take, true};
+ghost use Rattle.babel_capture.specs.Sinking.{left_said, packet_said};
+ghost use Rattle.babel_tlv.specs.Framing.{framed};
+ghost use Rattle.babel_dump.specs.EventsRun.{speaker_at};
+ghost use Rattle.babel_dump.specs.Followed.{HasHeard, HearsFront, HearsTold, IsWholeTold};
+ghost use Rattle.babel_dump.specs.Followed.{RefusesTold};
 
 use crate::events_job::Events;
-use crate::hearing::{Hearing, LostBy, Unheard};
-use crate::missed_note::MissedNote;
+use crate::hearing::{Hearing, Unheard};
+use crate::left_out::LeftOutDatagram;
+use crate::remarks::Remarks;
 use crate::says::Says;
 use crate::speaker::Speaker;
+use crate::stop::Stop;
 use crate::trouble::Trouble;
-use babel_capture::{Gathered, Record, Sink};
+use crate::unread_tlv::{UnreadTlv, packet_of};
+use babel_capture::{BabelPacket, Gathered, Origin, Reason, Record, Said, Sink};
+use babel_table::Report;
 use babel_timeline::Telling;
-use std::alloc::Global;
+use babel_tlv::Start;
+use std::alloc::{AllocError, Global};
 
 /// Hears the records of a capture one after another, up to the first that has a fault.
 #[derive(Drop)]
 pub(crate) struct Follower<'a> {
+    alloc: Global,
     events: &'a Events,
     pub hearing: Hearing,
     /// What was told and is not written yet.
     pub told: Vec<Telling<Speaker>>,
-    /// By what senders were lost, of which was not said yet.
-    lost: Vec<LostBy>,
+    /// What there is to say of what was not read.
+    remarks: Remarks,
     /// Why no more is heard.
-    fault: Option<Unheard>,
+    fault: Option<Stop>,
 }
 
 impl<'a> Follower<'a> {
@@ -38,10 +45,11 @@ impl<'a> Follower<'a> {
         ensures fault { result.fault ≡ None }
     {
         Follower {
+            alloc,
             events,
             hearing: Hearing::new(alloc, events),
             told: Vec::new(alloc),
-            lost: Vec::new(alloc),
+            remarks: Remarks::new(alloc, events),
             fault: None,
         }
     }
@@ -56,38 +64,177 @@ impl<'a> Follower<'a> {
         }
     }
 
-    /// Hears a record, and then what it requests.
-    fn hear(&mut self, told: &Record<'_>) -> Result<(), Unheard>
+    /// Hears a record, as it is asked for.
+    fn hear(&mut self, told: &Record<'_>) -> Result<(), Stop>
         ensures same { (self.new.events.now ≡ self.old.events.now)
             × (self.new.fault ≡ self.old.fault) }
-        ensures heard { OnOk result ((made : List Made) (one : Made)
-            (before : List (TellingSaid SpeakerSaid)) → IsTold one told.now
-            → HasHeard self.old.events.now made (before ++ self.old.told.items) self.old.hearing
-            → HasHeard self.old.events.now (made ++ one ∷ []) (before ++ self.new.told.items)
-            self.new.hearing) }
+        ensures heard { OnOk result
+            (HearsTold self.old.events.now told.now self.old self.new) }
+        ensures whole { OnOk result (self.old.events.now.strict ≡ true
+            → IsWholeTold self.old.events.now told.now self.old) }
+        ensures refused { IfErr result
+            (RefusesTold self.old.events.now told.now self.old self.new) }
     {
+        if self.events.strict {
+            self.hear_strictly(told)
+        } else {
+            Ok(self.hear_whole(told)?)
+        }
+    }
+
+    /// Hears a record, and then what it requests; adds what there is to say of what was not read.
+    fn hear_whole(&mut self, told: &Record<'_>) -> Result<(), Unheard>
+        ensures same { (self.new.events.now ≡ self.old.events.now)
+            × (self.new.fault ≡ self.old.fault) }
+        ensures heard { OnOk result
+            (HearsTold self.old.events.now told.now self.old self.new) }
+    {
+        let before = self.report(&told.said);
         self.hearing.hear_record(self.events, told, &mut self.told)?;
         self.hearing.request(self.events, told, &mut self.told)?;
-        self.hearing.lose(told, &mut self.lost)?;
+        self.hearing.lose(told, &mut self.remarks)?;
+        let now = self.report(&told.said);
+        add_remarks(&mut self.remarks, told, &before, &now)?;
         Ok(())
     }
 
-    /// Says of whom no more is told, since a datagram was left out that lacks something, if the
-    /// command is not quiet.
-    pub(crate) fn say_lost<S: Says>(&mut self, gathered: &Gathered, says: &mut S)
+    /// What was heard so far of the sender of a packet, if there is to say what was not read.
+    fn report(&self, said: &Said<'_>) -> Report {
+        match said {
+            Said::Packet(packet) if !self.events.quiet => {
+                self.hearing.report(speaker_at(&packet.origin))
+            }
+            _ => Report::new(),
+        }
+    }
+
+    /// Says what was not read since it was said last.
+    pub(crate) fn say<S: Says>(&mut self, gathered: &Gathered, says: &mut S)
         ensures { (self.new.events ≡ self.old.events) × (self.new.hearing ≡ self.old.hearing)
             × (self.new.told ≡ self.old.told) × (self.new.fault ≡ self.old.fault) }
     {
-        if !self.events.quiet {
-            for lost in &self.lost {
-                says.say(&MissedNote {
-                    missed: lost.missed,
-                    packet: lost.packet,
-                    name: gathered.name(lost.missed.origin.place.interface),
-                });
+        self.remarks.say(gathered, says);
+    }
+
+    /// Hears a record of a capture that is read strictly: of a packet the TLVs before the first that
+    /// is ignored, for which it is refused, as for a datagram that was left out.
+    fn hear_strictly(&mut self, told: &Record<'_>) -> Result<(), Stop>
+        ensures same { (self.new.events.now ≡ self.old.events.now)
+            × (self.new.fault ≡ self.old.fault) }
+        ensures heard { OnOk result
+            (HearsTold self.old.events.now told.now self.old self.new) }
+        ensures whole { OnOk result (IsWholeTold self.old.events.now told.now self.old) }
+        ensures refused { IfErr result
+            (RefusesTold self.old.events.now told.now self.old self.new) }
+    {
+        match &told.said {
+            Said::Packet(packet) => self.hear_packet_strictly(told, packet),
+            Said::Missed(missed) => self.refuse(told, missed.reason),
+            Said::LeftOut { reason, .. } => self.refuse(told, *reason),
+            Said::Nothing => Ok(self.hear_whole(told)?),
+        }
+    }
+
+    /// Refuses a datagram that was left out, once all is told that has expired by then.
+    fn refuse(&mut self, told: &Record<'_>, reason: Reason) -> Result<(), Stop>
+        requires { left_said told.now.said ≡ Some reason }
+        ensures same { (self.new.events.now ≡ self.old.events.now)
+            × (self.new.fault ≡ self.old.fault) }
+        ensures refused { IsErr result × IfErr result
+            (RefusesTold self.old.events.now told.now self.old self.new) }
+    {
+        self.hearing.hear_record(self.events, told, &mut self.told)?;
+        let packet = told.number;
+        Err(Stop::LeftOut(LeftOutDatagram { packet, reason }))
+    }
+
+    /// Hears a packet up to its first TLV that is ignored.
+    fn hear_packet_strictly(
+        &mut self,
+        told: &Record<'_>,
+        packet: &BabelPacket<'_>,
+    ) -> Result<(), Stop>
+        requires { packet_said told.now.said ≡ Some packet.now }
+        ensures same { (self.new.events.now ≡ self.old.events.now)
+            × (self.new.fault ≡ self.old.fault) }
+        ensures heard { OnOk result
+            (HearsTold self.old.events.now told.now self.old self.new) }
+        ensures whole { OnOk result (IsWholeTold self.old.events.now told.now self.old) }
+        ensures refused { IfErr result
+            (RefusesTold self.old.events.now told.now self.old self.new) }
+    {
+        let origin = packet.origin;
+        let start = Start {
+            sender: origin.sender,
+            via_v6: self.events.limits.via_v6(),
+        };
+        let at = self.hearing.octets(speaker_at(&origin));
+        match UnreadTlv::first(&start, at, packet.octets) {
+            Ok(None) => Ok(self.hear_whole(told)?),
+            Ok(Some(unread)) => {
+                self.hear_front(told, packet, unread.before)?;
+                Err(Stop::Ignored {
+                    origin,
+                    tlv: unread.tlv,
+                    ignores_encoding_4: unread.ignores_encoding_4,
+                })
+            }
+            Err(fault) => {
+                self.hear_whole(told)?;
+                Err(Stop::Unheard(Unheard::Sender { origin, fault }))
             }
         }
-        self.lost.clear();
+    }
+
+    /// Hears so many octets of a packet's body, as a packet.
+    fn hear_front(
+        &mut self,
+        told: &Record<'_>,
+        packet: &BabelPacket<'_>,
+        before: usize,
+    ) -> Result<(), Unheard>
+        requires fits { 4 + before ≤ length packet.now.octets.now }
+        requires short { before < 2 ^ 16 }
+        ensures same { (self.new.events.now ≡ self.old.events.now)
+            × (self.new.fault ≡ self.old.fault) }
+        ensures heard { OnOk result (HearsFront self.old.events.now told.now packet.now
+            (framed (take before (drop 4 packet.now.octets.now))) self.old self.new) }
+    {
+        let octets = packet_of(self.alloc, &packet.octets[4..4 + before])?;
+        let front = BabelPacket {
+            octets: &octets,
+            ..*packet
+        };
+        self.hear_whole(&Record {
+            said: Said::Packet(front),
+            ..*told
+        })
+    }
+}
+
+/// A sender at a place, as one who speaks.
+fn speaker_at(origin: &Origin) -> Speaker
+    ensures { result ≡ speaker_at origin.now }
+{
+    let Origin { place, sender } = *origin;
+    Speaker { sender, place }
+}
+
+/// Adds what of a record was not read, where the sender of its packet had the one report before it,
+/// and has the other after it.
+fn add_remarks(
+    remarks: &mut Remarks,
+    told: &Record<'_>,
+    before: &Report,
+    now: &Report,
+) -> Result<(), AllocError> {
+    match &told.said {
+        Said::Packet(packet) => remarks.ignored(&packet.origin, before, now),
+        Said::LeftOut { origin, reason } => {
+            let (packet, reason) = (told.number, *reason);
+            remarks.left_out(*origin, LeftOutDatagram { packet, reason })
+        }
+        Said::Missed(_) | Said::Nothing => Ok(()),
     }
 }
 

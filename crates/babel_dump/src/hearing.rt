@@ -6,7 +6,7 @@ ghost use Rattle.std.specs.Option.{option_map};
 ghost use Rattle.babel_capture.specs.declared.missed.Missed.{Missed as MissedSaid};
 ghost use Rattle.babel_capture.specs.Counts.{Made};
 ghost use Rattle.babel_capture.specs.Sinking.{IsTold, missed_said};
-ghost use Rattle.babel_timeline.specs.Hearing.{report_of};
+ghost use Rattle.babel_timeline.specs.Hearing.{octets_heard, report_of};
 ghost use Rattle.babel_timeline.specs.declared.telling.Telling.{Telling as TellingSaid};
 ghost use Rattle.babel_dump.specs.EventsRun.{is_from, is_of, requests_asked, requests_made};
 ghost use Rattle.babel_dump.specs.EventsRun.{told_from};
@@ -18,13 +18,15 @@ ghost use Rattle.babel_dump.specs.declared.speaker.Speaker.{Speaker as SpeakerSa
 use crate::addr_pair::AddrPair;
 use crate::events_job::Events;
 use crate::factor::Factor;
+use crate::left_out::LeftOutDatagram;
 use crate::push_event::speaker_of;
+use crate::remarks::Remarks;
 use crate::since::Since;
 use crate::speaker::Speaker;
 use babel_capture::{BabelPacket, Missed, Origin, Record, Said, Time};
 use babel_prefix::Addr;
 use babel_table::Report;
-use babel_timeline::{Teller, Telling, tell_requests};
+use babel_timeline::{Teller, Telling, tell_requests, unicast};
 use babel_tlv::{Fault as DumpFault, Start};
 use std::alloc::{AllocError, Global};
 use std::collections::BTreeSet;
@@ -46,15 +48,6 @@ impl From<AllocError> for Unheard {
     fn from(_error: AllocError) -> Unheard {
         Unheard::Memory
     }
-}
-
-/// By what a sender was lost.
-#[derive(Clone, Copy)]
-pub(crate) struct LostBy {
-    /// The datagram that was left out.
-    pub missed: Missed,
-    /// The number of its packet in the capture, from 1.
-    pub packet: u64,
 }
 
 /// What was heard of the senders of a capture.
@@ -91,6 +84,13 @@ impl Hearing {
             heard: Vec::new(alloc),
             printed: Vec::new(alloc),
         }
+    }
+
+    /// How many octets were heard of a sender.
+    pub(crate) fn octets(&self, speaker: Speaker) -> u64
+        ensures { result ≡ octets_heard speaker_cmp self.now.teller.heard.entries speaker }
+    {
+        self.teller.octets(speaker)
     }
 
     /// How many TLVs were heard of a sender, and which of them were ignored.
@@ -238,14 +238,23 @@ impl Hearing {
     ) -> Result<(), AllocError>
         ensures { OnOk result (told.new.items ≡ told.old.items ++ unlost_by self.now.lost
             (told_from self.now.since.moment
-            (requests_asked events.now time packet.now.origin packet.now.octets.now))) }
+            (requests_asked events.now time packet.now.origin packet.now.destination
+            packet.now.octets.now))) }
     {
         let Origin { place, sender } = packet.origin;
         let speaker = Speaker { sender, place };
         if !self.tells_requests(events, time, &speaker) {
             return Ok(());
         }
-        tell_requests(events.limits.via_v6(), speaker, time, packet.octets, told)
+        let to = unicast(packet.destination);
+        tell_requests(
+            events.limits.via_v6(),
+            speaker,
+            &to,
+            time,
+            packet.octets,
+            told,
+        )
     }
 
     /// Whether it is told what a sender requests then: where that is asked for, from the moment on,
@@ -265,8 +274,8 @@ impl Hearing {
     }
 
     /// Tells no more of the sender whose datagram the record left out since it lacks something, if it
-    /// did. Adds by what each sender is lost.
-    pub(crate) fn lose(&mut self, said: &Record<'_>, by: &mut Vec<LostBy>) -> Result<(), AllocError>
+    /// did. Adds by what a sender is lost.
+    pub(crate) fn lose(&mut self, said: &Record<'_>, by: &mut Remarks) -> Result<(), AllocError>
         ensures same { (self.new.teller ≡ self.old.teller) × (self.new.since ≡ self.old.since) }
         ensures lost { OnOk result ((speaker : SpeakerSaid)
             → contains speaker_cmp self.new.lost speaker
@@ -276,13 +285,12 @@ impl Hearing {
         let Said::Missed(missed) = &said.said else {
             return Ok(());
         };
-        let Origin { place, sender } = missed.origin;
+        let Missed { origin, reason } = *missed;
+        let Origin { place, sender } = origin;
         match self.lost.insert(Speaker { sender, place }) {
             Ok(true) => {
-                by.push(LostBy {
-                    missed: *missed,
-                    packet: said.number,
-                })?;
+                let packet = said.number;
+                by.lost(origin, LeftOutDatagram { packet, reason })?;
                 Ok(())
             }
             Ok(false) => Ok(()),

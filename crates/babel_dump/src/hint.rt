@@ -112,18 +112,23 @@ impl Hint {
     ) -> Option<Hint> {
         match (asked, reason) {
             (_, Reason::UnknownEncoding) if ignores_encoding_4 => {
-                if asked.limits()?.via_v6() {
-                    None
-                } else {
-                    Some(Hint::Text(
-                        "unknown-encoding usually means IPv4 routes with IPv6 next hops (AE 4, RFC \
-                         9229), which --v4-via-v6 reads: IPv4 answers can be missing or stale",
-                    ))
-                }
+                Hint::of_encoding_4(asked.limits()?.via_v6())
             }
             (Asked::Job(_), Reason::NoNextHop) => Some(Hint::NoNextHop(side.option())),
             _ => None,
         }
+    }
+
+    /// What to know about Updates that were ignored because their encoding is 4: the option that
+    /// reads these, if it is not set.
+    pub(crate) fn of_encoding_4(via_v6: bool) -> Option<Hint> {
+        if via_v6 {
+            return None;
+        }
+        Some(Hint::Text(
+            "unknown-encoding usually means IPv4 routes with IPv6 next hops (AE 4, RFC 9229), which \
+             --v4-via-v6 reads: IPv4 answers can be missing or stale",
+        ))
     }
 
     /// What can be done about what a note tells of a capture.
@@ -154,7 +159,8 @@ impl Hint {
     /// What to know about the offset that a fault of this sender's TLVs tells.
     pub fn of_offset_in(origin: Origin, fault: &InputFault) -> Option<Hint> {
         match fault {
-            InputFault::Dump(Fault::Memory) => None,
+            InputFault::Dump(Fault::Memory) | InputFault::LeftOut(_) | InputFault::NoUpdates =>
+                None,
             _ => Some(Hint::OffsetIn(origin)),
         }
     }

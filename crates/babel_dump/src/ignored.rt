@@ -1,6 +1,6 @@
 ghost use Rattle.std.specs.Prelude.{◌≡◌, IfSome};
 ghost use Rattle.std.specs.Option.{IfNone};
-ghost use Rattle.babel_dump.specs.Ignored.{IgnoresNone, first_ignored};
+ghost use Rattle.babel_dump.specs.Ignored.{IgnoresNone, first_ignored, newly_ignored};
 
 use crate::by_reason::{CountedReason, first_of};
 use crate::reason_text::REASONS;
@@ -21,6 +21,18 @@ impl fmt::Display for IgnoredTlv {
     fn fmt<W: fmt::Write>(&self, f: &mut fmt::Formatter<W>) -> fmt::Result {
         write!(f, "ignored TLV at {}: {}", self.at, self.reason.name())
     }
+}
+
+/// The first TLV that was ignored for a reason, where by the one report of a sender none was, and by
+/// the other one was.
+pub(crate) fn newly_ignored(before: &Report, now: &Report, reason: Reason) -> Option<IgnoredTlv>
+    ensures { result ≡ newly_ignored before.now now.now reason }
+{
+    if before.ignored(reason).is_some() {
+        return None;
+    }
+    let (_count, at) = now.ignored(reason)?;
+    Some(IgnoredTlv { at, reason })
 }
 
 /// The first TLV of a dump that was ignored, by its offset.

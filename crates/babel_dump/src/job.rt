@@ -45,6 +45,8 @@ pub enum Work {
         source: DumpSource,
         /// Where the pairs are read from: PAIRS.
         pairs: DumpFile,
+        /// Whether the rows that answer are written: `--with-prefix`.
+        with_prefix: bool,
     },
     /// Two dumps are read.
     Two {
@@ -80,9 +82,16 @@ pub enum Task {
         summary: bool,
     },
     /// `lookup`: what it answers for two addresses.
-    Lookup(AddrPair),
+    Lookup {
+        pair: AddrPair,
+        /// Whether the row that answers is written: `--with-prefix`.
+        with_prefix: bool,
+    },
     /// `lookup` without `--src`: what it answers for a destination, from 0.0.0.0 or ::.
-    AnySource(Addr),
+    AnySource {
+        dst: Addr,
+        with_prefix: bool,
+    },
     /// `normalise`: its canonical octets, or its route octets.
     Normalise {
         form: Form,

@@ -8,7 +8,7 @@ ghost use Rattle.babel_dump.specs.JobRun.{RanJob, capture_of};
 ghost use Rattle.babel_dump.specs.Parts.{FoundBy, FoundIn, Gathered, GaveSeen, Says};
 ghost use Rattle.babel_dump.specs.Run.{Called, InputCause, OfFirst, OfOther, calls_of};
 ghost use Rattle.babel_dump.specs.Run.{output, ran_outcome, stream_calls};
-ghost use Rattle.babel_dump.specs.RunText.{answer_in};
+ghost use Rattle.babel_dump.specs.RunText.{row_in};
 ghost use Rattle.babel_dump.specs.Tasks.{ComparisonCause, ComparisonSays, IsFaultOf, TaskSays};
 
 use crate::addr_pair::AddrPair;
@@ -94,7 +94,11 @@ fn find<R: ByteIn, S: ByteIn>(
     let (format, quiet) = (job.format, job.quiet);
     match &job.work {
         Work::Dump { source, task } => find_of_dump(alloc, source, *task, format, quiet, reader),
-        Work::Each { source, .. } => find_each(alloc, source.reading, format, reader, other),
+        Work::Each {
+            source,
+            with_prefix,
+            ..
+        } => find_each(alloc, source.reading, *with_prefix, format, reader, other),
         Work::Two {
             first,
             other: second,
@@ -122,8 +126,8 @@ pub(crate) fn find_of_dump<R: ByteIn>(
         Gathered (calls_of dump) (OfFirst (InputCause dump (IsFaultOf task dump)))
         (Says (TaskSays task format quiet (name_of source.now.file) dump)) result }
 {
-    if let Task::Lookup(pair) = task {
-        return find_answer(alloc, source.reading, pair, format, reader);
+    if let Task::Lookup { pair, with_prefix } = task {
+        return find_answer(alloc, source.reading, pair, with_prefix, format, reader);
     }
     let (table, notes) = read_table(alloc, source.reading, reader)?;
     let found = found_of(alloc, source, task, format, quiet, table)?;
@@ -135,17 +139,18 @@ fn find_answer<R: ByteIn>(
     alloc: Global,
     reading: Reading,
     pair: AddrPair,
+    with_prefix: bool,
     format: Format,
     reader: &mut R,
 ) -> Result<Found, RunFault>
     requires { HasRoomToCount (R.state reader.old) }
     ensures { let dump = read_from (R.state reader.old) (R.state reader.new) reading in
         Gathered (calls_of dump) (OfFirst (InputCause dump (IsFaultOfGiven dump)))
-        (Says (SaysOf dump (λ table. LooksUp format pair.dst pair.src table.report
-        (answer_in table pair.dst pair.src)))) result }
+        (Says (SaysOf dump (λ table. LooksUp format with_prefix pair.dst pair.src table.report
+        (row_in table pair.dst pair.src)))) result }
 {
     let read = look_up(alloc, reading, &pair, reader)?;
-    let found = found_answer(alloc, pair, format, &read.0)?;
+    let found = found_answer(alloc, pair, with_prefix, format, &read.0)?;
     Ok(found.beside(read.1, None))
 }
 
@@ -154,6 +159,7 @@ fn find_answer<R: ByteIn>(
 fn find_each<R: ByteIn, S: ByteIn>(
     alloc: Global,
     reading: Reading,
+    with_prefix: bool,
     format: Format,
     reader: &mut R,
     pairs: &mut S,
@@ -162,13 +168,13 @@ fn find_each<R: ByteIn, S: ByteIn>(
     requires pairs { HasRoomToCount (S.state pairs.old) }
     ensures gathered { let dump = read_from (R.state reader.old) (R.state reader.new) reading in
         let asked = read_from (S.state pairs.old) (S.state pairs.new) reading in
-        Gathered (calls_of dump) (EachCause dump asked) (Says (LooksUpAsked dump asked format))
-        result }
+        Gathered (calls_of dump) (EachCause dump asked)
+        (Says (LooksUpAsked dump asked format with_prefix)) result }
     ensures pairs_calls { Called (stream_calls
         (read_from (S.state pairs.old) (S.state pairs.new) reading)) result }
 {
     let asked = read_pairs(alloc, Reading { ..reading }, pairs)?;
-    find_answers(alloc, reading, format, &asked, reader)
+    find_answers(alloc, reading, with_prefix, format, &asked, reader)
 }
 
 /// Reads a dump to its end, or to its first fault, and finds what it answers for each of these
@@ -176,6 +182,7 @@ fn find_each<R: ByteIn, S: ByteIn>(
 fn find_answers<R: ByteIn>(
     alloc: Global,
     reading: Reading,
+    with_prefix: bool,
     format: Format,
     asked: &[AddrPair],
     reader: &mut R,
@@ -183,10 +190,10 @@ fn find_answers<R: ByteIn>(
     requires { HasRoomToCount (R.state reader.old) }
     ensures { let dump = read_from (R.state reader.old) (R.state reader.new) reading in
         Gathered (calls_of dump) (OfFirst (InputCause dump (IsFaultOfGiven dump)))
-        (Says (SaysOf dump (LooksUpEach format asked.now))) result }
+        (Says (SaysOf dump (LooksUpEach format with_prefix asked.now))) result }
 {
     let (table, notes) = read_table(alloc, reading, reader)?;
-    let found = found_answers(alloc, format, asked, &table)?;
+    let found = found_answers(alloc, with_prefix, format, asked, &table)?;
     Ok(found.beside(notes, None))
 }
 

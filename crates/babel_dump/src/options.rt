@@ -325,6 +325,12 @@ pub(crate) static READ: &[OptionRow] = &[
         ..STRICT
     },
     OptionRow {
+        help: "Stop with an error at the first ignored TLV or left-out datagram, or, at the end, if \
+               a sender has no Update",
+        commands: &["events"],
+        ..STRICT
+    },
+    OptionRow {
         id: "v4-via-v6",
         help: "Read IPv4 routes with an IPv6 next hop (address encoding 4, RFC 9229)",
         commands: &[
@@ -479,6 +485,12 @@ pub(crate) static PRINTED: &[OptionRow] = &[
         id: "count",
         help: "Print only how many rows and how many canonical pairs there are",
         commands: &["pairs"],
+        ..FLAG
+    },
+    OptionRow {
+        id: "with-prefix",
+        help: "Print the route that answers, with its destination and source prefixes",
+        commands: &["lookup"],
         ..FLAG
     },
 ];

@@ -16,7 +16,7 @@ use crate::push::{
     push_sender_end, push_sender_front, push_text,
 };
 use crate::push_json::{
-    push_answered, push_count_json, push_counts_json, push_differ_json, push_pair_json,
+    push_count_json, push_counts_json, push_differ_json, push_lookup_json, push_pair_json,
     push_sender_end_json, push_sender_front_json,
 };
 use crate::push_report::{push_report, push_report_json};
@@ -44,7 +44,24 @@ pub(crate) trait Line: Copy {
 #[derive(Clone, Copy)]
 pub(crate) struct Answered {
     pub pair: AddrPair,
-    pub held: Option<Held>,
+    /// The row that answers, if a row does.
+    pub row: Option<(Key, Held)>,
+    /// Whether the row is written, and not only what it holds.
+    pub with_prefix: bool,
+}
+
+impl Answered {
+    ghost use Rattle.babel_table.specs.RowFor.{held_of};
+
+    /// The answer: what the row holds.
+    pub fn held(&self) -> Option<Held>
+        ensures { result ≡ held_of self.now.row }
+    {
+        match self.row {
+            Some((_, held)) => Some(held),
+            None => None,
+        }
+    }
 }
 
 impl Line for Answered {
@@ -53,17 +70,9 @@ impl Line for Answered {
     ghost text = { λ format view answered. answered_in format answered };
 
     fn push(self, buffer: &mut Vec<u8>, format: Format, _view: View) {
-        let Answered { pair, held } = self;
         match format {
-            Format::Text(spelling) => push_answer_line(buffer, spelling, pair, held),
-            Format::Json(spelling) => push_answered(
-                buffer,
-                spelling,
-                View::all(),
-                pair.dst,
-                pair.src,
-                held,
-            ),
+            Format::Text(spelling) => push_answer_line(buffer, spelling, &self),
+            Format::Json(spelling) => push_lookup_json(buffer, spelling, &self),
         }
     }
 }
@@ -203,22 +212,15 @@ pub(crate) fn counts_output(
 pub(crate) fn lookup_output(
     alloc: Global,
     format: Format,
-    pair: AddrPair,
-    answer: Option<Held>,
+    answered: Answered,
 ) -> Result<Vec<u8>, AllocError>
-    ensures { IfOk result (λ text. text.items ≡ lookup_in format pair.dst pair.src answer) }
+    ensures { IfOk result (λ text. text.items ≡ lookup_in format answered.with_prefix
+        answered.pair.dst answered.pair.src answered.row) }
 {
     let mut text = Vec::with_capacity(alloc, LONGEST_TEXT)?;
     match format {
-        Format::Text(spelling) => push_lookup(&mut text, spelling, answer),
-        Format::Json(spelling) => push_answered(
-            &mut text,
-            spelling,
-            View::all(),
-            pair.dst,
-            pair.src,
-            answer,
-        ),
+        Format::Text(spelling) => push_lookup(&mut text, spelling, &answered),
+        Format::Json(spelling) => push_lookup_json(&mut text, spelling, &answered),
     }
     Ok(text)
 }

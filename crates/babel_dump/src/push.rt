@@ -1,17 +1,17 @@
 //! Lines, appended octet by octet to a buffer that has room for them, with no formatter between.
 ghost use Rattle.std.specs.Prelude.{◌≡◌, ◌+◌, ◌∷◌, [], ◌++◌, ◌*◌, ◌≤◌, if◌then◌else◌, length};
 ghost use Rattle.std.specs.Fmt.{decimal};
-ghost use Rattle.babel_tlv.specs.Views.{keeps_all};
 ghost use Rattle.babel_dump.specs.CaptureText.{interval_text, link_text, marked, octet_text};
 ghost use Rattle.babel_dump.specs.CaptureText.{seconds_text, sender_end, sender_front};
 ghost use Rattle.babel_dump.specs.RunText.{announcement_text, answer_line, answer_text};
 ghost use Rattle.babel_dump.specs.RunText.{counts_text, count_text, differ_lines};
 ghost use Rattle.babel_dump.specs.RunText.{held_text, kept_text, newline, pair_line, pair_text};
+ghost use Rattle.babel_dump.specs.RunText.{row_text};
 ghost use Rattle.babel_dump.specs.Slices.{HasRoom, TookRoom};
 ghost use Rattle.babel_dump.specs.Spelling.{address_text};
 ghost use Rattle.babel_dump.specs.TextParts.{hex_digits, nonzero};
 
-use crate::addr_pair::AddrPair;
+use crate::output::Answered;
 use crate::push_addr::{Shown, push_addr, push_from, push_prefix};
 use crate::push_time::{push_time_or, push_two_digits};
 use crate::spelling::Spelling;
@@ -49,34 +49,44 @@ pub(crate) fn push_pair(buffer: &mut Vec<u8>, spelling: Spelling, view: View, ke
 }
 
 /// Appends what is answered for a destination and a source.
-pub(crate) fn push_answer_line(
-    buffer: &mut Vec<u8>,
-    spelling: Spelling,
-    pair: AddrPair,
-    answer: Option<Held>,
-)
-    requires { HasRoom buffer.old 174 }
-    ensures text { buffer.new.items
-        ≡ buffer.old.items ++ answer_line spelling pair.dst pair.src answer }
-    ensures room { TookRoom buffer.old buffer.new 174 }
+pub(crate) fn push_answer_line(buffer: &mut Vec<u8>, spelling: Spelling, answered: &Answered)
+    requires { HasRoom buffer.old 271 }
+    ensures text { buffer.new.items ≡ buffer.old.items ++ answer_line spelling
+        answered.now.with_prefix answered.now.pair.dst answered.now.pair.src answered.now.row }
+    ensures room { TookRoom buffer.old buffer.new 271 }
 {
-    push_addr(buffer, spelling, pair.dst);
+    push_addr(buffer, spelling, answered.pair.dst);
     push_text(buffer, " from ");
-    push_addr(buffer, spelling, pair.src);
+    push_addr(buffer, spelling, answered.pair.src);
     push_octet(buffer, b' ');
-    push_answer(buffer, spelling, View::all(), answer);
-    push_octet(buffer, b'\n');
+    push_lookup(buffer, spelling, answered);
 }
 
 /// Appends the line of a lookup's answer.
-pub(crate) fn push_lookup(buffer: &mut Vec<u8>, spelling: Spelling, answer: Option<Held>)
-    requires { HasRoom buffer.old 89 }
-    ensures text { buffer.new.items
-        ≡ buffer.old.items ++ (answer_text spelling keeps_all answer ++ newline) }
-    ensures room { TookRoom buffer.old buffer.new 89 }
+pub(crate) fn push_lookup(buffer: &mut Vec<u8>, spelling: Spelling, answered: &Answered)
+    requires { HasRoom buffer.old 186 }
+    ensures text { buffer.new.items ≡ buffer.old.items
+        ++ (row_text spelling answered.now.with_prefix answered.now.row ++ newline) }
+    ensures room { TookRoom buffer.old buffer.new 186 }
 {
-    push_answer(buffer, spelling, View::all(), answer);
+    push_row(buffer, spelling, answered);
     push_octet(buffer, b'\n');
+}
+
+/// Appends the row that answers, or only what it holds.
+fn push_row(buffer: &mut Vec<u8>, spelling: Spelling, answered: &Answered)
+    requires { HasRoom buffer.old 185 }
+    ensures text { buffer.new.items
+        ≡ buffer.old.items ++ row_text spelling answered.now.with_prefix answered.now.row }
+    ensures room { TookRoom buffer.old buffer.new 185 }
+{
+    if !answered.with_prefix {
+        return push_answer(buffer, spelling, View::all(), answered.held());
+    }
+    match answered.row {
+        Some((key, held)) => push_pair(buffer, spelling, View::all(), key, held),
+        None => push_text(buffer, "none"),
+    }
 }
 
 /// Appends what two tables answer for a destination and a source, under a view: three lines.

@@ -21,9 +21,9 @@ pub(crate) trait Shown: Copy {
     ghost from: { Spelling → Self → List ℕ };
 
     fn push(self, buffer: &mut Vec<u8>, spelling: Spelling)
-        requires { HasRoom buffer.old 45 }
+        requires { HasRoom buffer.old 43 }
         ensures text { buffer.new.items ≡ buffer.old.items ++ text spelling self }
-        ensures room { TookRoom buffer.old buffer.new 45 };
+        ensures room { TookRoom buffer.old buffer.new 43 };
 
     /// Appends ` from ` and this source, where it is shown.
     fn push_from(self, buffer: &mut Vec<u8>, spelling: Spelling)
@@ -82,9 +82,9 @@ pub(crate) fn push_from(buffer: &mut Vec<u8>, spelling: Spelling, src: Prefix)
 
 /// Appends the address, `/`, and the length in decimal.
 pub(crate) fn push_prefix(buffer: &mut Vec<u8>, spelling: Spelling, prefix: Prefix)
-    requires { HasRoom buffer.old 45 }
+    requires { HasRoom buffer.old 43 }
     ensures text { buffer.new.items ≡ buffer.old.items ++ prefix_text spelling prefix }
-    ensures room { TookRoom buffer.old buffer.new 45 }
+    ensures room { TookRoom buffer.old buffer.new 43 }
 {
     push_addr(buffer, spelling, prefix.addr());
     push_octet(buffer, b'/');

@@ -1,26 +1,27 @@
 //! Lines of `events`, part by part, appended to a buffer that has room for them.
 ghost use Rattle.std.specs.Prelude.{◌≡◌, ◌+◌, ◌++◌, ◌≤◌, length};
 ghost use Rattle.babel_timeline.specs.Changes.{held_after, held_before};
-ghost use Rattle.babel_dump.specs.EventText.{after_text, answers_json, asked_json, event_end};
+ghost use Rattle.babel_dump.specs.EventText.{after_text, ann_of, answers_json, asked_json};
+ghost use Rattle.babel_dump.specs.EventText.{best_text, event_end, route_json};
 ghost use Rattle.babel_dump.specs.EventText.{event_end_json, event_front, event_front_json};
 ghost use Rattle.babel_dump.specs.EventText.{held_from, held_until, interface_text, kind_verb};
-ghost use Rattle.babel_dump.specs.EventText.{speaker_of};
+ghost use Rattle.babel_dump.specs.EventText.{silence_json, silence_text, speaker_of};
 ghost use Rattle.babel_dump.specs.EventText.{tells_place, time_of, told_json, told_text, verb};
 ghost use Rattle.babel_dump.specs.Slices.{HasRoom, TookRoom};
 
 use crate::addr_pair::AddrPair;
-use crate::push::{
-    push_announcement, push_answer, push_decimal, push_link, push_marked, push_octet, push_text,
-};
+use crate::push::{push_announcement, push_decimal, push_link, push_marked, push_octet, push_text};
 use crate::push_addr::push_addr;
 use crate::push_json::{push_addressed, push_answer_json, push_place_json};
-use crate::push_request::{push_key, push_request, push_request_json};
+use crate::push_request::{
+    push_key, push_key_json, push_request, push_request_json, push_to, push_to_json,
+};
 use crate::push_time::{push_time_json, push_time_or};
 use crate::push_was::push_was;
 use crate::speaker::Speaker;
 use crate::spelling::Spelling;
 use babel_capture::{Place, Time};
-use babel_timeline::{ChangeKind, Telling};
+use babel_timeline::{BestMatch, ChangeKind, Telling};
 use babel_tlv::{Ann, Held, View};
 
 /// Appends a line of text up to the name of the interface.
@@ -88,14 +89,14 @@ pub(crate) fn push_event_end_json(
     pair: Option<AddrPair>,
     told: &Telling<Speaker>,
 )
-    requires { HasRoom buffer.old 389 }
+    requires { HasRoom buffer.old 510 }
     ensures text { buffer.new.items
         ≡ buffer.old.items ++ event_end_json spelling view pair told.now }
-    ensures room { TookRoom buffer.old buffer.new 389 }
+    ensures room { TookRoom buffer.old buffer.new 510 }
 {
     push_text(buffer, r#","event":""#);
     push_text(buffer, verb(told));
-    push_text(buffer, r#"","#);
+    push_text(buffer, "\"");
     push_told_json(buffer, spelling, view, pair, told);
     push_text(buffer, "}");
     push_octet(buffer, b'\n');
@@ -108,6 +109,7 @@ pub(crate) fn time_of(told: &Telling<Speaker>) -> u128
     match told {
         Telling::Change(change) => change.time,
         Telling::Answer { time, .. } | Telling::Request { time, .. } => *time,
+        Telling::Silent { time, .. } | Telling::Returns { time, .. } => *time,
     }
 }
 
@@ -118,6 +120,7 @@ pub(crate) fn speaker_of(told: &Telling<Speaker>) -> Speaker
     match told {
         Telling::Change(change) => change.subject.sender,
         Telling::Answer { sender, .. } | Telling::Request { sender, .. } => *sender,
+        Telling::Silent { sender, .. } | Telling::Returns { sender, .. } => *sender,
     }
 }
 
@@ -127,8 +130,9 @@ fn held_from(told: &Telling<Speaker>) -> Option<Held>
 {
     let answer = match told {
         Telling::Change(change) => held_after(change.kind),
-        Telling::Answer { answer, .. } => *answer,
+        Telling::Answer { answer, .. } => ann_of(answer),
         Telling::Request { .. } => None,
+        Telling::Silent { .. } | Telling::Returns { .. } => None,
     };
     Some(Held::Route(answer?))
 }
@@ -139,10 +143,21 @@ fn held_until(told: &Telling<Speaker>) -> Option<Held>
 {
     let answer = match told {
         Telling::Change(change) => held_before(change.kind),
-        Telling::Answer { before, .. } => *before,
+        Telling::Answer { before, .. } => ann_of(before),
         Telling::Request { .. } => None,
+        Telling::Silent { .. } | Telling::Returns { .. } => None,
     };
     Some(Held::Route(answer?))
+}
+
+/// What is announced for a best match.
+fn ann_of(best: &Option<BestMatch>) -> Option<Ann>
+    ensures { result ≡ ann_of best.now }
+{
+    match best {
+        Some(best) => Some(best.ann),
+        None => None,
+    }
 }
 
 /// What is held after a change.
@@ -175,6 +190,8 @@ fn verb(told: &Telling<Speaker>) -> &'static str
         Telling::Change(change) => kind_verb(change.kind),
         Telling::Answer { .. } => "answers",
         Telling::Request { .. } => "requests",
+        Telling::Silent { .. } => "silent",
+        Telling::Returns { .. } => "returns",
     }
 }
 
@@ -222,12 +239,54 @@ fn push_told(buffer: &mut Vec<u8>, spelling: Spelling, view: View, told: &Tellin
             push_after(buffer, spelling, view, held_after(change.kind));
             push_was(buffer, spelling, change.kind);
         }
-        Telling::Answer { .. } => {
-            push_text(buffer, " ");
-            push_answer(buffer, spelling, view, held_from(told));
+        Telling::Answer { answer, .. } => push_best(buffer, spelling, view, answer),
+        Telling::Request { to, request, .. } => {
+            push_to(buffer, spelling, *to);
+            push_request(buffer, spelling, request);
         }
-        Telling::Request { request, .. } => push_request(buffer, spelling, request),
+        Telling::Silent { since, routes, .. } => push_silence(buffer, *since, *routes),
+        Telling::Returns { .. } => {}
     }
+}
+
+/// Appends the route that answers, under a view, or `none`.
+fn push_best(buffer: &mut Vec<u8>, spelling: Spelling, view: View, best: &Option<BestMatch>)
+    requires { HasRoom buffer.old 186 }
+    ensures text { buffer.new.items ≡ buffer.old.items ++ best_text spelling view best.now }
+    ensures room { TookRoom buffer.old buffer.new 186 }
+{
+    match best {
+        Some(best) => {
+            push_key(buffer, spelling, best.key);
+            push_after(buffer, spelling, view, Some(best.ann));
+        }
+        None => push_text(buffer, " none"),
+    }
+}
+
+/// Appends since when a sender is silent, and how many routes it holds.
+fn push_silence(buffer: &mut Vec<u8>, since: u128, routes: usize)
+    requires { HasRoom buffer.old 74 }
+    ensures text { buffer.new.items ≡ buffer.old.items ++ silence_text since routes }
+    ensures room { TookRoom buffer.old buffer.new 74 }
+{
+    push_text(buffer, " since ");
+    push_time_or(buffer, Time::new(since));
+    push_text(buffer, ", holding ");
+    push_decimal(buffer, routes);
+    push_text(buffer, if routes == 1 { " route" } else { " routes" });
+}
+
+/// Appends the same: two members of an object.
+fn push_silence_json(buffer: &mut Vec<u8>, since: u128, routes: usize)
+    requires { HasRoom buffer.old 71 }
+    ensures text { buffer.new.items ≡ buffer.old.items ++ silence_json since routes }
+    ensures room { TookRoom buffer.old buffer.new 71 }
+{
+    push_text(buffer, r#","since":"#);
+    push_time_json(buffer, Time::new(since));
+    push_text(buffer, r#","routes":"#);
+    push_decimal(buffer, routes);
 }
 
 /// Appends what is held after a change, under a view, or nothing where nothing is.
@@ -251,21 +310,30 @@ fn push_told_json(
     pair: Option<AddrPair>,
     told: &Telling<Speaker>,
 )
-    requires { HasRoom buffer.old 366 }
+    requires { HasRoom buffer.old 488 }
     ensures text { buffer.new.items ≡ buffer.old.items ++ told_json spelling view pair told.now }
-    ensures room { TookRoom buffer.old buffer.new 366 }
+    ensures room { TookRoom buffer.old buffer.new 488 }
 {
     match told {
         Telling::Change(change) => {
             let key = change.subject.key;
+            push_text(buffer, ",");
             push_addressed(buffer, spelling, key.dst(), key.src());
             push_answers(buffer, spelling, view, told);
         }
-        Telling::Answer { .. } => {
+        Telling::Answer { answer, .. } => {
+            push_text(buffer, ",");
             push_asked(buffer, spelling, pair);
+            push_route(buffer, spelling, answer);
             push_answers(buffer, spelling, view, told);
         }
-        Telling::Request { request, .. } => push_request_json(buffer, spelling, request),
+        Telling::Request { to, request, .. } => {
+            push_text(buffer, ",");
+            push_to_json(buffer, spelling, *to);
+            push_request_json(buffer, spelling, request);
+        }
+        Telling::Silent { since, routes, .. } => push_silence_json(buffer, *since, *routes),
+        Telling::Returns { .. } => {}
     }
 }
 
@@ -282,11 +350,27 @@ fn push_answers(buffer: &mut Vec<u8>, spelling: Spelling, view: View, told: &Tel
     push_answer_json(buffer, spelling, view, held_until(told));
 }
 
+/// Appends which route answers, or that none does: a member of an object.
+fn push_route(buffer: &mut Vec<u8>, spelling: Spelling, best: &Option<BestMatch>)
+    requires { HasRoom buffer.old 125 }
+    ensures text { buffer.new.items ≡ buffer.old.items ++ route_json spelling best.now }
+    ensures room { TookRoom buffer.old buffer.new 125 }
+{
+    match best {
+        Some(best) => {
+            push_text(buffer, r#","route":{"#);
+            push_key_json(buffer, spelling, best.key);
+            push_text(buffer, "}");
+        }
+        None => push_text(buffer, r#","route":null"#),
+    }
+}
+
 /// Appends the destination and the source that are asked for: two members of an object.
 fn push_asked(buffer: &mut Vec<u8>, spelling: Spelling, pair: Option<AddrPair>)
-    requires { HasRoom buffer.old 118 }
+    requires { HasRoom buffer.old 114 }
     ensures text { buffer.new.items ≡ buffer.old.items ++ asked_json spelling pair }
-    ensures room { TookRoom buffer.old buffer.new 118 }
+    ensures room { TookRoom buffer.old buffer.new 114 }
 {
     match pair {
         Some(pair) => push_addressed(buffer, spelling, pair.dst, pair.src),

@@ -5,11 +5,14 @@ ghost use Rattle.hex.specs.Hex.{encode_lower};
 ghost use Rattle.babel_dump.specs.CaptureText.{interval_json, number_json, place_json};
 ghost use Rattle.babel_dump.specs.CaptureText.{sender_end_json, sender_front_json, vlans_json};
 ghost use Rattle.babel_dump.specs.JsonText.{addressed_json, announcement_json, answer_json};
-ghost use Rattle.babel_dump.specs.JsonText.{answered_line, counts_json, differ_json};
-ghost use Rattle.babel_dump.specs.JsonText.{count_json, kept_json, pair_json, quoted};
+ghost use Rattle.babel_dump.specs.JsonText.{answered_front, counts_json, differ_json};
+ghost use Rattle.babel_dump.specs.JsonText.{count_json, kept_json, lookup_json, pair_json, quoted};
+ghost use Rattle.babel_dump.specs.JsonText.{route_json, route_member};
 ghost use Rattle.babel_dump.specs.Slices.{HasRoom, TookRoom};
 ghost use Rattle.babel_dump.specs.Spelling.{address_text};
 
+use crate::addr_pair::AddrPair;
+use crate::output::Answered;
 use crate::push::{
     push_decimal, push_marked, push_number, push_octet, push_router_id, push_seconds, push_text,
 };
@@ -33,10 +36,54 @@ pub(crate) fn push_pair_json(
     ensures room { TookRoom buffer.old buffer.new 245 }
 {
     push_answered(buffer, spelling, view, key.dst(), key.src(), Some(held));
+    push_text(buffer, "}\n");
 }
 
-/// Appends what is answered for a destination and a source, under a view: an object.
-pub(crate) fn push_answered<A: Shown>(
+/// Appends what is answered by a row for a destination and a source: an object.
+pub(crate) fn push_lookup_json(buffer: &mut Vec<u8>, spelling: Spelling, answered: &Answered)
+    requires { HasRoom buffer.old 374 }
+    ensures text { buffer.new.items ≡ buffer.old.items ++ lookup_json spelling
+        answered.now.with_prefix answered.now.pair.dst answered.now.pair.src answered.now.row }
+    ensures room { TookRoom buffer.old buffer.new 374 }
+{
+    let held = answered.held();
+    let AddrPair { dst, src } = answered.pair;
+    push_answered(buffer, spelling, View::all(), dst, src, held);
+    push_route_member(buffer, spelling, answered);
+    push_text(buffer, "}\n");
+}
+
+/// Appends the prefixes of the row that answers, where they are asked for: a member of an object.
+fn push_route_member(buffer: &mut Vec<u8>, spelling: Spelling, answered: &Answered)
+    requires { HasRoom buffer.old 129 }
+    ensures text { buffer.new.items
+        ≡ buffer.old.items ++ route_member spelling answered.now.with_prefix answered.now.row }
+    ensures room { TookRoom buffer.old buffer.new 129 }
+{
+    if answered.with_prefix {
+        push_text(buffer, r#","route":"#);
+        push_route_json(buffer, spelling, answered.row);
+    }
+}
+
+/// Appends the prefixes of a row: an object, or `null`.
+fn push_route_json(buffer: &mut Vec<u8>, spelling: Spelling, row: Option<(Key, Held)>)
+    requires { HasRoom buffer.old 120 }
+    ensures text { buffer.new.items ≡ buffer.old.items ++ route_json spelling row }
+    ensures room { TookRoom buffer.old buffer.new 120 }
+{
+    match row {
+        Some((key, _)) => {
+            push_text(buffer, "{");
+            push_addressed(buffer, spelling, key.dst(), key.src());
+            push_text(buffer, "}");
+        }
+        None => push_text(buffer, "null"),
+    }
+}
+
+/// Appends what is answered for a destination and a source, under a view: the front of an object.
+fn push_answered<A: Shown>(
     buffer: &mut Vec<u8>,
     spelling: Spelling,
     view: View,
@@ -44,17 +91,15 @@ pub(crate) fn push_answered<A: Shown>(
     src: A,
     answer: Option<Held>,
 )
-    requires { HasRoom buffer.old 245 }
+    requires { HasRoom buffer.old 243 }
     ensures text { buffer.new.items ≡ buffer.old.items
-        ++ answered_line spelling view (A.text spelling dst) (A.text spelling src) answer }
-    ensures room { TookRoom buffer.old buffer.new 245 }
+        ++ answered_front spelling view (A.text spelling dst) (A.text spelling src) answer }
+    ensures room { TookRoom buffer.old buffer.new 243 }
 {
     push_text(buffer, "{");
     push_addressed(buffer, spelling, dst, src);
     push_text(buffer, r#","answer":"#);
     push_answer_json(buffer, spelling, view, answer);
-    push_text(buffer, "}");
-    push_octet(buffer, b'\n');
 }
 
 /// Appends what two tables answer for a destination and a source, under a view: an object.
@@ -197,10 +242,10 @@ fn push_number_json(buffer: &mut Vec<u8>, link: Option<u32>)
 
 /// Appends a destination and a source: two members of an object.
 pub(crate) fn push_addressed<A: Shown>(buffer: &mut Vec<u8>, spelling: Spelling, dst: A, src: A)
-    requires { HasRoom buffer.old 118 }
+    requires { HasRoom buffer.old 114 }
     ensures text { buffer.new.items
         ≡ buffer.old.items ++ addressed_json (A.text spelling dst) (A.text spelling src) }
-    ensures room { TookRoom buffer.old buffer.new 118 }
+    ensures room { TookRoom buffer.old buffer.new 114 }
 {
     push_text(buffer, r#""destination":""#);
     dst.push(buffer, spelling);

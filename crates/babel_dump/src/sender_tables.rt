@@ -137,7 +137,7 @@ impl<'a> SenderTables<'a> {
                     Ok(())
                 }
             }
-            Said::Nothing => Ok(()),
+            Said::LeftOut { .. } | Said::Nothing => Ok(()),
         }
     }
 }

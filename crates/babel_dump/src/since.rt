@@ -16,8 +16,7 @@ use crate::moment_words::moment_from;
 use crate::push_event::time_of;
 use crate::speaker::Speaker;
 use babel_capture::{Moment, Time};
-use babel_timeline::Telling;
-use babel_tlv::Ann;
+use babel_timeline::{BestMatch, Telling};
 use std::alloc::{AllocError, Global};
 use std::collections::BTreeMap;
 
@@ -29,7 +28,7 @@ pub(crate) struct Since {
     /// Whether it has come.
     has_come: bool,
     /// What each sender answered last before it.
-    answers: BTreeMap<Speaker, Ann>,
+    answers: BTreeMap<Speaker, BestMatch>,
 }
 
 /// The moment, of a capture whose first packet came then.
@@ -100,7 +99,7 @@ impl Since {
     }
 
     /// Takes what a sender answers.
-    fn put(&mut self, sender: Speaker, answer: Option<Ann>) -> Result<(), AllocError>
+    fn put(&mut self, sender: Speaker, answer: Option<BestMatch>) -> Result<(), AllocError>
         ensures same { (self.new.moment ≡ self.old.moment)
             × (self.new.has_come ≡ self.old.has_come) }
         ensures answers { OnOk result ((speaker : SpeakerSaid)
@@ -109,7 +108,7 @@ impl Since {
             else lookup (is_at (speaker_cmp speaker)) self.old.answers.entries)) }
     {
         match answer {
-            Some(ann) => match self.answers.insert(sender, ann) {
+            Some(best) => match self.answers.insert(sender, best) {
                 Ok(_) => Ok(()),
                 Err(_) => Err(AllocError),
             },
@@ -131,6 +130,8 @@ impl Since {
         match told {
             Telling::Change(_) => Ok(()),
             Telling::Request { .. } => Ok(()),
+            Telling::Silent { .. } => Ok(()),
+            Telling::Returns { .. } => Ok(()),
             Telling::Answer {
                 time,
                 sender,
@@ -165,8 +166,8 @@ impl Since {
         ensures told { OnOk result (told.new.items
             ≡ told.old.items ++ map (answer_told moment) self.now.answers.entries) }
     {
-        for (sender, ann) in self.answers.iter() {
-            Telling::add_route(told, moment, *sender, *ann)?;
+        for (sender, best) in self.answers.iter() {
+            Telling::add_route(told, moment, *sender, best)?;
         }
         Ok(())
     }

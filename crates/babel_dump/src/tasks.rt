@@ -2,7 +2,7 @@
 ghost use Rattle.std.specs.Prelude.{◌≡◌, IfErr, IfOk};
 ghost use Rattle.babel_dump.specs.Files.{name_of};
 ghost use Rattle.babel_dump.specs.Parts.{ComparedTooMany, FoundTooMany, Says};
-ghost use Rattle.babel_dump.specs.RunText.{answer_in};
+ghost use Rattle.babel_dump.specs.RunText.{row_in};
 ghost use Rattle.babel_dump.specs.Tasks.{ComparisonFinds, ComparisonFindsTooMany};
 ghost use Rattle.babel_dump.specs.Tasks.{TaskFinds, TaskFindsTooMany};
 
@@ -45,8 +45,16 @@ pub(crate) fn found_of(
         Task::Show { filter, summary } => {
             Ok(found_rows(alloc, filter, summary, quiet, format, table)?)
         }
-        Task::Lookup(pair) => Ok(found_answer(alloc, pair, format, &answer_of(&table, pair))?),
-        Task::AnySource(dst) => Ok(found_any_source(alloc, dst, format, &table)?),
+        Task::Lookup { pair, with_prefix } => Ok(found_answer(
+            alloc,
+            pair,
+            with_prefix,
+            format,
+            &answer_of(&table, pair),
+        )?),
+        Task::AnySource { dst, with_prefix } => {
+            Ok(found_any_source(alloc, dst, with_prefix, format, &table)?)
+        }
         Task::Normalise {
             form,
             view,
@@ -102,15 +110,15 @@ pub(crate) fn found_of_both(
     }
 }
 
-/// What a table answers for a destination and a source.
+/// The row by which a table answers for a destination and a source.
 fn answer_of(table: &Table, pair: AddrPair) -> Answer
     ensures { result ≡ record {
-      held = answer_in table.now pair.dst pair.src;
+      row = row_in table.now pair.dst pair.src;
       report = table.now.report;
     } }
 {
     Answer {
-        held: table.lookup(&pair.dst, &pair.src),
+        row: table.best(&pair.dst, &pair.src),
         report: *table.report(),
     }
 }

@@ -21,7 +21,7 @@ pub(crate) fn keeps_told(filter: &Filter, told: &Telling<Speaker>) -> bool
         Telling::Change(change) => {
             filter.keeps_key(&change.subject.key) && keeps_kind(filter, &change.kind)
         }
-        Telling::Answer { .. } => true,
+        Telling::Answer { .. } | Telling::Silent { .. } | Telling::Returns { .. } => true,
         Telling::Request { request, .. } => keeps_request(filter, request),
     }
 }

@@ -14,6 +14,7 @@ use crate::pairs_fault::PairsFault;
 use crate::place_word::NamedOrigin;
 use crate::run_fault::{RunFault, Side};
 use crate::says::{Says, Watched};
+use crate::stop::Stop;
 use crate::write::WriteFailed;
 use babel_capture::{Fault as CaptureFault, Origin};
 use babel_tlv::Fault;
@@ -79,16 +80,43 @@ impl From<Unheard> for Trouble {
     fn from(fault: Unheard) -> Trouble {
         match fault {
             Unheard::Memory => Trouble::from(AllocError),
-            Unheard::Sender { origin, fault } => Trouble::Sender {
+            Unheard::Sender { origin, fault } => {
+                Trouble::of_sender(origin, InputFault::Dump(fault))
+            }
+        }
+    }
+}
+
+impl From<Stop> for Trouble {
+    fn from(fault: Stop) -> Trouble {
+        match fault {
+            Stop::Unheard(fault) => Trouble::from(fault),
+            Stop::LeftOut(datagram) => Trouble::from(InputFault::LeftOut(datagram)),
+            Stop::Ignored {
                 origin,
-                name: None,
-                fault: InputFault::Dump(fault),
-            },
+                tlv,
+                ignores_encoding_4,
+            } => Trouble::of_sender(
+                origin,
+                InputFault::Ignored {
+                    tlv,
+                    ignores_encoding_4,
+                },
+            ),
         }
     }
 }
 
 impl Trouble {
+    /// That of a sender whose TLVs are refused; the name of its interface is not told yet.
+    pub(crate) fn of_sender(origin: Origin, fault: InputFault) -> Trouble {
+        Trouble::Sender {
+            origin,
+            name: None,
+            fault,
+        }
+    }
+
     /// That of a job whose input on this side has a fault.
     pub fn of_job(job: &Job, side: Side, fault: InputFault) -> Trouble
         ensures status { trouble_status None result ≡ refused_status fault }

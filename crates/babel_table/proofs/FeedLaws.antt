@@ -15,7 +15,7 @@ use Rattle.babel_tlv.specs.Route.{RouteKey}
 use Rattle.babel_tlv.specs.Framing.{ReadsAs, packet_octets}
 use Rattle.babel_tlv.specs.Says.{sayings}
 use Rattle.babel_table.specs.Answers.{IsAnswerOf}
-use Rattle.babel_table.specs.BestMatch.{IsBestMatch}
+use Rattle.babel_table.specs.RowFor.{IsBestOf, held_of, row_for}
 use Rattle.babel_table.specs.Bounds.{Bounds, start_of}
 use Rattle.babel_table.specs.Counts.{Counts, counts_of}
 use Rattle.babel_table.specs.TableOf.{IsTableOf}
@@ -289,11 +289,12 @@ module _ (p : Progress) (none : p.fault ≡ None) (empty : p.pending ≡ []) whe
   finished (Ok table) is = λ fed read.
       (no_fault p fed (read-taken p fed none read) empty, subst (λ (t : Routes). IsTableOf p.limits p.mode p.sender fed t) (sym is) (table_of p fed (read-taken p fed none read) empty))
 
-  pub answered : (d s : Address) (answer : Answer) → IsBestMatch p.table.rows d s answer.held → answer.held ≡ answer_for (entries_of p.table.rows) d s → answer.report ≡ p.table.report
+  pub answered : (d s : Address) (answer : Answer) → IsBestOf p.table.rows d s answer.row → answer.row ≡ row_for p.table.rows d s
+      → held_of answer.row ≡ answer_for (entries_of p.table.rows) d s → answer.report ≡ p.table.report
       → (fed : List ℕ) → HasRead p fed → HasNoFault p.limits p.mode p.sender fed × IsAnswerOf p.limits p.mode p.sender fed d s answer
-  answered d s answer best same report fed read = (
+  answered d s answer best row same report fed read = (
     no_fault p fed (read-taken p fed none read) empty,
-    record { table = p.table; is_table = table_of p fed (read-taken p fed none read) empty; best = best; same = same; report = report },
+    record { table = p.table; is_table = table_of p fed (read-taken p fed none read) empty; best = best; row = row; same = same; report = report },
   )
 
   pub unfinished : (r : Result Routes Fault) → IfErr r (λ fault. fault ≡ faults.Memory → (p.fault ≡ Some faults.Memory) ⊎ ((fed : List ℕ) → HasRead p fed → HasNoFault p.limits p.mode p.sender fed))

@@ -18,7 +18,8 @@ use Rattle.babel_prefix.specs.Address.{Address}
 use Rattle.babel_tlv.specs.declared.held.Held.{Held}
 use Rattle.babel_tlv.specs.Pair.{Pair}
 use Rattle.babel_tlv.specs.Pairs.{IsPair}
-use Rattle.babel_table.specs.BestMatch.{ContainsBoth, IsBestMatch}
+use Rattle.babel_table.specs.BestMatch.{ContainsBoth}
+use Rattle.babel_table.specs.RowFor.{IsBestOf}
 use Rattle.babel_table.specs.Live.{Kept, current, live_rows}
 use Rattle.babel_table.specs.TableRows.{AreRows}
 use Rattle.babel_table.specs.Compact.{AreOf}
@@ -190,26 +191,24 @@ not_of f g rows row d s apart are of c both =
     let is : row.0.dst.address.family ≡ f = All-contains (λ (r : Pair). r.0.dst.address.family ≡ f) rows row (All-from_recursion (λ (r : Pair). r.0.dst.address.family ≡ f) rows are) c in
     apart (sym is ∙ both.0.0 ∙ of)
 
-pub match-v4 : (found : Option Held) (a b : List Pair) (d s : Address) → AreOf V6 b → d.family ≡ V4 → IsBestMatch a d s found
-    → IsBestMatch (a ++ b) d s found
+pub match-v4 : (found : Option Pair) (a b : List Pair) (d s : Address) → AreOf V6 b → d.family ≡ V4 → IsBestOf a d s found
+    → IsBestOf (a ++ b) d s found
 match-v4 None a b d s are of none = λ key held c both.
     elim (Contains-append_cases a b (key, held) c) [ inl left ↦ none key held left both | inr right ↦ not_of V6 V4 b (key, held) d s (λ e. absurd cc) are of right both ]
-match-v4 (Some held) a b d s are of best = (
-  best.0,
-  Contains-append_left a b (best.0, held) best.1,
-  best.2,
-  (λ key its c both.
-      elim (Contains-append_cases a b (key, its) c) [ inl left ↦ best.3 key its left both | inr right ↦ absurd (not_of V6 V4 b (key, its) d s (λ e. absurd cc) are of right both) ]),
-)
+match-v4 (Some row) a b d s are of best = record {
+  listed = Contains-append_left a b row best.listed;
+  matching = best.matching;
+  best = λ other c both.
+      elim (Contains-append_cases a b other c) [ inl left ↦ best.best other left both | inr right ↦ absurd (not_of V6 V4 b other d s (λ e. absurd cc) are of right both) ];
+}
 
-pub match-v6 : (found : Option Held) (a b : List Pair) (d s : Address) → AreOf V4 a → d.family ≡ V6 → IsBestMatch b d s found
-    → IsBestMatch (a ++ b) d s found
+pub match-v6 : (found : Option Pair) (a b : List Pair) (d s : Address) → AreOf V4 a → d.family ≡ V6 → IsBestOf b d s found
+    → IsBestOf (a ++ b) d s found
 match-v6 None a b d s are of none = λ key held c both.
     elim (Contains-append_cases a b (key, held) c) [ inl left ↦ not_of V4 V6 a (key, held) d s (λ e. absurd cc) are of left both | inr right ↦ none key held right both ]
-match-v6 (Some held) a b d s are of best = (
-  best.0,
-  Contains-append_right a b (best.0, held) best.1,
-  best.2,
-  (λ key its c both.
-      elim (Contains-append_cases a b (key, its) c) [ inl left ↦ absurd (not_of V4 V6 a (key, its) d s (λ e. absurd cc) are of left both) | inr right ↦ best.3 key its right both ]),
-)
+match-v6 (Some row) a b d s are of best = record {
+  listed = Contains-append_right a b row best.listed;
+  matching = best.matching;
+  best = λ other c both.
+      elim (Contains-append_cases a b other c) [ inl left ↦ absurd (not_of V4 V6 a other d s (λ e. absurd cc) are of left both) | inr right ↦ best.best other right both ];
+}

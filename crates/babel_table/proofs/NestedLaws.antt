@@ -33,6 +33,7 @@ use Rattle.babel_tlv.specs.Pairs.{IsPair}
 use Rattle.babel_tlv.specs.Route.{RouteKey}
 use Rattle.babel_tlv.proofs.OrderLaws.{key_total, key_exact}
 use Rattle.babel_table.specs.BestMatch.{ContainsBoth, IsMoreSpecific, IsBestMatch}
+use Rattle.babel_table.specs.RowFor.{IsBestRow}
 use Rattle.babel_table.specs.Compact.{AreOf}
 use Rattle.babel_table.specs.Nested.{AreUpTo, ArePast, LeadsTo, LeadsFrom, LeadsAround, NoneWithin, IsNestedAt, IsNested, IsKeyOf}
 use Rattle.babel_table.specs.Rows.{IsRising}
@@ -390,28 +391,27 @@ no_match rows d s none key held c both =
     none c.0 key (omega arith) (subst (λ n. c.0 < n) (sym (length-keys_of rows)) c.1) (subst (ContainsBoth d s) (sym (listed_key rows (key, held) c)) both)
 
 pub best_row : {family : Family} (rows : List Pair) (around : List Around) (d s : Address) (place : ℕ) (e : Pair) → IsNested family (keys_of rows) around → place < length rows
-    → ContainsBoth d s (get_or rows place e).0 → NoneWithin (ContainsBoth d s) (keys_of rows) (place + 1) (length (keys_of rows)) → IsBestMatch rows d s (Some (get_or rows place e).1)
-best_row {family} rows around d s place e nested inside both after = (
-  (get_or rows place e).0,
-  (place, inside, sym (get_or_default rows place e (get_or rows place e) inside)),
-  both,
-  (λ other its c in_other more.
+    → ContainsBoth d s (get_or rows place e).0 → NoneWithin (ContainsBoth d s) (keys_of rows) (place + 1) (length (keys_of rows)) → IsBestRow rows d s (get_or rows place e)
+best_row {family} rows around d s place e nested inside both after = record {
+  listed = (place, inside, sym (get_or_default rows place e (get_or rows place e) inside));
+  matching = both;
+  best = λ other c in_other more.
       let keys = keys_of rows in
       let long : length keys ≡ length rows = length-keys_of rows in
       let row : Pair = get_or rows place e in
-      let here = key_at rows place e inside other in
-      let there = listed_key rows (other, its) c in
+      let here = key_at rows place e inside other.0 in
+      let there = listed_key rows other c in
       let c_in : c.0 < length keys = subst (λ n. c.0 < n) (sym long) c.1 in
       let p_in : place < length keys = subst (λ n. place < n) (sym long) inside in
       elim (cases_lt place c.0) [
-        | inl gt ↦ after c.0 other (omega (arith, gt)) c_in (subst (ContainsBoth d s) (sym there) in_other)
+        | inl gt ↦ after c.0 other.0 (omega (arith, gt)) c_in (subst (ContainsBoth d s) (sym there) in_other)
         | inr le ↦
-            let row_is = subst (IsKeyOf family) here (All-get_or (IsKeyOf family) keys place other p_in nested.of) in
-            let other_is = subst (IsKeyOf family) there (All-get_or (IsKeyOf family) keys c.0 other c_in nested.of) in
-            let order = subst (λ (l : RouteKey). is_le (key_cmp (get_or keys c.0 other) l) ≡ true) here (up_to keys c.0 place other nested.rising le p_in) in
-            earlier_not_better other row.0 d s other_is.0 row_is.0 in_other both (subst (λ (l : RouteKey). is_le (key_cmp l row.0) ≡ true) there order) more
-      ]),
-)
+            let row_is = subst (IsKeyOf family) here (All-get_or (IsKeyOf family) keys place other.0 p_in nested.of) in
+            let other_is = subst (IsKeyOf family) there (All-get_or (IsKeyOf family) keys c.0 other.0 c_in nested.of) in
+            let order = subst (λ (l : RouteKey). is_le (key_cmp (get_or keys c.0 other.0) l) ≡ true) here (up_to keys c.0 place other.0 nested.rising le p_in) in
+            earlier_not_better other.0 row.0 d s other_is.0 row_is.0 in_other both (subst (λ (l : RouteKey). is_le (key_cmp l row.0) ≡ true) there order) more
+      ];
+}
 
 -- ---- the rows of a table
 

@@ -15,7 +15,8 @@ use Rattle.babel_tlv.specs.Keys.{key_cmp}
 use Rattle.babel_tlv.specs.Pair.{Pair}
 use Rattle.babel_tlv.specs.Route.{RouteKey}
 use Rattle.babel_tlv.proofs.OrderLaws.{key_exact, key_total}
-use Rattle.babel_table.specs.BestMatch.{ContainsBoth, IsBestMatch, IsMoreSpecific}
+use Rattle.babel_table.specs.BestMatch.{ContainsBoth, IsMoreSpecific}
+use Rattle.babel_table.specs.RowFor.{IsBestOf, IsBestRow}
 use Rattle.babel_table.specs.Live.{Kept, current, live_rows}
 use Rattle.babel_table.specs.Lookup.{IsBetter}
 use Rattle.babel_table.specs.Said.{Words, standing, AreDistinct}
@@ -23,16 +24,6 @@ use Rattle.babel_table.proofs.LiveLaws.{keys-live_rows}
 use Rattle.babel_table.proofs.ListLaws.{found-listed, listing, with_word, distinct-listing}
 use Rattle.babel_table.proofs.SaidLaws.{found, sorted-standing}
 use Rattle.babel_prefix.proofs.Insertion.{equal_of}
-
--- the row contains both addresses, and no row that does is more specific
-pub record IsBestRow (rows : List Pair) (d s : Address) (row : Pair) : Type 0 where
-  pub listed : Contains rows row
-  pub matching : ContainsBoth d s row.0
-  pub best : (other : Pair) → Contains rows other → ContainsBoth d s other.0 → ¬ IsMoreSpecific other.0 row.0
-
--- the best row, or none where no row contains both addresses
-abbrev pub IsBestOf : List Pair → Address → Address → Option Pair → Type 0
-IsBestOf rows d s best = MatchOption best (IsBestMatch rows d s None) (IsBestRow rows d s)
 
 longer_still : (a b c : RouteKey) → IsMoreSpecific a b → IsMoreSpecific b c → IsMoreSpecific a c
 longer_still a b c (inl ab) (inl bc) = inl (omega (arith, ab, bc))
@@ -132,11 +123,15 @@ module _ (wipes : ℕ) (ws : Words) (distinct : AreDistinct (keys_of ws)) where
   is_said : (row : Pair) → Contains live row → Contains (listing wipes ws) row
   is_said row c = contained-found (listing wipes ws) row (found-listed wipes row.0 ws distinct ∙ found-contained live row distinct-live c)
 
-  best-matches : (d s : Address) (best : Option Pair) → IsBestSaid wipes ws d s best → IsBestMatch live d s (option_map (λ row. row.1) best)
+  best-matches : (d s : Address) (best : Option Pair) → IsBestSaid wipes ws d s best → IsBestOf live d s best
   best-matches d s None none = λ key held c. none key held (is_said (key, held) c)
-  best-matches d s (Some b) best = (b.0, stands b best.listed, best.matching, (λ key held c. best.best (key, held) (is_said (key, held) c)))
+  best-matches d s (Some b) best = record {
+    listed = stands b best.listed;
+    matching = best.matching;
+    best = λ other c. best.best other (is_said other c);
+  }
 
   -- the best row that the words say is the best match among the rows that stand
-  pub best-found : (d s : Address) (so_far best : Option Pair) (n : ℕ) → length ws ≤ n → so_far ≡ best → IsBestSaid wipes (take n ws) d s so_far → IsBestMatch live d s (option_map (λ row. row.1) best)
+  pub best-found : (d s : Address) (so_far best : Option Pair) (n : ℕ) → length ws ≤ n → so_far ≡ best → IsBestSaid wipes (take n ws) d s so_far → IsBestOf live d s best
   best-found d s so_far best n all is said =
       best-matches d s best (subst (IsBestSaid wipes ws d s) is (subst (λ words. IsBestSaid wipes words d s so_far) (take_all n ws all) said))

@@ -10,6 +10,7 @@ pub mod DumpFault
 pub mod Feeding
 pub mod Streams
 pub mod BestMatch
+pub mod RowFor
 pub mod Answers
 pub mod Lookup
 pub mod Moments

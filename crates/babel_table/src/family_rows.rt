@@ -7,7 +7,7 @@ ghost use Rattle.std.specs.List.Sorted.{IsPermutation, IsStrictlySortedBy};
 ghost use Rattle.std.specs.BTreeMap.{insert_entry, is_at};
 ghost use Rattle.std.specs.Map.{keys_of, lookup, remove_entry};
 ghost use Rattle.babel_tlv.specs.Keys.{key_cmp};
-ghost use Rattle.babel_table.specs.BestMatch.{IsBestMatch};
+ghost use Rattle.babel_table.specs.RowFor.{IsBestOf};
 ghost use Rattle.babel_table.specs.Compact.{CanKeep, address_in};
 ghost use Rattle.babel_table.specs.Live.{kept, kept_at, lasting, left_of, live_rows, is_expired};
 ghost use Rattle.babel_table.specs.Live.{what_is_left};
@@ -259,11 +259,11 @@ impl<W: Word, H: Hop> FamilyRows<W, H> {
         Ok(listed)
     }
 
-    /// What the best matching row stands for after so many wipes, for two addresses of the family.
-    pub fn best_match(&self, wipes: u64, dst: &Addr, src: &Addr) -> Option<Held>
+    /// The best matching row after so many wipes, for two addresses of the family.
+    pub fn best_match(&self, wipes: u64, dst: &Addr, src: &Addr) -> Option<(Key, Held)>
         requires dst_family { dst.now.family ≡ W.family }
         requires src_family { src.now.family ≡ W.family }
-        ensures { IsBestMatch (live_rows wipes self.now) dst.now src.now result }
+        ensures { IsBestOf (live_rows wipes self.now) dst.now src.now result }
     {
         best_standing(&self.rows, wipes, W::of(*dst), W::of(*src))
     }
@@ -276,9 +276,9 @@ fn best_standing<W: Word, H: Hop>(
     wipes: u64,
     dst: W,
     src: W,
-) -> Option<Held>
+) -> Option<(Key, Held)>
     requires { AreDistinct (keys_of rows.now) }
-    ensures { IsBestMatch (live_rows wipes (standing rows.now))
+    ensures { IsBestOf (live_rows wipes (standing rows.now))
         (address_in W.family (W.number dst)) (address_in W.family (W.number src)) result }
 {
     let mut best: Option<(CompactKey<W>, Held)> = None;
@@ -290,7 +290,7 @@ fn best_standing<W: Word, H: Hop>(
         }
     }
     match best {
-        Some((_, held)) => Some(held),
+        Some((key, held)) => Some((key.key(), held)),
         None => None,
     }
 }

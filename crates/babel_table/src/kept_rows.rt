@@ -5,7 +5,7 @@ ghost use Rattle.std.specs.BTreeMap.{insert_entry, is_at};
 ghost use Rattle.std.specs.Map.{keys_of, lookup, remove_entry};
 ghost use Rattle.babel_tlv.specs.Keys.{key_cmp};
 ghost use Rattle.babel_tlv.specs.Pairs.{IsPair};
-ghost use Rattle.babel_table.specs.BestMatch.{IsBestMatch};
+ghost use Rattle.babel_table.specs.RowFor.{IsBestOf};
 ghost use Rattle.babel_table.specs.Live.{kept, kept_at, lasting, live_rows};
 ghost use Rattle.babel_table.specs.Words.{replaced};
 ghost use Rattle.babel_table.specs.TableRows.{AreRows};
@@ -131,10 +131,10 @@ impl KeptRows {
         Ok(SortedRows { v4, v6: nested_v6 })
     }
 
-    /// What the best matching row stands for after so many wipes, for two addresses of one family.
-    pub fn best_match(&self, wipes: u64, dst: &Addr, src: &Addr) -> Option<Held>
+    /// The best matching row after so many wipes, for two addresses of one family.
+    pub fn best_match(&self, wipes: u64, dst: &Addr, src: &Addr) -> Option<(Key, Held)>
         requires one_family { dst.now.family ≡ src.now.family }
-        ensures { IsBestMatch (live_rows wipes self.now) dst.now src.now result }
+        ensures { IsBestOf (live_rows wipes self.now) dst.now src.now result }
     {
         match dst.family() {
             Family::V4 => self.v4.best_match(wipes, dst, src),

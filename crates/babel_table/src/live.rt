@@ -9,7 +9,7 @@ ghost use Rattle.babel_tlv.specs.EventKinds.{event_of};
 ghost use Rattle.babel_tlv.specs.declared.event.Event.TheVariants as events;
 ghost use Rattle.babel_table.specs.Live.{IsNotHeld, KeepsAllButRows, unreachable};
 ghost use Rattle.babel_prefix.specs.Entries.{answer_for};
-ghost use Rattle.babel_table.specs.BestMatch.{IsBestMatch};
+ghost use Rattle.babel_table.specs.RowFor.{IsBestOf, held_of, row_for};
 ghost use Rattle.babel_table.specs.Rows.{entries_of};
 ghost use Rattle.babel_table.specs.TableRows.{AreRows};
 ghost use Rattle.babel_table.specs.Feeding.{Follows, IsRefused};
@@ -306,12 +306,13 @@ impl LiveRows {
         self.kept.listed(alloc, self.wipes)
     }
 
-    /// What the best matching row holds, for two addresses of one family.
-    #[tactic(auto, using(crate::proofs::LookupLaws::match_answers))]
-    pub fn lookup(&self, dst: &Addr, src: &Addr) -> Option<Held>
+    /// The best matching row, for two addresses of one family.
+    #[tactic(auto, using(crate::proofs::LookupLaws::answering))]
+    pub fn lookup(&self, dst: &Addr, src: &Addr) -> Option<(Key, Held)>
         requires one_family { dst.now.family ≡ src.now.family }
-        ensures best { IsBestMatch self.now.rows dst.now src.now result }
-        ensures answer { result ≡ answer_for (entries_of self.now.rows) dst.now src.now }
+        ensures best { IsBestOf self.now.rows dst.now src.now result }
+        ensures row { result ≡ row_for self.now.rows dst.now src.now }
+        ensures held { held_of result ≡ answer_for (entries_of self.now.rows) dst.now src.now }
     {
         self.are_rows();
         self.kept.best_match(self.wipes, dst, src)

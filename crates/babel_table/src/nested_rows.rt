@@ -5,7 +5,7 @@ ghost use Rattle.std.specs.Prelude.{◌≡◌, ◌≢◌, ◌<◌, ◌≤◌, �
 ghost use Rattle.std.specs.List.{AllWithin};
 ghost use Rattle.std.specs.Map.{keys_of};
 ghost use Rattle.babel_tlv.specs.Views.{no_address};
-ghost use Rattle.babel_table.specs.BestMatch.{IsBestMatch};
+ghost use Rattle.babel_table.specs.RowFor.{IsBestOf};
 ghost use Rattle.babel_table.specs.Compact.{AreOf};
 ghost use Rattle.babel_table.specs.Nested.{AreUpTo, ArePast, IsNested, IsNestedAt, NoneWithin};
 ghost use Rattle.babel_table.specs.Nested.{LeadsAround, LeadsFrom, LeadsTo};
@@ -19,7 +19,7 @@ use crate::compact_row::CompactRow;
 use crate::hop::Hop;
 use crate::word::Word;
 use babel_prefix::Addr;
-use babel_tlv::{Held, View};
+use babel_tlv::{Held, Key, View};
 use std::alloc::{AllocError, Global};
 use std::marker::Model;
 
@@ -95,11 +95,11 @@ impl<W: Word, H: Hop> NestedRows<W, H> {
         see_rows(&mut self.rows, view);
     }
 
-    /// What stands in the best matching row, for two addresses of the family.
-    pub fn best_match(&self, dst: &Addr, src: &Addr) -> Option<Held>
+    /// The best matching row, for two addresses of the family.
+    pub fn best_match(&self, dst: &Addr, src: &Addr) -> Option<(Key, Held)>
         requires dst_family { dst.now.family ≡ W.family }
         requires src_family { src.now.family ≡ W.family }
-        ensures { IsBestMatch self.now dst.now src.now result }
+        ensures { IsBestOf self.now dst.now src.now result }
     {
         best_match(&self.rows, &self.around, dst, src)
     }
@@ -115,19 +115,19 @@ fn see_rows<W: Word, H: Hop>(rows: &mut [CompactRow<W, H>], view: View)
     }
 }
 
-/// What stands in the best matching row: among the rows from the source to the longest destination
-/// prefix that has one, the row of the longest source prefix.
+/// The best matching row: among the rows from the source to the longest destination prefix that has
+/// one, the row of the longest source prefix.
 fn best_match<W: Word, H: Hop>(
     rows: &[CompactRow<W, H>],
     around: &[Around],
     dst: &Addr,
     src: &Addr,
-) -> Option<Held>
+) -> Option<(Key, Held)>
     requires nested { IsNested W.family (keys_of rows.now) around.now }
     requires whole { length around.now ≡ length rows.now }
     requires dst_family { dst.now.family ≡ W.family }
     requires src_family { src.now.family ≡ W.family }
-    ensures { IsBestMatch rows.now dst.now src.now result }
+    ensures { IsBestOf rows.now dst.now src.now result }
 {
     let src = CompactPrefix::host(src);
     let asked = CompactKey::new(&CompactPrefix::host(dst), &src);
@@ -138,7 +138,8 @@ fn best_match<W: Word, H: Hop>(
         let sources = count_up_to(rows, &key);
         let last = end_from(rows, around, sources, &key);
         if last > 0 {
-            return Some(rows[last - 1].1.held());
+            let (key, held) = &rows[last - 1];
+            return Some((key.key(), held.held()));
         }
         end = end_to(rows, around, around[end - 1].dst as usize, &asked);
     }

@@ -1,12 +1,12 @@
 ghost use Rattle.std.specs.Prelude.{◌≡◌, if◌then◌else◌, ◌++◌};
 ghost use Rattle.babel_prefix.specs.declared.family.Family.TheVariants.{V4};
-ghost use Rattle.babel_table.specs.BestMatch.{IsBestMatch};
+ghost use Rattle.babel_table.specs.RowFor.{IsBestOf};
 ghost use Rattle.babel_table.specs.Seen.{seen_rows};
 
 use crate::compact_row::CompactRow;
 use crate::nested_rows::NestedRows;
 use babel_prefix::Addr;
-use babel_tlv::{Held, View};
+use babel_tlv::{Held, Key, View};
 use std::marker::Model;
 
 /// The rows of IPv4 in rising order: with next hops of IPv4 alone in 4 octets each, or all of them
@@ -53,11 +53,11 @@ impl NestedV4 {
         }
     }
 
-    /// What stands in the best matching row, for two addresses of IPv4.
-    pub fn best_match(&self, dst: &Addr, src: &Addr) -> Option<Held>
+    /// The best matching row, for two addresses of IPv4.
+    pub fn best_match(&self, dst: &Addr, src: &Addr) -> Option<(Key, Held)>
         requires dst_family { dst.now.family ≡ V4 }
         requires src_family { src.now.family ≡ V4 }
-        ensures { IsBestMatch self.now dst.now src.now result }
+        ensures { IsBestOf self.now dst.now src.now result }
     {
         if self.is_wide {
             self.wide.best_match(dst, src)

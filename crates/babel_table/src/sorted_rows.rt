@@ -1,5 +1,5 @@
 ghost use Rattle.std.specs.Prelude.{◌≡◌};
-ghost use Rattle.babel_table.specs.BestMatch.{IsBestMatch};
+ghost use Rattle.babel_table.specs.RowFor.{IsBestOf};
 ghost use Rattle.babel_table.specs.Left.{rows_left};
 ghost use Rattle.babel_table.specs.Seen.{seen_rows};
 ghost use Rattle.babel_table.specs.TableRows.{AreRows, family_rows};
@@ -8,7 +8,7 @@ use crate::nested_rows::NestedRows;
 use crate::nested_v4::NestedV4;
 use crate::table_rows::TableRows;
 use babel_prefix::{Addr, Family, Halves};
-use babel_tlv::{Held, View};
+use babel_tlv::{Held, Key, View};
 use std::marker::Model;
 
 /// Rows in rising order: of IPv4, then of IPv6.
@@ -69,11 +69,11 @@ impl SortedRows {
         }
     }
 
-    /// What the best matching row holds, for two addresses of one family.
-    pub fn lookup(&self, dst: &Addr, src: &Addr) -> Option<Held>
+    /// The best matching row, for two addresses of one family.
+    pub fn lookup(&self, dst: &Addr, src: &Addr) -> Option<(Key, Held)>
         requires one_family { dst.now.family ≡ src.now.family }
         ensures valid { AreRows self.now }
-        ensures best { IsBestMatch self.now dst.now src.now result }
+        ensures best { IsBestOf self.now dst.now src.now result }
     {
         match dst.family() {
             Family::V4 => self.v4.best_match(dst, src),

@@ -6,7 +6,7 @@ ghost use Rattle.std.specs.Map.{keys_of, lookup, remove_entry};
 ghost use Rattle.babel_prefix.specs.declared.family.Family.TheVariants.{V4};
 ghost use Rattle.babel_tlv.specs.Keys.{key_cmp};
 ghost use Rattle.babel_tlv.specs.Pairs.{FitsKey};
-ghost use Rattle.babel_table.specs.BestMatch.{IsBestMatch};
+ghost use Rattle.babel_table.specs.RowFor.{IsBestOf};
 ghost use Rattle.babel_table.specs.Compact.{AreOf, is_via_v6};
 ghost use Rattle.babel_table.specs.Live.{kept, kept_at, lasting, live_rows};
 ghost use Rattle.babel_table.specs.Words.{replaced};
@@ -191,11 +191,11 @@ impl V4Rows {
         })
     }
 
-    /// What the best matching row stands for after so many wipes, for two addresses of IPv4.
-    pub fn best_match(&self, wipes: u64, dst: &Addr, src: &Addr) -> Option<Held>
+    /// The best matching row after so many wipes, for two addresses of IPv4.
+    pub fn best_match(&self, wipes: u64, dst: &Addr, src: &Addr) -> Option<(Key, Held)>
         requires dst_family { dst.now.family ≡ V4 }
         requires src_family { src.now.family ≡ V4 }
-        ensures { IsBestMatch (live_rows wipes self.now) dst.now src.now result }
+        ensures { IsBestOf (live_rows wipes self.now) dst.now src.now result }
     {
         if self.is_wide {
             self.wide.best_match(wipes, dst, src)

@@ -14,6 +14,7 @@ use Rattle.babel_prefix.specs.Address.{Address}
 use Rattle.babel_tlv.specs.Keys.{key_cmp}
 use Rattle.babel_tlv.specs.Route.{Announcement, RouteKey}
 use Rattle.babel_tlv.proofs.OrderLaws.{key_exact, key_total}
+use Rattle.babel_timeline.specs.declared.best_match.BestMatch.{BestMatch}
 use Rattle.babel_timeline.specs.declared.change.Change.{Change}
 use Rattle.babel_timeline.specs.declared.row.Row.{Row}
 use Rattle.babel_timeline.specs.declared.telling.Telling.{Telling}
@@ -28,19 +29,23 @@ le_both a Less turned le ge = absurd (let greater : is_gt a ≡ true = ap is_gt 
 le_both a Equal turned le ge = turned
 le_both a Greater turned le ge = absurd cc
 
+abbrev match_of : RouteKey → Announcement → BestMatch
+match_of key ann = record { key = key; ann = ann }
+
 module _ {S : Type 0} (cmp : S → S → Ordering) (total : IsTotalOrder cmp) (exact : CmpEqualImpliesEq cmp) (pair : Address × Address) where
   -- a sender has one answer
-  answer_one : (rows : Rows S) (sender : S) (a b : Option Announcement) → IsAnswer cmp pair rows sender a → IsAnswer cmp pair rows sender b → a ≡ b
+  answer_one : (rows : Rows S) (sender : S) (a b : Option BestMatch) → IsAnswer cmp pair rows sender a → IsAnswer cmp pair rows sender b → a ≡ b
   answer_one rows sender None None a b = refl
-  answer_one rows sender None (Some ann) a b = absurd (let bad : None ≡ Some b.0 = sym (a b.1.key b.1.near) ∙ b.1.held in cc)
-  answer_one rows sender (Some ann) None a b = absurd (let bad : None ≡ Some a.0 = sym (b a.1.key a.1.near) ∙ a.1.held in cc)
+  answer_one rows sender None (Some best) a b = absurd (let bad : None ≡ Some b.0 = sym (a best.key b.1.near) ∙ b.1.held in cc)
+  answer_one rows sender (Some best) None a b = absurd (let bad : None ≡ Some a.0 = sym (b best.key a.1.near) ∙ a.1.held in cc)
   answer_one rows sender (Some x) (Some y) a b =
-      let le = b.1.last a.1.key a.1.near (some (row_at cmp rows (subject_of sender a.1.key)) a.0 a.1.held) in
-      let ge = a.1.last b.1.key b.1.near (some (row_at cmp rows (subject_of sender b.1.key)) b.0 b.1.held) in
-      let same : a.1.key ≡ b.1.key = key_exact a.1.key b.1.key (le_both (key_cmp a.1.key b.1.key) (key_cmp b.1.key a.1.key) (key_total.antisymm a.1.key b.1.key) le ge) in
+      let le = b.1.last x.key a.1.near (some (row_at cmp rows (subject_of sender x.key)) a.0 a.1.held) in
+      let ge = a.1.last y.key b.1.near (some (row_at cmp rows (subject_of sender y.key)) b.0 b.1.held) in
+      let same : x.key ≡ y.key = key_exact x.key y.key (le_both (key_cmp x.key y.key) (key_cmp y.key x.key) (key_total.antisymm x.key y.key) le ge) in
       let rows_same : Some a.0 ≡ Some b.0 = sym a.1.held ∙ ap (λ (k : RouteKey). row_at cmp rows (subject_of sender k)) same ∙ b.1.held in
       let row_same : a.0 ≡ b.0 = cc in
-      ap Some (sym a.2 ∙ ap (λ (r : Row). r.ann) row_same ∙ b.2)
+      let anns : x.ann ≡ y.ann = sym a.2 ∙ ap (λ (r : Row). r.ann) row_same ∙ b.2 in
+      ap (λ (k : RouteKey). Some (match_of k x.ann)) same ∙ ap (λ (n : Announcement). Some (match_of y.key n)) anns
     where
       some : (row : Option Row) (is : Row) → row ≡ Some is → IsSome row
       some None is e = absurd cc
@@ -48,21 +53,20 @@ module _ {S : Type 0} (cmp : S → S → Ordering) (total : IsTotalOrder cmp) (e
 
   module _ (rows after : Rows S) (sender : S) (others : OthersStay cmp sender rows after) where
     -- the answers of other senders stay
-    answer_stays : (other : S) (a : Option Announcement) → other ≢ sender → IsAnswer cmp pair rows other a → IsAnswer cmp pair after other a
+    answer_stays : (other : S) (a : Option BestMatch) → other ≢ sender → IsAnswer cmp pair rows other a → IsAnswer cmp pair after other a
     answer_stays other None apart none = λ key le. others (subject_of other key) apart ∙ none key le
-    answer_stays other (Some ann) apart some = (
+    answer_stays other (Some best) apart some = (
       some.0,
       record {
-        key = some.1.key;
         near = some.1.near;
-        held = others (subject_of other some.1.key) apart ∙ some.1.held;
+        held = others (subject_of other best.key) apart ∙ some.1.held;
         last = λ key le there. some.1.last key le (subst (λ (r : Option Row). IsSome r) (others (subject_of other key) apart) there);
       },
       some.2,
     )
 
     -- the answer that was told last is that before
-    module _ (before answer : Option Announcement) (was : IsAnswer cmp pair rows sender before) (is : IsAnswer cmp pair after sender answer) (told : List (Telling S)) (are : AreAnswers cmp pair told rows) where
+    module _ (before answer : Option BestMatch) (was : IsAnswer cmp pair rows sender before) (is : IsAnswer cmp pair after sender answer) (told : List (Telling S)) (are : AreAnswers cmp pair told rows) where
       told_last : answered cmp told sender ≡ before
       told_last = answer_one rows sender (answered cmp told sender) before (are.last sender) was
 
@@ -74,7 +78,7 @@ module _ {S : Type 0} (cmp : S → S → Ordering) (total : IsTotalOrder cmp) (e
         last = λ other. elim (sender_or cmp total exact other sender) [
           | inl at ↦
               let here : answer ≡ answered cmp told other = same ∙ sym told_last ∙ ap (answered cmp told) (sym at) in
-              subst (λ (a : Option Announcement). IsAnswer cmp pair after other a) here (subst (λ (s : S). IsAnswer cmp pair after s answer) (sym at) is)
+              subst (λ (a : Option BestMatch). IsAnswer cmp pair after other a) here (subst (λ (s : S). IsAnswer cmp pair after s answer) (sym at) is)
           | inr miss ↦ by_sender other (λ at. let hit : is_at (cmp other) sender ≡ true = sender_same cmp total other sender at in cc)
         ];
         anew = are.anew;
@@ -88,10 +92,10 @@ module _ {S : Type 0} (cmp : S → S → Ordering) (total : IsTotalOrder cmp) (e
       answers_anew time differs = record {
         last = λ other. elim (sender_or cmp total exact other sender) [
           | inl at ↦
-              subst (λ (a : Option Announcement). IsAnswer cmp pair after other a) (sym (more time other true (sender_same cmp total other sender at)))
+              subst (λ (a : Option BestMatch). IsAnswer cmp pair after other a) (sym (more time other true (sender_same cmp total other sender at)))
               (subst (λ (s : S). IsAnswer cmp pair after s answer) (sym at) is)
           | inr miss ↦
-              subst (λ (a : Option Announcement). IsAnswer cmp pair after other a) (sym (more time other false miss))
+              subst (λ (a : Option BestMatch). IsAnswer cmp pair after other a) (sym (more time other false miss))
               (by_sender other (λ at. let hit : is_at (cmp other) sender ≡ true = sender_same cmp total other sender at in cc))
         ];
         anew = λ front back one split. elim (snoc_split told (tellings.Answer time sender answer before) front one back split) [
@@ -104,7 +108,7 @@ module _ {S : Type 0} (cmp : S → S → Ordering) (total : IsTotalOrder cmp) (e
 
 module _ {S : Type 0} (cmp : S → S → Ordering) (total : IsTotalOrder cmp) (exact : CmpEqualImpliesEq cmp) where
   -- after one sender's rows change, its answer is told if it is another one
-  pub told_anew : (asked : AskedFor) (changes : List (Change S)) (rows after : Rows S) (time : ℕ) (sender : S) (before : Option Announcement) (old mid new : List (Telling S))
+  pub told_anew : (asked : AskedFor) (changes : List (Change S)) (rows after : Rows S) (time : ℕ) (sender : S) (before : Option BestMatch) (old mid new : List (Telling S))
       → IfNone asked (before ≡ None) → IfSome asked (λ pair. IsAnswer cmp pair rows sender before) → mid ≡ old ++ changes_told asked changes → OthersStay cmp sender rows after
       → TellsAnswer cmp asked after time sender before mid new → IsTold cmp asked changes rows after old new
   told_anew None changes rows after time sender before old mid new none was is others tells = tells none ∙ is

@@ -27,18 +27,19 @@ use Rattle.babel_tlv.specs.declared.view.View.{View}
 use Rattle.babel_tlv.specs.Keys.{IsKey, key_cmp}
 use Rattle.babel_tlv.specs.Route.{Announcement, RouteKey}
 use Rattle.babel_tlv.specs.Views.{seen_announcement}
-use Rattle.babel_table.specs.BestMatch.{ContainsBoth, IsBestAmong}
+use Rattle.babel_table.specs.BestMatch.{ContainsBoth}
 use Rattle.babel_table.specs.Holds.{same_key}
 use Rattle.babel_table.specs.Moments.{Told, Stamp, Word, last_word, left_at, word, word_after}
 use Rattle.babel_table.proofs.EntryLaws.{key_of}
 use Rattle.babel_table.proofs.HoldsLaws.{same_key-decides}
 use Rattle.babel_table.proofs.MomentLaws.{words_from}
 use Rattle.babel_table.proofs.NestedLaws.{both_up_to, earlier_not_better, host_of}
+use Rattle.babel_timeline.specs.declared.best_match.BestMatch.{BestMatch}
 use Rattle.babel_timeline.specs.declared.change.Change.{Change}
 use Rattle.babel_timeline.specs.declared.row.Row.{Row}
 use Rattle.babel_timeline.specs.declared.subject.Subject.{Subject}
 use Rattle.babel_timeline.specs.Accounts.{IsAccount, IsHeldAt, IsLeft, Said, said, said_by, word_on}
-use Rattle.babel_timeline.specs.BestAnswers.{AnswersAreBest, IsOfTlv, RowsAnswerBest, RowsHave, SaysAt, seen_said}
+use Rattle.babel_timeline.specs.BestAnswers.{AnswersAreBest, IsBest, IsOfTlv, RowsAnswerBest, RowsHave, SaysAt, seen_said}
 use Rattle.babel_timeline.specs.Rows.{Rows, row_at, subject_of}
 use Rattle.babel_timeline.specs.Telling.{AskedFor, counts, covers, key_alone, seen_event}
 use Rattle.babel_timeline.proofs.AccountLaws.{say_held}
@@ -121,17 +122,16 @@ module _ {S : Type 0} (cmp : S → S → Ordering) where
       let some = some_row (row_at cmp rows (subject_of sender key)) held has in
       let near = near_alone pair key (each (subject_of sender key) some).0 both in
       no_some (row_at cmp rows (subject_of sender key)) (none key near) some
-  best_row pair rows sender (Some ann) each (row, last, same) =
+  best_row pair rows sender (Some best) each (row, last, same) =
       let at : RouteKey → Option Row = λ key. row_at cmp rows (subject_of sender key) in
-      let is = each (subject_of sender last.key) (is_some (at last.key) row last.held) in
-      let both = both_of pair last.key is.1 in (
-        last.key,
+      let is = each (subject_of sender best.key) (is_some (at best.key) row last.held) in
+      let both = both_of pair best.key is.1 in (
         ap (option_map (λ (r : Row). helds.Route r.ann)) last.held ∙ ap (λ (a : Announcement). Some (helds.Route a)) same,
         both,
         λ other its has in_other better.
             let some = some_row (at other) its has in
             let other_is = (each (subject_of sender other) some).0 in
-            earlier_not_better other last.key pair.0 pair.1 other_is is.0 in_other both (le_of (key_cmp other last.key) (last.last other (near_alone pair other other_is in_other) some)) better,
+            earlier_not_better other best.key pair.0 pair.1 other_is is.0 in_other both (le_of (key_cmp other best.key) (last.last other (near_alone pair other other_is in_other) some)) better,
       )
 
 -- ---- the rows of an account are of keys that count
@@ -255,11 +255,11 @@ same_held : (factor : Option ℕ) (moment : ℕ) (told other : List Told) (key :
 same_held None moment told other key ann same held = ap (option_map (λ (w : Word). w.held)) (same modes.Plain 0) ∙ held
 same_held (Some factor) moment told other key ann same held = ap (option_and_then (left_at modes.Plain factor moment)) (same modes.Plain factor) ∙ held
 
-best_by : (Has Other : RouteKey → Held → Type 0) (d s : Address) (answer : Option Held) → ((key : RouteKey) (held : Held) → ContainsBoth d s key → Has key held → Other key held)
-    → ((key : RouteKey) (held : Held) → ContainsBoth d s key → Other key held → Has key held) → IsBestAmong Has d s answer → IsBestAmong Other d s answer
-best_by Has Other d s None to back best = λ key held other both. best key held (back key held both other) both
-best_by Has Other d s (Some held) to back (key, has, both, none) =
-    (key, to key held both has, both, λ other its there both_too. none other its (back other its both_too there) both_too)
+best_by : (Has Other : RouteKey → Held → Type 0) (pair : Address × Address) (answer : Option BestMatch) → ((key : RouteKey) (held : Held) → ContainsBoth pair.0 pair.1 key → Has key held → Other key held)
+    → ((key : RouteKey) (held : Held) → ContainsBoth pair.0 pair.1 key → Other key held → Has key held) → IsBest Has pair answer → IsBest Other pair answer
+best_by Has Other pair None to back best = λ key held other both. best key held (back key held both other) both
+best_by Has Other pair (Some best) to back (has, both, none) =
+    (to best.key (helds.Route best.ann) both has, both, λ other its there both_too. none other its (back other its both_too there) both_too)
 
 announced : (row : Option Row) (held : Held) → option_map (λ (r : Row). helds.Route r.ann) row ≡ Some held
     → (ann : Announcement) × (held ≡ helds.Route ann) × (option_map (λ (r : Row). r.ann) row ≡ Some ann)
@@ -278,7 +278,7 @@ module _ {S : Type 0} (cmp : S → S → Ordering) (total : IsTotalOrder cmp) (e
       let at : RouteKey → Option Row = λ key. row_at cmp rows (subject_of sender key) in
       let told = λ (key : RouteKey) (ann : Announcement). say_held cmp total exact factor counted moment later changes rows (subject_of sender key) ann account (le, last) in
       let same = λ (key : RouteKey) (both : ContainsBoth pair.0 pair.1 key) (mode : Mode) (times : ℕ). same_words pair view key (of_both pair key both) mode times cmp sender all None in
-      best_by (RowsHave cmp rows sender) (SaysAt cmp factor later (seen_said None view all) sender) pair.0 pair.1 (option_map helds.Route answer)
+      best_by (RowsHave cmp rows sender) (SaysAt cmp factor later (seen_said None view all) sender) pair answer
       (λ key held both has.
       let (ann, is_ann, row) = announced (at key) held has in (
         ann,

@@ -92,24 +92,16 @@ module _ {S : Type 0} (cmp : S → S → Ordering) (total : IsTotalOrder cmp) (e
     pub last_none : ((other : Subject S) → IsLeBy (subject_cmp cmp) other (subject_of sender most) → row_at cmp rows other ≡ None) → HasNoneUpTo cmp sender most rows
     last_none none key le = none (subject_of sender key) (own_le sender key most le)
 
-    last_own : (last : Subject S) (row : Row) → last.sender ≡ sender → IsLeBy (subject_cmp cmp) last (subject_of sender most) → row_at cmp rows last ≡ Some row
+    pub last_own : (last : Subject S) (row : Row) → last.sender ≡ sender → IsLeBy (subject_cmp cmp) last (subject_of sender most) → row_at cmp rows last ≡ Some row
         → ((other : Subject S) → IsLeBy (subject_cmp cmp) other (subject_of sender most) → IsSome (row_at cmp rows other) → IsLeBy (subject_cmp cmp) other last)
-        → IsLastUpTo cmp sender most rows row
+        → IsLastUpTo cmp sender most rows (last.key, row)
     last_own last row own below held all = record {
-      key = last.key;
       near = key_le sender last.key most (subst (λ (s : S). IsLeBy (subject_cmp cmp) (subject_of s last.key) (subject_of sender most)) own below);
       held = ap (λ (s : S). row_at cmp rows (subject_of s last.key)) (sym own) ∙ held;
       last = λ other le there.
           let up_to : IsLeBy (subject_cmp cmp) (subject_of sender other) last = all (subject_of sender other) (own_le sender other most le) there in
           key_le sender other last.key (subst (λ (s : S). IsLeBy (subject_cmp cmp) (subject_of sender other) (subject_of s last.key)) own up_to);
     }
-
-    pub last_there : (last : Subject S) (row : Option Row) → row ≡ row_at cmp rows last → last.sender ≡ sender → IsLeBy (subject_cmp cmp) last (subject_of sender most)
-        → IsSome (row_at cmp rows last)
-        → ((other : Subject S) → IsLeBy (subject_cmp cmp) other (subject_of sender most) → IsSome (row_at cmp rows other) → IsLeBy (subject_cmp cmp) other last)
-        → MatchOption row (HasNoneUpTo cmp sender most rows) (IsLastUpTo cmp sender most rows)
-    last_there last None is own below there all = let none : is_some (row_at cmp rows last) ≡ false = ap is_some (sym is) in absurd cc
-    last_there last (Some row) is own below there all = last_own last row own below (sym is) all
 
     pub last_other : (last : Subject S) → (last.sender ≡ sender → ⊥) → IsLeBy (subject_cmp cmp) last (subject_of sender most)
         → ((other : Subject S) → IsLeBy (subject_cmp cmp) other (subject_of sender most) → IsSome (row_at cmp rows other) → IsLeBy (subject_cmp cmp) other last)

@@ -15,3 +15,5 @@ pub mod PlaceLaws
 pub mod LaterLaws
 pub mod WatchLaws
 pub mod CountLaws
+pub mod SilenceTold
+pub mod WatchTold

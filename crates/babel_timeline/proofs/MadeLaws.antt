@@ -30,17 +30,17 @@ use Rattle.babel_timeline.proofs.WordLaws.{all_more, next, none_left}
 
 -- ---- lists
 
-has_first : {X : Type 0} (x : X) (xs : List X) → Contains (x ∷ xs) x
+pub has_first : {X : Type 0} (x : X) (xs : List X) → Contains (x ∷ xs) x
 has_first x xs = Contains-append_left (x ∷ []) xs x (0, omega arith, refl)
 
-has_later : {X : Type 0} (x : X) (xs : List X) (y : X) → Contains xs y → Contains (x ∷ xs) y
+pub has_later : {X : Type 0} (x : X) (xs : List X) (y : X) → Contains xs y → Contains (x ∷ xs) y
 has_later x xs y has = Contains-append_right (x ∷ []) xs y has
 
 is_one : {X : Type 0} (x y : X) → Contains (x ∷ []) y → x ≡ y
 is_one x y (zero, lt, is) = is
 is_one x y (suc k, lt, is) = absurd (omega (arith, lt))
 
-all_map : {X : Type 0} (P Q : X → Type 0) (xs : List X) → ((x : X) → P x → Q x) → AllByRecursion P xs → AllByRecursion Q xs
+pub all_map : {X : Type 0} (P Q : X → Type 0) (xs : List X) → ((x : X) → P x → Q x) → AllByRecursion P xs → AllByRecursion Q xs
 all_map P Q [] to all = tt
 all_map P Q (x ∷ xs) to all = (to x all.0, all_map P Q xs to all.1)
 

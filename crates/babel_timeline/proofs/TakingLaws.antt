@@ -21,6 +21,7 @@ use Rattle.babel_tlv.specs.Says as says
 use Rattle.babel_tlv.specs.Views.{seen_announcement}
 use Rattle.babel_tlv.proofs.TellsLaws.{ignored_tells_nothing}
 use Rattle.babel_table.specs.Moments.{Stamp, Word, told_at, told_from, word_after}
+use Rattle.babel_timeline.specs.declared.best_match.BestMatch.{BestMatch}
 use Rattle.babel_timeline.specs.declared.change.Change.{Change}
 use Rattle.babel_timeline.specs.declared.change.ChangeKind.TheVariants as kinds
 use Rattle.babel_timeline.specs.declared.row.Row.{Row}
@@ -219,7 +220,7 @@ module _ {S : Type 0} (cmp : S → S → Ordering) (total : IsTotalOrder cmp) (e
       (subst (λ (f : Option ℕ). Takes cmp f asked sender (said sender when (seen_event asked view event) ∷ []) when.time rows after old new) same takes))
 
   -- what was taken is told, once what has expired was
-  pub taken_tells : (sender : S) (more : List (Said S)) (time : ℕ) (rows mid after : Rows S) (before : Option Announcement) (old ended changed new : List (Telling S))
+  pub taken_tells : (sender : S) (more : List (Said S)) (time : ℕ) (rows mid after : Rows S) (before : Option BestMatch) (old ended changed new : List (Telling S))
       → TellsEnds cmp factor asked time rows mid old ended → IfNone asked (before ≡ None) → IfSome asked (λ pair. IsAnswer cmp pair mid sender before)
       → Takes cmp factor asked sender more time mid after ended changed → TellsAnswer cmp asked after time sender before changed new → Tells cmp factor asked more time rows after old new
   taken_tells sender more time rows mid after before old ended changed new ends none was takes tells =
@@ -230,7 +231,7 @@ module _ {S : Type 0} (cmp : S → S → Ordering) (total : IsTotalOrder cmp) (e
       })
 
   -- what is held for a subject ends, and is told
-  pub end_tells : (rows after : Rows S) (time : ℕ) (subject at : Subject S) (row : Row) (one : Change S) (before : Option Announcement) (old mid new : List (Telling S)) → subject ≡ at → row_at cmp rows subject ≡ Some row
+  pub end_tells : (rows after : Rows S) (time : ℕ) (subject at : Subject S) (row : Row) (one : Change S) (before : Option BestMatch) (old mid new : List (Telling S)) → subject ≡ at → row_at cmp rows subject ≡ Some row
       → Some one ≡ ending kinds.Expired time at (row_at cmp rows at) → IfNone asked (before ≡ None) → IfSome asked (λ pair. IsAnswer cmp pair rows subject.sender before)
       → after ≡ without cmp subject rows → mid ≡ old ++ changes_told asked (change time subject (kinds.Expired row.ann) ∷ [])
       → TellsAnswer cmp asked after time subject.sender before mid new → IsTold cmp asked (one ∷ []) rows after old new

@@ -37,7 +37,7 @@ row_of : (row : Option Row) (hello : Stamp) → when_of row ≡ Some hello → (
 row_of None hello e = absurd cc
 row_of (Some r) hello e = (r, refl, (let same : r.when ≡ hello = cc in same))
 
-one_some : {X : Type 0} (a b : X) → Some a ≡ Some b → a ≡ b
+pub one_some : {X : Type 0} (a b : X) → Some a ≡ Some b → a ≡ b
 one_some a b e = cc
 
 not_some : {X : Type 0} (a : X) → None ≡ Some a → ⊥
@@ -61,7 +61,7 @@ when_cond : (here : Bool) (new old : Option Row) → when_of (cond here new old)
 when_cond true new old = refl
 when_cond false new old = refl
 
-still_expired : (moment later : ℕ) (hello : Stamp) → moment ≤ later → HasExpired (Some patience) moment hello → HasExpired (Some patience) later hello
+pub still_expired : (moment later : ℕ) (hello : Stamp) → moment ≤ later → HasExpired (Some patience) moment hello → HasExpired (Some patience) later hello
 still_expired moment later hello le ended = record { time = ended.time; end = ended.end; past = omega (arith, ended.past) }
 
 module _ {S : Type 0} (cmp : S → S → Ordering) (total : IsTotalOrder cmp) (exact : CmpEqualImpliesEq cmp) where
@@ -217,7 +217,7 @@ module _ {S : Type 0} (cmp : S → S → Ordering) (total : IsTotalOrder cmp) (e
   silence_awaited true was silent now old last is quiet before = is ∙ ap (λ (b : Bool). cond b None last) (sym quiet)
   silence_awaited false was silent now old last is quiet before = is ∙ before ∙ ap (λ (b : Bool). cond b None last) (sym quiet)
 
-  awaited_last : (was : Bool) (last : Option Stamp) (hello : Stamp) → cond was None last ≡ Some hello → last ≡ Some hello
+  pub awaited_last : (was : Bool) (last : Option Stamp) (hello : Stamp) → cond was None last ≡ Some hello → last ≡ Some hello
   awaited_last true last hello e = absurd cc
   awaited_last false last hello e = e
 

@@ -11,8 +11,9 @@ use Rattle.babel_tlv.specs.Context.{Context}
 use Rattle.babel_tlv.specs.Framing.{TlvAt}
 use Rattle.babel_tlv.specs.Keys.{IsKey}
 use Rattle.babel_tlv.specs.Route.{Announcement, RouteKey}
-use Rattle.babel_table.specs.BestMatch.{IsBestAmong}
+use Rattle.babel_table.specs.BestMatch.{ContainsBoth, IsBestAmong, IsMoreSpecific}
 use Rattle.babel_table.specs.Moments.{Told, told_at}
+use Rattle.babel_timeline.specs.declared.best_match.BestMatch.{BestMatch}
 use Rattle.babel_timeline.specs.declared.change.Change.{Change}
 use Rattle.babel_timeline.specs.declared.subject.Subject.{Subject}
 use Rattle.babel_timeline.specs.Accounts.{IsAccount, IsHeldAt, Said, said, said_by}
@@ -29,6 +30,15 @@ pub record ArePair (pair : Address × Address) : Type 0 where
 abbrev pub IsOfTlv : Told → Type 0
 IsOfTlv told = (time : ℕ) × (context : Context) × (tlv : TlvAt) × (told ≡ told_at time context tlv)
 
+-- the most specific key that contains both addresses, and what is announced for it, or nothing where
+-- nothing is held for a key that contains both
+abbrev pub IsBest : (RouteKey → Held → Type 0) → Address × Address → Option BestMatch → Type 0
+IsBest Has pair None = IsBestAmong Has pair.0 pair.1 None
+IsBest Has pair (Some best) =
+    Has best.key (helds.Route best.ann) × ContainsBoth pair.0 pair.1 best.key
+    × ((other : RouteKey) (its : Held) → Has other its → ContainsBoth pair.0 pair.1 other
+    → ¬ IsMoreSpecific other best.key)
+
 -- what was said, and what counts of it, as the view sees it
 abbrev pub seen_said : {S : Type 0} → AskedFor → View → List (Said S) → List (Said S)
 seen_said asked view all =
@@ -43,11 +53,11 @@ module _ {S : Type 0} (cmp : S → S → Ordering) where
   -- where each row is of a key that counts, the answer is that of the best match among the rows
   abbrev pub RowsAnswerBest : Type 0
   RowsAnswerBest = (pair : Address × Address) (rows : Rows S) (sender : S)
-      (answer : Option Announcement)
+      (answer : Option BestMatch)
       → ((subject : Subject S) → IsSome (row_at cmp rows subject)
       → IsKey subject.key × (counts (Some pair) subject.key ≡ true))
       → IsAnswer cmp pair rows sender answer
-      → IsBestAmong (RowsHave rows sender) pair.0 pair.1 (option_map helds.Route answer)
+      → IsBest (RowsHave rows sender) pair answer
 
   module _ (factor : Option ℕ) where
     -- by what the sender said this is held for the key at the moment
@@ -60,9 +70,8 @@ module _ {S : Type 0} (cmp : S → S → Ordering) where
     abbrev pub AnswersAreBest : Type 0
     AnswersAreBest = (pair : Address × Address) (view : View) (all : List (Said S))
         (moment later : ℕ) (changes : List (Change S)) (rows : Rows S) (sender : S)
-        (answer : Option Announcement)
+        (answer : Option BestMatch)
         → ArePair pair → AllByRecursion (λ one. IsOfTlv one.told) all
         → IsAccount cmp factor None (seen_said (Some pair) view all) moment changes rows
         → moment ≤ later → AllLast cmp factor later rows → IsAnswer cmp pair rows sender answer
-        → IsBestAmong (SaysAt later (seen_said None view all) sender) pair.0 pair.1
-        (option_map helds.Route answer)
+        → IsBest (SaysAt later (seen_said None view all) sender) pair answer

@@ -10,3 +10,4 @@ pub mod Taking
 pub mod Hearing
 pub mod RequestsTold
 pub mod Silence
+pub mod SilencesTold

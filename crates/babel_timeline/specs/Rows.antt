@@ -55,14 +55,14 @@ module _ {S : Type 0} (cmp : S → S → Ordering) where
   HasNoneUpTo sender most rows =
       (key : RouteKey) → IsLeBy key_cmp key most → row_at rows (subject_of sender key) ≡ None
 
-  -- of the keys up to this one for which something of the sender's is held, the last one has this
-  -- row
-  pub record IsLastUpTo (sender : S) (most : RouteKey) (rows : Rows S) (row : Row) : Type 0 where
-    pub key : RouteKey
-    pub near : IsLeBy key_cmp key most
-    pub held : row_at rows (subject_of sender key) ≡ Some row
+  -- of the keys up to this one for which something of the sender's is held, this is the last one,
+  -- with its row
+  pub record IsLastUpTo (sender : S) (most : RouteKey) (rows : Rows S) (found : RouteKey × Row)
+      : Type 0 where
+    pub near : IsLeBy key_cmp found.0 most
+    pub held : row_at rows (subject_of sender found.0) ≡ Some found.1
     pub last : (other : RouteKey) → IsLeBy key_cmp other most
-        → IsSome (row_at rows (subject_of sender other)) → IsLeBy key_cmp other key
+        → IsSome (row_at rows (subject_of sender other)) → IsLeBy key_cmp other found.0
 
 -- ---- what ends first
 

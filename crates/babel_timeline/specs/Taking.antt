@@ -1,7 +1,7 @@
 -- The steps by which a packet's TLVs are taken and told: this project's own.
 use Rattle.std.specs.Prelude.{◌≡◌, ◌≢◌, ℕ, List, [], ◌∷◌, ◌++◌, ◌⊎◌, map, Option, Some, None}
 use Rattle.std.specs.declared.cmp.Ordering.{Ordering}
-use Rattle.babel_tlv.specs.Route.{Announcement}
+use Rattle.babel_timeline.specs.declared.best_match.BestMatch.{BestMatch}
 use Rattle.babel_timeline.specs.declared.change.Change.{Change}
 use Rattle.babel_timeline.specs.declared.subject.Subject.{Subject}
 use Rattle.babel_timeline.specs.declared.telling.Telling.{Telling}
@@ -26,11 +26,11 @@ module _ {S : Type 0} (cmp : S → S → Ordering) where
       (other : Subject S) → other.sender ≢ sender → row_at cmp after other ≡ row_at cmp rows other
 
   -- the answer is told if it is another one than that before
-  abbrev pub TellsAnswer : AskedFor → Rows S → ℕ → S → Option Announcement → List (Telling S)
+  abbrev pub TellsAnswer : AskedFor → Rows S → ℕ → S → Option BestMatch → List (Telling S)
       → List (Telling S) → Type 0
   TellsAnswer None rows time sender before old new = before ≡ None → new ≡ old
   TellsAnswer (Some pair) rows time sender before old new =
-      (answer : Option Announcement) × IsAnswer cmp pair rows sender answer
+      (answer : Option BestMatch) × IsAnswer cmp pair rows sender answer
       × (((answer ≡ before) × (new ≡ old))
       ⊎ ((answer ≢ before) × (new ≡ old ++ tellings.Answer time sender answer before ∷ [])))
 

@@ -1,8 +1,9 @@
 -- What is told of many senders as their packets come: this project's own.
-use Rattle.std.specs.Prelude.{◌≡◌, ◌≢◌, ℕ, ◌+◌, ◌≤◌, ◌==◌, Bool, true, ◌&&◌, if◌then◌else◌, List}
+use Rattle.std.specs.Prelude.{◌≡◌, ◌≢◌, ℕ, ◌+◌, ◌≤◌, ◌==◌, Bool, true, false, ◌&&◌, if◌then◌else◌, List}
 use Rattle.std.specs.Prelude.{[], ◌∷◌, ◌++◌, map, fold, Option, Some, None}
 use Rattle.std.specs.declared.cmp.Ordering.{Ordering}
 use Rattle.std.specs.BTreeMap.{is_at}
+use Rattle.std.specs.List.{filter}
 use Rattle.babel_prefix.specs.Address.{Address, AddressPrefix, prefix_at}
 use Rattle.babel_prefix.specs.Block.{leading_bits}
 use Rattle.babel_prefix.specs.Width.{same_family, width_of}
@@ -12,9 +13,10 @@ use Rattle.babel_tlv.specs.declared.start.Start.{Start}
 use Rattle.babel_tlv.specs.declared.view.View.{View}
 use Rattle.babel_tlv.specs.Context.{first_context}
 use Rattle.babel_tlv.specs.Framing.{ArePlaced, TlvAt, packet_octets}
-use Rattle.babel_tlv.specs.Route.{Announcement, RouteKey}
+use Rattle.babel_tlv.specs.Route.{RouteKey}
 use Rattle.babel_tlv.specs.Views.{seen_announcement}
 use Rattle.babel_table.specs.Moments.{Told, told_from}
+use Rattle.babel_timeline.specs.declared.best_match.BestMatch.{BestMatch}
 use Rattle.babel_timeline.specs.declared.change.Change.{Change}
 use Rattle.babel_timeline.specs.declared.change.ChangeKind.TheVariants as kinds
 use Rattle.babel_timeline.specs.declared.row.Row.{Row}
@@ -56,6 +58,21 @@ abbrev pub said_of : {S : Type 0} → AskedFor → View → S → List Told → 
 said_of asked view sender told =
     map (λ one. said sender one.when (seen_event asked view one.event)) told
 
+-- ---- what is told of rows
+
+-- whether it is told of what is held, and not of what is requested, or who is silent or returns
+abbrev pub is_of_rows : {S : Type 0} → Telling S → Bool
+is_of_rows (tellings.Change told) = true
+is_of_rows (tellings.Answer time sender answer before) = true
+is_of_rows (tellings.Request time sender to request) = false
+is_of_rows (tellings.Silent time sender since routes) = false
+is_of_rows (tellings.Returns time sender) = false
+
+-- all that is told of what is held: where addresses are asked for, that is all
+abbrev pub of_rows : {S : Type 0} → AskedFor → List (Telling S) → List (Telling S)
+of_rows None told = filter is_of_rows told
+of_rows (Some pair) told = told
+
 -- ---- answers
 
 -- the key of the two addresses alone
@@ -67,28 +84,33 @@ key_alone pair = record {
 
 module _ {S : Type 0} (cmp : S → S → Ordering) where
   -- what the sender answered last, and nothing before
-  abbrev pub answer_after : S → Option Announcement → Telling S → Option Announcement
+  abbrev pub answer_after : S → Option BestMatch → Telling S → Option BestMatch
   answer_after sender old (tellings.Change told) = old
   answer_after sender old (tellings.Answer time other answer before) =
       if is_at (cmp sender) other then answer else old
-  answer_after sender old (tellings.Request time other request) = old
+  answer_after sender old (tellings.Request time other to request) = old
+  answer_after sender old (tellings.Silent time other since routes) = old
+  answer_after sender old (tellings.Returns time other) = old
 
-  abbrev pub answered : List (Telling S) → S → Option Announcement
+  abbrev pub answered : List (Telling S) → S → Option BestMatch
   answered told sender = fold (answer_after sender) None told
 
-  -- what the sender answers: what it announced for the last key up to that of the addresses, where
-  -- rows are of keys that count alone
-  abbrev pub IsAnswer : Address × Address → Rows S → S → Option Announcement → Type 0
+  -- what the sender answers: the last key up to that of the addresses, and what it announced for it,
+  -- where rows are of keys that count alone
+  abbrev pub IsAnswer : Address × Address → Rows S → S → Option BestMatch → Type 0
   IsAnswer pair rows sender None = HasNoneUpTo cmp sender (key_alone pair) rows
-  IsAnswer pair rows sender (Some ann) =
-      (row : Row) × IsLastUpTo cmp sender (key_alone pair) rows row × (row.ann ≡ ann)
+  IsAnswer pair rows sender (Some best) =
+      (row : Row) × IsLastUpTo cmp sender (key_alone pair) rows (best.key, row)
+      × (row.ann ≡ best.ann)
 
   -- an answer, with that before, which is another one
   abbrev pub AnswersAnew : List (Telling S) → Telling S → Type 0
   AnswersAnew earlier (tellings.Change told) = ⊥
   AnswersAnew earlier (tellings.Answer time sender answer before) =
       (answered earlier sender ≡ before) × (before ≢ answer)
-  AnswersAnew earlier (tellings.Request time sender request) = ⊥
+  AnswersAnew earlier (tellings.Request time sender to request) = ⊥
+  AnswersAnew earlier (tellings.Silent time sender since routes) = ⊥
+  AnswersAnew earlier (tellings.Returns time sender) = ⊥
 
   -- the tellings are answers, the last of each sender is what it answers, and each tells that
   -- before it, and another one

@@ -24,6 +24,7 @@ ghost use Rattle.babel_timeline.specs.Telling.{IsAnswer, IsTold, Tells, TellsEnd
 ghost use Rattle.babel_timeline.specs.Telling.{said_of, seen_event};
 
 use crate::asked::Asked;
+use crate::best_match::{BestMatch, answer_alike};
 use crate::change::{Change, ChangeKind};
 use crate::queue::Expiry;
 use crate::row::Row;
@@ -75,14 +76,15 @@ fn seen(view: View, family: Family, ann: Ann) -> Ann
 
 impl Interest {
     /// What the sender answers for the addresses that are asked for.
-    fn answer<S: Sender>(&self, timeline: &Timeline<S>, sender: S) -> Option<Ann>
+    fn answer<S: Sender>(&self, timeline: &Timeline<S>, sender: S) -> Option<BestMatch>
         ensures none { IfNone self.now.asked (result ≡ None) }
         ensures some { IfSome self.now.asked
             (λ pair. IsAnswer S.cmp pair timeline.now.rows sender result) }
     {
         let asked = self.asked?;
-        let row = timeline.last_of(sender, &asked.key())?;
-        Some(row.ann)
+        let (key, row) = timeline.last_of(sender, &asked.key())?;
+        let ann = row.ann;
+        Some(BestMatch { key, ann })
     }
 
     /// Whether rows are held for the key.
@@ -116,14 +118,14 @@ impl Interest {
         timeline: &Timeline<S>,
         time: u128,
         sender: S,
-        before: Option<Ann>,
+        before: Option<BestMatch>,
         told: &mut Vec<Telling<S>>,
     ) -> Result<(), AllocError>
         ensures { OnOk result (TellsAnswer S.cmp self.now.asked timeline.now.rows time sender
             before told.old.items told.new.items) }
     {
         let answer = self.answer(timeline, sender);
-        if answer != before {
+        if !answer_alike(&answer, &before) {
             told.push(Telling::Answer {
                 time,
                 sender,

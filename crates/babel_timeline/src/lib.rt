@@ -16,7 +16,7 @@
 //!   *rows*, *told*; `retract_next`, `expire_next` · *none*, *first*, *told*, *rows*
 //! - There are at most so many rows: only one more is refused for it, and changes nothing. —
 //!   `Timeline::are_few`; `announce` · *refused*, *err*
-//! - A sender's last row up to a key is found, or there is none. — `Timeline::last_of`
+//! - A sender's last row up to a key is found, with its key, or there is none. — `Timeline::last_of`
 //! - A packet that is heard is TLVs to its end, and with what they say, as the view sees it, and
 //!   what expires by its time, the changes account for all again. — `Teller::hear` · *ok*
 //!   (`Hears`); `expire` · *ok*, *last*
@@ -31,6 +31,7 @@
 #![tactic(auto)]
 
 mod asked;
+mod best_match;
 mod cells;
 mod change;
 mod entry;
@@ -47,8 +48,9 @@ mod telling;
 mod timeline;
 mod watch;
 
+pub use best_match::BestMatch;
 pub use change::{Change, ChangeKind};
-pub use requests::tell_requests;
+pub use requests::{tell_requests, unicast};
 pub use row::Row;
 pub use sender::Sender;
 pub use subject::Subject;

@@ -1,10 +1,14 @@
 //! What senders hold as their packets come, and what is told of it.
-ghost use Rattle.std.specs.Prelude.{◌≡◌, ◌+◌, ◌<◌, ◌^◌, [], length, IfOk, IfSome, OnOk};
+ghost use Rattle.std.specs.Prelude.{◌≡◌, ◌+◌, ◌<◌, ◌^◌, ◌∷◌, [], length, true, IfOk, IfSome, IsTrue, None, OnOk};
 ghost use Rattle.babel_tlv.specs.FrameFaults.{BeginsPacket};
+ghost use Rattle.babel_tlv.specs.Frames.{tlv_value};
 ghost use Rattle.babel_timeline.specs.Hearing.{CountsAt, CountsPacket, octets_heard};
 ghost use Rattle.babel_timeline.specs.Hearing.{report_of};
 ghost use Rattle.babel_timeline.specs.Rows.{AllLast};
-ghost use Rattle.babel_timeline.specs.Telling.{Hears, TellsEnds};
+ghost use Rattle.babel_timeline.specs.SilencesTold.{TellsReturns, TellsSilences, hellos_among};
+ghost use Rattle.babel_timeline.specs.SilencesTold.{hellos_heard, scheduled, watches};
+ghost use Rattle.babel_timeline.specs.Telling.{Hears, TellsEnds, of_rows};
+ghost use Rattle.babel_timeline.specs.Taking.{KeepsBounds};
 
 use crate::asked::Asked;
 use crate::heard::Heard;
@@ -12,9 +16,10 @@ use crate::interest::Interest;
 use crate::sender::Sender;
 use crate::telling::Telling;
 use crate::timeline::Timeline;
+use crate::watch::Watch;
 use babel_prefix::Addr;
-use babel_table::Report;
-use babel_tlv::{Fault, Frame, Start, View, frame};
+use babel_table::{Report, Stamp};
+use babel_tlv::{Fault, Frame, Hello, Start, Tlv, Tlvs, View, frame};
 use std::alloc::{AllocError, Global};
 use std::collections::BTreeMap;
 
@@ -26,6 +31,8 @@ pub struct Teller<S: Sender> {
     interest: Interest,
     /// What of each sender was heard.
     heard: BTreeMap<S, Heard>,
+    /// Whose Hellos are waited for, where rows end and each change is told.
+    watch: Watch<S>,
 }
 
 /// The body of a packet, whose first octet lies at this offset; else the fault: RFC 8966, 4.2.
@@ -76,6 +83,90 @@ fn take<S: Sender>(
     interest.take_body(timeline, sender, start, time, body, place, report, told)
 }
 
+/// Takes all that has expired and who has fallen silent by this time, in order: of one time who is
+/// silent last. Adds what this tells.
+fn expire_watched<S: Sender>(
+    interest: &Interest,
+    timeline: &mut Timeline<S>,
+    watch: &mut Watch<S>,
+    until: u128,
+    told: &mut Vec<Telling<S>>,
+) -> Result<(), AllocError>
+    requires { interest.now.asked ≡ None }
+    ensures bounds { KeepsBounds timeline.old timeline.new }
+    ensures ok { OnOk result (TellsEnds S.cmp timeline.old.factor None until
+        timeline.old.rows timeline.new.rows
+        (of_rows None told.old.items) (of_rows None told.new.items)) }
+    ensures last { OnOk result (AllLast S.cmp timeline.old.factor until timeline.new.rows) }
+    ensures silences { OnOk result
+        (TellsSilences S.cmp [] until told.old.items told.new.items watch.old watch.new) }
+{
+    while let Some(silence) = watch.fall_silent(until)? {
+        interest.expire(timeline, silence.time, told)?;
+        Telling::add_silence(told, &silence, timeline.count_of(silence.sender))?;
+    }
+    interest.expire(timeline, until, told)
+}
+
+/// Takes the Hellos of a packet of a sender that came at this time; tells that it returns, if it was
+/// silent.
+fn hear_hellos<S: Sender>(
+    watch: &mut Watch<S>,
+    sender: S,
+    time: u128,
+    packet: &[u8],
+    told: &mut Vec<Telling<S>>,
+) -> Result<(), AllocError>
+    requires { time < 2 ^ 96 }
+    ensures rows { OnOk result (of_rows None told.new.items ≡ of_rows None told.old.items) }
+    ensures returns { OnOk result (TellsReturns S.cmp (hellos_heard sender time packet.now) time
+        told.old.items told.new.items watch.old watch.new) }
+{
+    let [_, _, _, _, body @ ..] = packet else {
+        return Ok(());
+    };
+    let mut tlvs = Tlvs::new(body, 0);
+    while let Some(tlv) = tlvs.advance() {
+        hear_hello(watch, sender, time, &tlv, told)?;
+    }
+    Ok(())
+}
+
+/// Takes a TLV if it is a multicast Hello that says when the next one comes.
+fn hear_hello<S: Sender>(
+    watch: &mut Watch<S>,
+    sender: S,
+    time: u128,
+    tlv: &Tlv<'_>,
+    told: &mut Vec<Telling<S>>,
+) -> Result<(), AllocError>
+    requires { time < 2 ^ 96 }
+    ensures rows { OnOk result (of_rows None told.new.items ≡ of_rows None told.old.items) }
+    ensures returns { OnOk result (TellsReturns S.cmp
+        (hellos_among sender time (tlv_value tlv.now ∷ [])) time told.old.items told.new.items
+        watch.old watch.new) }
+{
+    let Some(interval) = scheduled(tlv) else {
+        return Ok(());
+    };
+    if watch.hear(sender, Stamp::new(time, interval))? {
+        return Telling::add_return(told, time, sender);
+    }
+    Ok(())
+}
+
+/// The Interval of a multicast Hello that says when the next one comes.
+fn scheduled(tlv: &Tlv<'_>) -> Option<u16>
+    ensures { result ≡ scheduled (tlv_value tlv.now) }
+{
+    let hello = Hello::read(tlv)?;
+    if hello.is_scheduled() {
+        Some(hello.interval)
+    } else {
+        None
+    }
+}
+
 impl<S: Sender> Teller<S> {
     /// Nothing was heard. There may be at most so many rows of all senders together; what is
     /// announced ends so many ten-millionths of its Interval later, or never without a factor. The
@@ -92,6 +183,7 @@ impl<S: Sender> Teller<S> {
         ensures view { result.interest.view ≡ view }
         ensures asked { result.interest.asked ≡ pair }
         ensures heard { result.heard.entries ≡ [] }
+        ensures watch { result.watch ≡ record { rows = []; silent = record { keys = [] } } }
     {
         let asked = match pair {
             None => None,
@@ -101,6 +193,7 @@ impl<S: Sender> Teller<S> {
             timeline: Timeline::new(alloc, factor, limit),
             interest: Interest { view, asked },
             heard: BTreeMap::new(alloc),
+            watch: Watch::new(alloc),
         }
     }
 
@@ -110,12 +203,61 @@ impl<S: Sender> Teller<S> {
             × (self.new.interest ≡ self.old.interest) }
         ensures ok { OnOk result (TellsEnds S.cmp self.old.timeline.factor
             self.old.interest.asked until self.old.timeline.rows self.new.timeline.rows
-            told.old.items told.new.items) }
+            (of_rows self.old.interest.asked told.old.items)
+            (of_rows self.old.interest.asked told.new.items)) }
         ensures last { OnOk result
             (AllLast S.cmp self.old.timeline.factor until self.new.timeline.rows) }
         ensures heard { self.new.heard ≡ self.old.heard }
+        ensures silences { watches self.old.timeline.factor self.old.interest.asked ≡ true
+            → OnOk result (TellsSilences S.cmp [] until told.old.items told.new.items
+            self.old.watch self.new.watch) }
     {
+        if self.is_watching() {
+            let timeline = &mut self.timeline;
+            return expire_watched(&self.interest, timeline, &mut self.watch, until, told);
+        }
         self.interest.expire(&mut self.timeline, until, told)
+    }
+
+    /// How many octets the packets that were heard of a sender have.
+    pub fn octets(&self, sender: S) -> u64
+        ensures { result ≡ octets_heard S.cmp self.now.heard.entries sender }
+    {
+        match self.heard.get(&sender) {
+            Some(heard) => heard.octets,
+            None => 0,
+        }
+    }
+
+    /// Whether it is told who is silent: where rows end and each change is told.
+    fn is_watching(&self) -> bool
+        ensures is { result ≡ watches self.now.timeline.factor self.now.interest.asked }
+        ensures none { IsTrue result → self.now.interest.asked ≡ None }
+    {
+        self.interest.asked.is_none() && self.timeline.has_factor()
+    }
+
+    /// Takes the Hellos of a packet of a sender that came at this time, before its other TLVs.
+    fn hear_hellos(
+        &mut self,
+        sender: S,
+        time: u128,
+        packet: &[u8],
+        told: &mut Vec<Telling<S>>,
+    ) -> Result<(), AllocError>
+        requires { time < 2 ^ 96 }
+        ensures same { (self.new.timeline ≡ self.old.timeline)
+            × (self.new.interest ≡ self.old.interest) × (self.new.heard ≡ self.old.heard) }
+        ensures told { OnOk result (of_rows self.old.interest.asked told.new.items
+            ≡ of_rows self.old.interest.asked told.old.items) }
+        ensures returns { watches self.old.timeline.factor self.old.interest.asked ≡ true
+            → OnOk result (TellsReturns S.cmp (hellos_heard sender time packet.now) time
+            told.old.items told.new.items self.old.watch self.new.watch) }
+    {
+        if self.is_watching() {
+            return hear_hellos(&mut self.watch, sender, time, packet, told);
+        }
+        Ok(())
     }
 
     /// How many TLVs the packets that were heard of a sender have, and which were ignored; the
@@ -143,6 +285,35 @@ impl<S: Sender> Teller<S> {
         requires { time < 2 ^ 96 }
         ensures same { (self.new.timeline.factor ≡ self.old.timeline.factor)
             × (self.new.interest ≡ self.old.interest) }
+        ensures ok { OnOk result (Hears S.cmp self.old.timeline.factor self.old.interest.asked
+            self.old.interest.view sender start time
+            (octets_heard S.cmp self.old.heard.entries sender) packet.now
+            self.old.timeline.rows self.new.timeline.rows
+            (of_rows self.old.interest.asked told.old.items)
+            (of_rows self.old.interest.asked told.new.items)) }
+        ensures counts { OnOk result (CountsPacket S.cmp sender start packet.now
+            self.old.heard.entries self.new.heard.entries) }
+        ensures silences { watches self.old.timeline.factor self.old.interest.asked ≡ true
+            → OnOk result (TellsSilences S.cmp (hellos_heard sender time packet.now) time
+            told.old.items told.new.items self.old.watch self.new.watch) }
+    {
+        self.expire(time, told)?;
+        self.hear_hellos(sender, time, packet, told)?;
+        self.hear_packet(sender, start, time, packet, told)
+    }
+
+    /// Takes a whole packet of a sender, and what has expired by its time, but for its Hellos.
+    fn hear_packet(
+        &mut self,
+        sender: S,
+        start: Start,
+        time: u128,
+        packet: &[u8],
+        told: &mut Vec<Telling<S>>,
+    ) -> Result<(), Fault>
+        requires { time < 2 ^ 96 }
+        ensures same { (self.new.timeline.factor ≡ self.old.timeline.factor)
+            × (self.new.interest ≡ self.old.interest) × (self.new.watch ≡ self.old.watch) }
         ensures ok { OnOk result (Hears S.cmp self.old.timeline.factor self.old.interest.asked
             self.old.interest.view sender start time
             (octets_heard S.cmp self.old.heard.entries sender) packet.now

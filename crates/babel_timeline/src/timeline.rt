@@ -4,6 +4,7 @@ ghost use Rattle.std.specs.Prelude.{IfSome, IsSome, IsTrue, MatchOption, OnErr, 
 ghost use Rattle.std.specs.BTreeMap.{insert_entry, is_at};
 ghost use Rattle.std.specs.BTreeMap.Range.{IsLeBy};
 ghost use Rattle.std.specs.Map.{remove_entry};
+ghost use Rattle.std.specs.Option.{is_some};
 ghost use Rattle.babel_tlv.specs.Keys.{key_cmp};
 ghost use Rattle.babel_tlv.specs.Route.{RouteKey};
 ghost use Rattle.babel_timeline.specs.Changes.{TellsAnnouncement, ending};
@@ -157,6 +158,13 @@ impl<S: Sender> Timeline<S> {
         Some(entry.row)
     }
 
+    /// Whether rows end.
+    pub(crate) fn has_factor(&self) -> bool
+        ensures { result ≡ is_some self.now.factor }
+    {
+        self.factor.is_some()
+    }
+
     /// Whether there may be one more row.
     fn is_full(&self) -> bool
         ensures { IsTrue result ↔ (self.now.limit ≤ length self.now.rows) }
@@ -255,14 +263,14 @@ impl<S: Sender> Timeline<S> {
     /// Of what the sender holds for keys up to this one, what it holds for the last of them. Where
     /// the key is that of a pair of addresses, and rows are only of keys that contain both, this is
     /// their best match (RFC 9079, 4).
-    pub fn last_of(&self, sender: S, most: &Key) -> Option<Row>
+    pub fn last_of(&self, sender: S, most: &Key) -> Option<(Key, Row)>
         ensures { MatchOption result (HasNoneUpTo S.cmp sender most.now self.now.rows)
             (IsLastUpTo S.cmp sender most.now self.now.rows) }
     {
         let key = *most;
         let last = self.cells.last_up_to(Subject { sender, key })?;
         if are_one(last.sender, sender) {
-            self.row(&last)
+            Some((last.key, self.row(&last).unwrap()))
         } else {
             None
         }

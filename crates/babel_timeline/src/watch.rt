@@ -1,5 +1,5 @@
 //! Whose Hellos are waited for.
-ghost use Rattle.std.specs.Prelude.{◌≡◌, ◌≤◌, [], IfNone, IfOk, IfSome, OnOk};
+ghost use Rattle.std.specs.Prelude.{◌≡◌, ◌<◌, ◌≤◌, [], length, IfNone, IfOk, IfSome, OnOk};
 ghost use Rattle.babel_timeline.specs.Silence.{FallsSilent, NoneFallsSilent, TakesHello, hello_key};
 ghost use Rattle.babel_timeline.specs.Silence.{is_silent};
 
@@ -86,6 +86,8 @@ impl<S: Sender> Watch<S> {
         ensures none { IfOk result (λ first. IfNone first (NoneFallsSilent S.cmp until self.old)) }
         ensures same { IfOk result (λ first. IfNone first (self.new ≡ self.old)) }
         ensures by { IfOk result (λ first. IfSome first (λ silence. silence.time ≤ until)) }
+        ensures fewer { IfOk result (λ first. IfSome first
+            (λ _. length self.new.rows < length self.old.rows)) }
         ensures first { IfOk result (λ first. IfSome first
             (λ silence. FallsSilent S.cmp silence self.old self.new)) }
     {

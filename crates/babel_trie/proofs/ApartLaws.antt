@@ -47,19 +47,9 @@ module _ {F : Type 0} where
       sym (ap (λ n. take n xs) count ∙ take-length xs)
 
   -- the changes behind the first
-  pub tail-runs : (list : List (Change F)) → 0 < length list → AreRuns list → AreRuns (take (length list - 1) (drop 1 list))
-  tail-runs [] some runs = absurd (omega arith)
-  tail-runs (x ∷ xs) some runs = subst AreRuns (tail-is x xs) (runs-rest x xs runs)
-
   pub tail-behind : (list : List (Change F)) (other : Change F) (at : ℕ) → 0 < length list → AreRuns list → at ≤ (get_or list 0 other).start → StartAfter at (take (length list - 1) (drop 1 list))
   tail-behind [] other at some runs le = absurd (omega arith)
   tail-behind (x ∷ xs) other at some runs le = subst (StartAfter at) (tail-is x xs) (λ y t. omega (arith, runs-above x xs runs y t))
-
-  pub tail-said : (none : F) (list : List (Change F)) (other : Change F) (d : ℕ) → 0 < length list → (get_or list 0 other).start ≤ d →
-      said_at (get_or list 0 other).sources (take (length list - 1) (drop 1 list)) d ≡ said_at none list d
-  tail-said none [] other d some le = absurd (omega arith)
-  tail-said none (x ∷ xs) other d some le =
-      ap (λ ys. said_at x.sources ys d) (sym (tail-is x xs)) ∙ sym (ap (λ b. said_at (cond b x.sources none) xs d) (reached x d le))
 
   -- a list that says something of the first address says the same whatever came before
   pub said-first : (list : List (Change F)) (other : Change F) (none : F) (end : ℕ) → 0 < length list → start_or end list ≡ 0 → (d : ℕ)

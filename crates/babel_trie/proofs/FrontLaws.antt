@@ -106,16 +106,20 @@ module _ {V : Type 0} (w : ℕ) where
           let from = from_map row_of xs row t in
           subst (Listed (map row_of ys)) from.2 (to_map row_of ys from.0 (all from.0 from.1 (subst (Matches w d s) (sym from.2) m)))
 
-  pub filter-table : (p : Entry V → Bool) (rows : List (Entry V)) → IsTable w (map row_of rows) → IsTable w (map row_of (filter p rows))
-  filter-table p rows table = record {
+  -- some rows of a table are a table
+  pub part_table : (part rows : List (Entry V)) → ((row : Entry V) → Listed part row → Listed rows row) → IsTable w (map row_of rows) → IsTable w (map row_of part)
+  part_table part rows all table = record {
     prefixes = λ row c. table.prefixes row (whole row c);
     one_row = λ row other c d. table.one_row row other (whole row c) (whole other d);
   }
     where
-      whole : (row : Row V) → Contains (map row_of (filter p rows)) row → Contains (map row_of rows) row
+      whole : (row : Row V) → Contains (map row_of part) row → Contains (map row_of rows) row
       whole row c =
-          let from = from_map row_of (filter p rows) row (Listed-from_Contains (map row_of (filter p rows)) row c) in
-          Contains-from_Listed (map row_of rows) row (subst (Listed (map row_of rows)) from.2 (to_map row_of rows from.0 (Listed-filter p rows from.0 from.1).0))
+          let from = from_map row_of part row (Listed-from_Contains (map row_of part) row c) in
+          Contains-from_Listed (map row_of rows) row (subst (Listed (map row_of rows)) from.2 (to_map row_of rows from.0 (all from.0 from.1)))
+
+  pub filter-table : (p : Entry V → Bool) (rows : List (Entry V)) → IsTable w (map row_of rows) → IsTable w (map row_of (filter p rows))
+  filter-table p rows = part_table (filter p rows) rows (λ row t. (Listed-filter p rows row t).0)
 
 -- ---- where two pairs of functions agree and differ at the same places
 

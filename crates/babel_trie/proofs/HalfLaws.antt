@@ -1,9 +1,6 @@
 -- The halves of whatever is laid over.
-use Rattle.std.proofs.Common.{◌≡◌, ℕ, ◌-◌, ◌<◌, ◌≤◌, List, Option, refl, sym, subst, arith}
+use Rattle.std.proofs.Common.{◌≡◌, ℕ, ◌-◌, ◌<◌, ◌≤◌, List, Option, refl, sym, subst}
 use Rattle.babel_prefix.specs.Entries.{Entry}
-use Rattle.babel_prefix.specs.Width.{width_of}
-use Rattle.babel_prefix.specs.declared.family.Family.{Family}
-use Rattle.babel_prefix.specs.declared.family.Family.TheVariants.{V4, V6}
 use Rattle.babel_trie.specs.Shape.{Shape, height, IsReduced}
 use Rattle.babel_trie.specs.Interned.{HaveHalves, Stands, IsNormalLoose, IsTrie, IsHalved, HasOneForm}
 use Rattle.babel_trie.specs.Laid.{IsSet}
@@ -37,15 +34,11 @@ module _ {V : Type 0} where
       record { trie = set.new; stands = set.stands; fits = set_fits own old set.new bits set.is fits; reduced = set_reduced own old set.new set.is reduced }
 
 module _ {V : Type 0} (bits : ℕ) (nodes : List (Node V)) (x low high : Loose V) (some : 0 < bits) (h : IsTrie bits nodes x) where
-  pub half_tries : IsHalved nodes h.trie low high → IsTrie (bits - 1) nodes low × IsTrie (bits - 1) nodes high
-  half_tries p = halves_are_tries bits nodes x low high h some p
+  pub half_tries : ((v : V) → x ≡ Same v → (low ≡ x) × (high ≡ x)) → ((node : Node V) → x ≡ Split node → HaveHalves nodes node low high) → IsTrie (bits - 1) nodes low × IsTrie (bits - 1) nodes high
+  half_tries one node = halves_are_tries bits nodes x low high h some (halved nodes x low high one node h.trie h.stands)
 
 -- the halves of a trie that is no single value
 pub fork_halves : {V : Type 0} (nodes : List (Node V)) (x low high : Loose V) → ((v : V) → x ≡ Same v → ⊥)
     → ((node : Node V) → x ≡ Split node → HaveHalves nodes node low high) → (t : Shape V) → Stands nodes x t → ForkOf nodes low high t
 fork_halves nodes (Same v) low high none node t p = absurd (none v refl)
 fork_halves nodes (Split m) low high none node t p = fork_of nodes (Split m) low high t (node m refl) p
-
-pub width_most : (family : Family) → width_of family ≤ 128
-width_most V4 = omega arith
-width_most V6 = omega arith

@@ -7,6 +7,7 @@ use Rattle.std.specs.declared.cmp.Ordering.TheVariants.{Less, Greater}
 use Rattle.babel_trie.specs.Sound.{IsSound}
 use Rattle.babel_trie.specs.declared.index.Index.{Index}
 use Rattle.babel_trie.specs.declared.table.Node.{Node}
+use Rattle.babel_trie.specs.declared.table.NodeNumber.{NodeNumber}
 use Rattle.babel_trie.specs.declared.table.Sources.{Sources}
 use Rattle.babel_trie.specs.declared.table.Sources.TheVariants.{Constant, Stored}
 
@@ -18,6 +19,14 @@ sources_cmp cmp (Stored k) (Constant w) = Greater
 sources_cmp cmp (Stored k) (Stored m) = nat_cmp k.0 m.0
 
 -- a table is sound by each order that compares the same
-pub sound_by : {V : Type 0} {cmp other : Sources V → Sources V → Ordering} {mark : Sources V → ℕ} (nodes : List (Node V)) (numbers : Index (Node V))
-    → ((r s : Sources V) → cmp r s ≡ other r s) → IsSound cmp mark nodes numbers → IsSound other mark nodes numbers
-sound_by {mark} nodes numbers same sound = subst (λ c. IsSound c mark nodes numbers) (fun_ext (λ r. fun_ext (same r))) sound
+pub sound_by : {V : Type 0} {cmp other : Sources V → Sources V → Ordering} {mark : Sources V → ℕ} {nodes : List (Node V)} {numbers : Index (Node V)}
+    → ((v w : V) → cmp (Constant v) (Constant w) ≡ other (Constant v) (Constant w)) → ((v : V) (m : NodeNumber) → cmp (Constant v) (Stored m) ≡ other (Constant v) (Stored m))
+    → ((k : NodeNumber) (w : V) → cmp (Stored k) (Constant w) ≡ other (Stored k) (Constant w)) → ((k m : NodeNumber) → cmp (Stored k) (Stored m) ≡ other (Stored k) (Stored m))
+    → IsSound cmp mark nodes numbers → IsSound other mark nodes numbers
+sound_by {V} {cmp} {other} {mark} {nodes} {numbers} constants first second numbered sound = subst (λ c. IsSound c mark nodes numbers) (fun_ext (λ r. fun_ext (same r))) sound
+  where
+    same : (r s : Sources V) → cmp r s ≡ other r s
+    same (Constant v) (Constant w) = constants v w
+    same (Constant v) (Stored m) = first v m
+    same (Stored k) (Constant w) = second k w
+    same (Stored k) (Stored m) = numbered k m

@@ -116,7 +116,3 @@ module _ {X : Type 0} (R : X → X → Type 0) where
       let e : suc k + 1 ≡ suc (k + 1) = omega arith in
       subst (λ n. R (get_or (y ∷ ys) k d) (get_or (x ∷ y ∷ ys) n d)) e (adjacent (suc k) d (omega arith))) in
       ((λ z t. elim t [ inl same ↦ subst (R x) same first | inr later ↦ trans x y z first (rest.0 z later) ]), rest)
-
-  pub InOrder-weaken : (S : X → X → Type 0) → ((x y : X) → R x y → S x y) → (xs : List X) → InOrder R xs → InOrder S xs
-  InOrder-weaken S to [] o = tt
-  InOrder-weaken S to (x ∷ xs) o = ((λ y t. to x y (o.0 y t)), InOrder-weaken S to xs o.1)

@@ -2,11 +2,12 @@
 use Rattle.std.proofs.Common.{◌≡◌, inl, inr, ℕ, List, [], ◌++◌, Option, Some, None, refl, sym, ◌∙◌, ap, subst}
 use Rattle.babel_prefix.specs.Best.{Row, answer}
 use Rattle.babel_prefix.specs.BestRow.{Matches, IsNoLonger, IsTable}
+use Rattle.babel_prefix.specs.Covers.{BlockCovers}
 use Rattle.babel_prefix.proofs.Members.{Listed}
 use Rattle.babel_trie.specs.Rows.{NoneMatches, Overlays}
-use Rattle.babel_prefix.proofs.Members.{Listed-append_left, Listed-append_right, Listed-append_cases}
+use Rattle.babel_prefix.proofs.Members.{Contains-from_Listed, Listed-append_left, Listed-append_right, Listed-append_cases}
 use Rattle.babel_prefix.proofs.AnswerLaws.{IsTop, answer-top, top-from_answer, top_is_one}
-use Rattle.babel_prefix.proofs.BestLaws.{best_from_top, top_from_best}
+use Rattle.babel_prefix.proofs.BestLaws.{best_from_top, none-matches, top_from_best}
 
 module _ {V : Type 0} where
   -- the value of a matching row than which no matching row is longer
@@ -63,3 +64,12 @@ module _ {V : Type 0} where
       no_answer : (o : Option V) → answer w rows d s ≡ o → o ≡ None
       no_answer None e = refl
       no_answer (Some v) e = let top = top-from_answer w rows d s v e in absurd (none top.0 top.1.listed top.1.matching)
+
+  -- rows that say what is answered already change nothing
+  pub overlays_same : (w : ℕ) (rows : List (Row V)) (d s : ℕ) (old : Option V) → IsTable w rows →
+      ((row : Row V) → Listed rows row → BlockCovers w row.src s → old ≡ Some row.value) → Overlays w rows d s old old
+  overlays_same w rows d s old t says = by (answer w rows d s) refl
+    where
+      by : (o : Option V) → answer w rows d s ≡ o → Overlays w rows d s old old
+      by None e = inr ((λ row m. none-matches w rows d s row t e (Contains-from_Listed rows row m)), refl)
+      by (Some v) e = let top = top-from_answer w rows d s v e in overlays_top w rows d s old old top.0 top.1 (says top.0 top.1.listed top.1.matching.1)

@@ -62,10 +62,6 @@ module _ {V : Type 0} (nodes : List (Node V)) where
   from_start (Constant v) x p = p
   from_start (Stored n) x p = (p.0, p.1, omega arith, p.2)
 
-  pub to_start : (s : Sources V) (x : Loose V) → OpensFrom nodes s 0 x → Opens nodes s x
-  to_start (Constant v) x p = p
-  to_start (Stored n) x p = (p.0, p.1, p.3)
-
   pub from_stored : (number : NodeNumber) (node : Node V) (passed : ℕ) (x : Loose V) → OpensFrom nodes (Stored number) passed x → slice_get nodes number.0 ≡ Some node →
       (passed ≤ node.skip) × (x ≡ Split (further passed node))
   from_stored number node passed x p at =

@@ -19,7 +19,6 @@ use Rattle.std.proofs.Math.Seq.{take-length}
 use Rattle.std.proofs.lemmas.List.{length-take}
 use Rattle.babel_trie.proofs.HeldLaws.{sources_at-stands}
 use Rattle.babel_trie.proofs.NumberLaws.{Represents-grows, slice_get-take, slice_get_in}
-use Rattle.babel_trie.proofs.FormLaws.{HasTrie-grows}
 
 module _ {F : Type 0} where
   pub reached : (x : Change F) (d : ℕ) → x.start ≤ d → nat_le x.start d ≡ true
@@ -59,23 +58,6 @@ module _ {V : Type 0} where
   pub runs-same : (w : ℕ) (sources : List (Node (Option V))) (list : List (Change (Sources (Option V)))) (f g : Answers V) → SameAnswers w f g → HasRuns w sources list f → HasRuns w sources list g
   runs-same w sources list f g same p =
       record { runs = p.runs; below = p.below; each = p.each; answers = λ none d s d_in s_in. p.answers none d s d_in s_in ∙ same d s d_in s_in }
-
-  -- a table that grows keeps the answers
-  pub runs-grow : (w : ℕ) (sources more : List (Node (Option V))) (list : List (Change (Sources (Option V)))) (f : Answers V)
-      → KeepsNodes sources more → HasRuns w sources list f → HasRuns w more list f
-  runs-grow w sources more list f keeps p =
-      let each : (none : Sources (Option V)) (d : ℕ) → d < 2 ^ w → HasTrie w more (said_at none list d) =
-      λ none d d_in. HasTrie-grows sources more keeps w (said_at none list d) (p.each none d d_in) in
-      record {
-        runs = p.runs;
-        below = p.below;
-        each = each;
-        answers = λ none d s d_in s_in.
-            let n = said_at none list d in
-            let h = p.each none d d_in in
-            let h' : HasTrie w more n = record { trie = h.trie; stands = Represents-grows sources more keeps n h.trie h.stands; fits = h.fits; reduced = h.reduced } in
-            ap (λ t. value_at t w s) (sources_at-stands w more n h' ∙ sym (sources_at-stands w sources n h)) ∙ p.answers none d s d_in s_in;
-      }
 
   -- the sources stand for a trie with these values
   pub record HasValues (w : ℕ) (values : ℕ → Option V) (nodes : List (Node (Option V))) (s : Sources (Option V)) : Type 0 where

@@ -65,3 +65,9 @@ module _ {V : Type 0} where
     pub values : (d a : ℕ) → ((row : Row V) → Listed rows row → BlockCovers w row.dst d) →
         a < 2 ^ bits →
         Overlays w rows d (start + a) (value_at old bits a) (value_at new bits a)
+
+  -- what the sources stand for gives all sources of the row its value
+  abbrev pub SaysOf : ℕ → List (Node (Option V)) → Sources (Option V) → Entry V → Type 0
+  SaysOf w nodes s row =
+      (t : Shape (Option V)) (a : ℕ) → Represents nodes s t → BlockCovers w (block_of row.1) a →
+      value_at t w a ≡ Some row.2

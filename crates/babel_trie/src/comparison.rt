@@ -58,15 +58,15 @@ impl<V: LawfulOrd> Comparison<V> {
     fn told(
         &mut self,
         table: &Table<Option<V>>,
-        left: Loose<Option<V>>,
-        right: Loose<Option<V>>,
+        left: &Loose<Option<V>>,
+        right: &Loose<Option<V>>,
         bits: u8,
     ) -> Result<Loose<Option<Differing<V>>>, AllocError>
         requires sound { IsSound ⟦<Sources<Option<Differing<V>>> as Ord>⟧.cmp
             ⟦<Sources<Option<Differing<V>>> as LawfulOrd>⟧.mark
             self.old.differences.nodes.items self.old.differences.numbers }
-        requires left { IsTrie bits table.now.nodes.items left }
-        requires right { IsTrie bits table.now.nodes.items right }
+        requires left { IsTrie bits table.now.nodes.items left.now }
+        requires right { IsTrie bits table.now.nodes.items right.now }
         requires width { bits ≤ 128 }
         ensures sound { OnOk result (IsSound ⟦<Sources<Option<Differing<V>>> as Ord>⟧.cmp
             ⟦<Sources<Option<Differing<V>>> as LawfulOrd>⟧.mark
@@ -74,7 +74,7 @@ impl<V: LawfulOrd> Comparison<V> {
         ensures keeps { OnOk result (KeepsNodes self.old.differences.nodes.items
             self.new.differences.nodes.items) }
         ensures normal { IfOk result (IsNormalLoose self.new.differences.nodes.items) }
-        ensures told { IfOk result (IsTold table.now.nodes.items left right
+        ensures told { IfOk result (IsTold table.now.nodes.items left.now right.now
             self.new.differences.nodes.items) }
     {
         self.compared = self.compared.saturating_add(1);
@@ -84,10 +84,10 @@ impl<V: LawfulOrd> Comparison<V> {
         if let Some((value, other)) = both_same(left, right) {
             return Ok(Loose::Same(told_apart(value, other)));
         }
-        let (left_low, left_high) = table.halves(left);
-        let (right_low, right_high) = table.halves(right);
-        let low = self.told(table, left_low, right_low, bits - 1)?;
-        let high = self.told(table, left_high, right_high, bits - 1)?;
+        let (left_low, left_high) = table.halves(*left);
+        let (right_low, right_high) = table.halves(*right);
+        let low = self.told(table, &left_low, &right_low, bits - 1)?;
+        let high = self.told(table, &left_high, &right_high, bits - 1)?;
         let mut whole = Loose::Same(None);
         self.differences.join(&low, &high, &mut whole)?;
         Ok(whole)
@@ -115,13 +115,13 @@ impl<V: LawfulOrd> Comparison<V> {
         ensures told { IfOk result (AreTold table.now.nodes.items left right
             self.new.differences.nodes.items) }
     {
-        let told = self.told(table, table.opened(left), table.opened(right), bits)?;
+        let told = self.told(table, &table.opened(left), &table.opened(right), bits)?;
         let sources = self.differences.stored(&told)?;
         Ok(sources)
     }
 
     /// Whether a list of changes is known to have more boxes than so many. They are counted each
-    /// time that twice as many tries have been compared: all counts together cost no more than the
+    /// time that a quarter more tries have been compared: all counts together cost no more than the
     /// comparisons.
     fn has_more(
         &mut self,
@@ -144,7 +144,7 @@ impl<V: LawfulOrd> Comparison<V> {
         if self.compared < self.due {
             return Ok(false);
         }
-        self.due = self.compared.saturating_mul(2);
+        self.due = self.compared.saturating_add(self.compared / 4);
         let count = self.differences.early_count(alloc, list)?;
         Ok(count > most)
     }

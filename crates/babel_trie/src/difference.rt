@@ -25,7 +25,7 @@ impl Tables {
         ensures same { IsTrue result → whole ≡ other }
     {
         match self {
-            Tables::One => are_one(whole, other),
+            Tables::One => are_one(&whole, &other),
             Tables::Two => false,
         }
     }
@@ -42,24 +42,24 @@ fn in_upper_half(at: u128, bits: u8) -> u128
 }
 
 /// Whether the two are one.
-pub fn are_one<V: LawfulOrd>(whole: Loose<V>, other: Loose<V>) -> bool
-    ensures { IsTrue result → whole ≡ other }
+pub fn are_one<V: LawfulOrd>(whole: &Loose<V>, other: &Loose<V>) -> bool
+    ensures { IsTrue result → whole.now ≡ other.now }
 {
     match (whole, other) {
-        (Loose::Same(value), Loose::Same(other)) => are_same(value, other),
-        (Loose::Split(node), Loose::Split(other)) => are_same(node, other),
+        (Loose::Same(value), Loose::Same(other)) => are_same(*value, *other),
+        (Loose::Split(node), Loose::Split(other)) => are_same(*node, *other),
         _ => false,
     }
 }
 
 /// The two values, where both are one value for all sources.
-pub fn both_same<V: Copy>(whole: Loose<V>, other: Loose<V>) -> Option<(V, V)>
-    ensures constants { IfSome result (λ p. (whole ≡ Same p.0) × (other ≡ Same p.1)) }
+pub fn both_same<V: Copy>(whole: &Loose<V>, other: &Loose<V>) -> Option<(V, V)>
+    ensures constants { IfSome result (λ p. (whole.now ≡ Same p.0) × (other.now ≡ Same p.1)) }
     ensures fork { IfNone result ((bits : ℕ) (nodes others : List (Node V))
-        → IsTrie bits nodes whole → IsTrie bits others other → 0 < bits) }
+        → IsTrie bits nodes whole.now → IsTrie bits others other.now → 0 < bits) }
 {
     match (whole, other) {
-        (Loose::Same(left), Loose::Same(right)) => Some((left, right)),
+        (Loose::Same(left), Loose::Same(right)) => Some((*left, *right)),
         _ => None,
     }
 }
@@ -86,7 +86,7 @@ impl<V: LawfulOrd> Table<V> {
         if tables.are_one_trie(whole, other_whole) {
             return None;
         }
-        if let Some((left, right)) = both_same(whole, other_whole) {
+        if let Some((left, right)) = both_same(&whole, &other_whole) {
             return if are_same(left, right) { None } else { Some(0) };
         }
         let (low, high) = self.halves(whole);

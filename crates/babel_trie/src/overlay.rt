@@ -1,16 +1,18 @@
 //! The rows of one destination, laid over a trie of sources.
 ghost use Rattle.std.specs.Prelude.{◌≡◌, ℕ, ◌+◌, ◌-◌, ◌^◌, ◌<◌, ◌≤◌, ◌∷◌, ◌++◌};
-ghost use Rattle.std.specs.Prelude.{List, [], map, length, IfOk, IfSome, OnOk, Option};
+ghost use Rattle.std.specs.Prelude.{List, [], map, length, IfOk, IfSome, OnOk, Option, true};
 ghost use Rattle.babel_trie.specs.Shape.{Shape};
 ghost use Rattle.babel_trie.specs.Interned.{Stands, IsNormalLoose, IsTrie, Represents, HasTrie};
-ghost use Rattle.babel_trie.specs.Laid.{HasOneDestination, IsSet, IsLaid, IsOverlaid};
+ghost use Rattle.babel_trie.specs.Laid.{HasOneDestination, IsSet, IsLaid, IsOverlaid, SaysOf};
+ghost use Rattle.babel_prefix.specs.BestRow.{IsTable};
 ghost use Rattle.babel_prefix.specs.Entries.{Entry, row_of};
+ghost use Rattle.babel_prefix.specs.Members.{Listed};
 ghost use Rattle.babel_trie.specs.Inner.{IsInner, IsInside};
 ghost use Rattle.babel_trie.specs.Rows.{source_block, AreParted, InBlock, IsPlace};
 ghost use Rattle.babel_trie.specs.Sound.{IsSound, KeepsNodes};
 ghost use Rattle.babel_trie.specs.declared.table.Node.{Node};
 
-use crate::lawful::LawfulOrd;
+use crate::lawful::{LawfulOrd, are_same};
 use crate::rows::{Halves, Inner, Row, inner_block, parts};
 use crate::table::{Loose, Sources, Table, alone};
 use std::alloc::AllocError;
@@ -95,6 +97,24 @@ fn narrow<V: LawfulOrd>(
 }
 
 impl<V: LawfulOrd> Table<Option<V>> {
+    /// Whether all sources of each row are given its value already.
+    fn says_all(&self, rows: &[Row<V>], width: u8, sources: &Sources<Option<V>>) -> bool
+        requires trie { HasTrie width self.now.nodes.items sources.now }
+        requires width { width ≤ 128 }
+        ensures { result ≡ true → (row : Entry V) → Listed rows.now row
+            → SaysOf width self.now.nodes.items sources.now row }
+    {
+        let mut left = rows;
+        while let Some((row, others)) = left.split_first() {
+            let (value, bits) = self.get(sources, 0, width, row.1.addr().bits());
+            if bits < width.saturating_sub(row.1.len()) || !are_same(*value, Some(row.2)) {
+                return false;
+            }
+            left = others;
+        }
+        true
+    }
+
     /// Lays the rows of both halves of a block over its trie.
     #[cycle(lay)]
     fn lay_halves(
@@ -218,7 +238,7 @@ impl<V: LawfulOrd> Table<Option<V>> {
     }
 
     /// The trie with rows of one destination laid over it. Of one row from all sources nothing is
-    /// stored.
+    /// stored, and of rows that say nothing new.
     pub fn overlaid(
         &mut self,
         rows: &[Row<V>],
@@ -229,6 +249,7 @@ impl<V: LawfulOrd> Table<Option<V>> {
             ⟦<Sources<Option<V>> as LawfulOrd>⟧.mark self.old.nodes.items self.old.numbers }
         requires trie { HasTrie width self.old.nodes.items old }
         requires rows { InBlock source_block width width 0 rows.now }
+        requires table { IsTable width (map row_of rows.now) }
         requires one { HasOneDestination rows.now }
         requires width { width ≤ 128 }
         ensures sound { OnOk result (IsSound ⟦<Sources<Option<V>> as Ord>⟧.cmp
@@ -240,6 +261,9 @@ impl<V: LawfulOrd> Table<Option<V>> {
     {
         if let Some(value) = only_value(rows, 0) {
             return Ok(Sources::Constant(Some(value)));
+        }
+        if self.says_all(rows, width, &old) {
+            return Ok(old);
         }
         let mut trie = self.opened(old);
         self.lay(rows, width, width, 0, &mut trie)?;

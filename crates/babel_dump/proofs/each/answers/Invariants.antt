@@ -7,6 +7,6 @@ use Rattle.babel_dump.proofs.each.answers.Given as goal
 
 abbrev pub invariant-loop-pair : goal.invariant-loop-pair
 invariant-loop-pair l = record {
-  text : (format : Format) → flat_map (answered_in format) l.answers.items ≡ each_in format l.table (take l.pair-index l.asked);
+  text : (format : Format) → flat_map (answered_in format) l.answers.items ≡ each_in format l.with_prefix l.table (take l.pair-index l.asked);
   status : l.status ≡ each_status l.table (take l.pair-index l.asked);
 }

@@ -19,4 +19,4 @@ returns-in_err-table-clause-fault c =
 
 pub returns-clause-ok : goal.returns-clause-ok
 returns-clause-ok c input is =
-    record { table = c.in_ok-table.table; gave = c.in_ok-table.ensures.ok input is; held = c.lookup.ensures.answer; report = search rules }
+    record { table = c.in_ok-table.table; gave = c.in_ok-table.ensures.ok input is; row = c.best.ensures.row; report = search rules }

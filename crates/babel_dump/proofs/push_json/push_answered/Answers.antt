@@ -5,5 +5,4 @@ pub returns-clause-text : goal.returns-clause-text
 returns-clause-text g c =
     let before = c.args.buffer.now.items in
     let addressed = appended before _ _ _ _ c.push_text.ensures.text c.push_addressed.ensures.text in
-    let answer = appended before _ _ _ _ (appended before _ _ _ _ addressed c.push_text-2.ensures.text) c.push_answer_json.ensures.text in
-    appended before _ _ _ _ (appended before _ _ _ _ answer c.push_text-3.ensures.text) c.push_octet.ensures.text
+    appended before _ _ _ _ (appended before _ _ _ _ addressed c.push_text-2.ensures.text) c.push_answer_json.ensures.text

@@ -30,7 +30,7 @@ loop-key-preserved g c =
 
 pub returns-in-Some-best : goal.returns-in-Some-best
 returns-in-Some-best g c =
-    best-found c.args.wipes c.args.rows.now c.requires _ _ c.loop-key.best _ c.loop-key.key-index c.loop-key-test.false c.in-Some-best.is c.loop-key.invariant
+    rw c.key.ensures.value (best-found c.args.wipes c.args.rows.now c.requires _ _ c.loop-key.best _ c.loop-key.key-index c.loop-key-test.false c.in-Some-best.is c.loop-key.invariant)
 
 pub returns-in-None : goal.returns-in-None
 returns-in-None g c = best-found c.args.wipes c.args.rows.now c.requires _ _ c.loop-key.best None c.loop-key.key-index c.loop-key-test.false c.in-None.is c.loop-key.invariant

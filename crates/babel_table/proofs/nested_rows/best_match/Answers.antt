@@ -1,15 +1,15 @@
 -- The last row from the source to the last destination is the best match; where there is none, the rows around that destination are next.
-use Rattle.std.proofs.Common.{◌≡◌, ◌-◌, ◌<◌, true, Some, get_or, length, sym, ◌∙◌, ap, subst, arith}
+use Rattle.std.proofs.Common.{◌≡◌, ◌-◌, ◌<◌, true, get_or, length, sym, ◌∙◌, ap, subst, arith}
 use Rattle.std.specs.List.{HoldsAt}
 use Rattle.std.specs.Map.{keys_of}
 use Rattle.std.specs.Ordering.{is_le}
 use Rattle.std.proofs.lemmas.Map.Entries.{length-keys_of}
 use Rattle.babel_prefix.specs.Address.{AddressPrefix}
 use Rattle.babel_prefix.specs.Covers.{Covers}
-use Rattle.babel_tlv.specs.declared.held.Held.{Held}
 use Rattle.babel_tlv.specs.Keys.{key_cmp}
 use Rattle.babel_tlv.specs.Route.{RouteKey}
-use Rattle.babel_table.specs.BestMatch.{ContainsBoth, IsBestMatch}
+use Rattle.babel_table.specs.BestMatch.{ContainsBoth}
+use Rattle.babel_table.specs.RowFor.{IsBestRow}
 use Rattle.babel_table.specs.Nested.{ArePast, LeadsFrom, LeadsTo}
 use Rattle.babel_table.specs.declared.nested_rows.Around.{Around}
 use Rattle.babel_table.proofs.EntryLaws.{key_of}
@@ -58,7 +58,7 @@ returns-then-last-gt0 g c =
     let after =
     found_last keys around c.requires.nested d s to (c.loop-end.end - 1) at place key_in leads (λ k f low high has. none k f (omega (arith, low)) high has)
     (λ k f low high has. c.loop-end.invariant.none k f (omega (arith, low)) high has) in
-    subst (λ (h : Held). IsBestMatch rows d s (Some h)) (sym c.held.ensures.value) (best_row rows around d s place e c.requires.nested place_in both after)
+    rw (c.key.ensures.value, c.held.ensures.value) (subst (IsBestRow rows d s) (sym c.index-rows-last.is) (best_row rows around d s place e c.requires.nested place_in both after))
 
 pub end_to-end-requires-in-loop-end-clause-up_to :
     goal.end_to-end-requires-in-loop-end-clause-up_to

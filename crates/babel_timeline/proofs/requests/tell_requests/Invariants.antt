@@ -8,8 +8,8 @@ use Rattle.babel_timeline.specs.declared.telling.Telling.TheVariants as tellings
 use Rattle.babel_timeline.proofs.requests.tell_requests.Given as goal
 
 abbrev pub invariant-loop-tlv : goal.invariant-loop-tlv
-invariant-loop-tlv g l = l.told.items ++ map (tellings.Request l.time l.sender) (filter_map (requested l.via_v6) (tlvs_left l.tlvs))
-    ≡ l.fn.told.items ++ requests_told l.via_v6 l.sender l.time l.packet
+invariant-loop-tlv g l = l.told.items ++ map (tellings.Request l.time l.sender l.to) (filter_map (requested l.via_v6) (tlvs_left l.tlvs))
+    ≡ l.fn.told.items ++ requests_told l.via_v6 l.sender l.to l.time l.packet
 
 abbrev pub decreases-loop-tlv : goal.decreases-loop-tlv
 decreases-loop-tlv g l = length (tlvs_left l.tlvs)

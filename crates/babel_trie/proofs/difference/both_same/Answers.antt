@@ -6,6 +6,6 @@ use Rattle.babel_trie.proofs.difference.both_same.Goals.{in_default-via-in-Same+
 pub returns-in_default-clause-fork : goal.returns-in_default-clause-fork
 returns-in_default-clause-fork g c bits nodes others left right =
     elim c.in_default.branch [
-      | in_default-via-in-Same+in_default w ↦ some_without_leaf bits others c.args.other (λ v e. let both = e in let fork = w.in_default.is-1 in cc) right
-      | in_default-via-in_default w ↦ some_without_leaf bits nodes c.args.whole (λ v e. let both = e in let fork = w.in_default.is-0 in cc) left
+      | in_default-via-in-Same+in_default w ↦ some_without_leaf bits others c.args.other.now (λ v e. let both = e in let fork = w.in_default.is-1 in cc) right
+      | in_default-via-in_default w ↦ some_without_leaf bits nodes c.args.whole.now (λ v e. let both = e in let fork = w.in_default.is-0 in cc) left
     ]

@@ -12,7 +12,6 @@ use Rattle.babel_trie.specs.Runs.{HasRuns}
 use Rattle.babel_trie.specs.Sound.{IsSound}
 use Rattle.babel_trie.specs.Told.{HasDifference}
 use Rattle.babel_trie.specs.declared.differing.Differing.{Differing}
-use Rattle.babel_trie.specs.declared.table.Sources.TheVariants.{Constant, Stored}
 use Rattle.babel_trie.specs.declared.table.Table.{Table}
 use Rattle.babel_trie.proofs.NodeLaws.{sources_cmp, sound_by}
 use Rattle.babel_trie.proofs.OfLaws.{table_of_entries, table_of_sorted, answers_of_entries}
@@ -63,9 +62,8 @@ pub of_runs-requires-clause-sound : goal.of_runs-requires-clause-sound
 of_runs-requires-clause-sound g c =
     let told : Table (Option (Differing g.row.V.Denot)) = c.runs.new.self.differences in
     let made : Table (Option (Differing g.row.V.Denot)) = c.into_differences.result in
-    let sound = sound_by told.nodes.items told.numbers
-    (elim [ Constant v ↦ elim [ Constant u ↦ refl | Stored m ↦ refl ] | Stored k ↦ elim [ Constant v ↦ refl | Stored m ↦ refl ] ]) c.in_ok-runs.ensures.sound in
-    sound_by made.nodes.items made.numbers (elim [ Constant v ↦ elim [ Constant u ↦ refl | Stored m ↦ refl ] | Stored k ↦ elim [ Constant v ↦ refl | Stored m ↦ refl ] ])
+    let sound = sound_by (λ _ _. refl) (λ _ _. refl) (λ _ _. refl) (λ _ _. refl) c.in_ok-runs.ensures.sound in
+    sound_by (λ _ _. refl) (λ _ _. refl) (λ _ _. refl) (λ _ _. refl)
     (subst (λ (t : Table (Option (Differing g.row.V.Denot))). IsSound (sources_cmp (option_cmp (differing_cmp g.V.Ord.cmp)))
     (sources_mark (option_mark (differing_mark (option_mark g.V.LawfulOrd.mark)))) t.nodes.items t.numbers) (sym c.into_differences.ensures) sound)
 

@@ -3,7 +3,6 @@ use Rattle.std.proofs.Common.{ℕ, ◌^◌, ◌<◌, Option, refl, sym, subst, a
 use Rattle.std.proofs.lemmas.Nat.{pow_pos}
 use Rattle.std.specs.Option.{IfSome}
 use Rattle.babel_trie.specs.Pass.{ahead_of, rows_left}
-use Rattle.babel_trie.specs.declared.table.Sources.TheVariants.{Constant, Stored}
 use Rattle.babel_trie.proofs.NodeLaws.{sound_by}
 use Rattle.babel_trie.proofs.AgreeLaws.{agree-more, differ-here}
 use Rattle.babel_trie.proofs.PairLaws.{come, rows_from}
@@ -14,8 +13,7 @@ loop-other-init g c =
     let w = c.args.width in
     let table = c.new-table.result in
     record {
-      sound = sound_by table.nodes.items table.numbers
-          (elim [ Constant v ↦ elim [ Constant u ↦ refl | Stored m ↦ refl ] | Stored k ↦ elim [ Constant v ↦ refl | Stored m ↦ refl ] ]) c.new-table.ensures.sound;
+      sound = sound_by (λ _ _. refl) (λ _ _. refl) (λ _ _. refl) (λ _ _. refl) c.new-table.ensures.sound;
       pass = c.new-pass.ensures.pass w table.nodes.items c.requires.left_order c.requires.left_table;
       other = c.new-other.ensures.pass w table.nodes.items c.requires.right_order c.requires.right_table;
       reached = omega (arith, c.new-pass.ensures.start);
@@ -27,9 +25,7 @@ loop-other-init g c =
     }
 
 pub reach_both-requires-clause-sound : goal.reach_both-requires-clause-sound
-reach_both-requires-clause-sound g c =
-    sound_by c.loop-other.table.nodes.items c.loop-other.table.numbers
-    (elim [ Constant v ↦ elim [ Constant u ↦ refl | Stored m ↦ refl ] | Stored k ↦ elim [ Constant v ↦ refl | Stored m ↦ refl ] ]) c.loop-other.invariant.sound
+reach_both-requires-clause-sound g c = sound_by (λ _ _. refl) (λ _ _. refl) (λ _ _. refl) (λ _ _. refl) c.loop-other.invariant.sound
 
 pub first_difference-requires-clause-trie : goal.first_difference-requires-clause-trie
 first_difference-requires-clause-trie g c =
@@ -73,7 +69,6 @@ loop-other-preserved g c =
     let reach = c.in_ok-next.ensures in
     let pass = c.reach_both.new.pass in
     let other = c.reach_both.new.other in
-    let table = c.reach_both.new.table in
     let quiet = (reach.next at).0 reach.behind in
     let l = come (reach.pass _ i.pass) at reach.reached i.within quiet.0 c.sources-here.result c.sources-here.ensures in
     let r = come (reach.other _ i.other) at reach.other_reached i.within quiet.1 c.sources-there.result c.sources-there.ensures in
@@ -82,7 +77,7 @@ loop-other-preserved g c =
     let behind : at < start = subst (λ (o : Option ℕ). IfSome o (λ next. at < next)) c.in-Some-next.is reach.behind in
     let within : start < 2 ^ c.args.width = subst (λ (o : Option ℕ). IfSome o (λ next. next < 2 ^ c.args.width)) c.in-Some-next.is reach.within in
     record {
-      sound = sound_by table.nodes.items table.numbers (elim [ Constant v ↦ elim [ Constant u ↦ refl | Stored m ↦ refl ] | Stored k ↦ elim [ Constant v ↦ refl | Stored m ↦ refl ] ]) reach.sound;
+      sound = sound_by (λ _ _. refl) (λ _ _. refl) (λ _ _. refl) (λ _ _. refl) reach.sound;
       pass = reach.pass _ i.pass;
       other = reach.other _ i.other;
       reached = omega (arith, reach.reached);

@@ -35,6 +35,7 @@ returns-clause-passed g c at =
       time = c.time-time.ensures;
       packet = (refl, refl);
       missed = refl;
+      left = refl;
     } in
     let is_other = sym c.requires.other in
     let came : kept time None ≡ next.came = ap (λ (t : Option ℕ). kept t None) c.time-time.ensures ∙ ap (came_with packet) is_other in

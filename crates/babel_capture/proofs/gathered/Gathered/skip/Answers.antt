@@ -32,6 +32,7 @@ returns-clause-skipped g c at =
       time = refl;
       packet = (refl, refl);
       missed = refl;
+      left = refl;
     } in
     subst (λ (v : Gathering). Sinks g.S.Sink.has c.args.sink.now c.take.new.self (GatherMore v new (skipped_of (v.report.packets + 1) at packet ∷ []))) c.self.view_is
     (sinks-told g.S.Sink.has c.args.sink.now c.take.new.self (GatherMore old new (next ∷ [])) telling (made_of next passed) told c.take.ensures

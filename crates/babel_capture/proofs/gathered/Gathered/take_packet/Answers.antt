@@ -74,6 +74,7 @@ returns-clause-ok g c =
       time = c.time-came.ensures;
       packet = c.said.ensures.packet;
       missed = c.said.ensures.missed;
+      left = c.said.ensures.left;
     } in
     subst (λ (v : Gathering). Sinks g.S.Sink.has c.args.sink.now sink (GatherMore v new (sighting_of (v.report.packets + 1) c.args.at packet ∷ []))) c.self.view_is
     (sinks-told g.S.Sink.has c.args.sink.now sink (GatherMore old new (next ∷ [])) telling (made_of next what) told c.take-2.ensures

@@ -1,5 +1,6 @@
-use Rattle.std.proofs.Common.{◌≡◌, ap, rules}
+use Rattle.std.proofs.Common.{◌≡◌, ap, rules, subst}
 use Rattle.babel_capture.specs.Counts.{Counts}
+use Rattle.babel_dump.specs.EventsRun.{AreReadWhole}
 use Rattle.babel_dump.specs.Run.{output}
 use Rattle.babel_dump.specs.declared.outcome.Outcome.{Outcome}
 use Rattle.babel_dump.specs.declared.outcome.Reports.TheVariants as reports
@@ -13,3 +14,4 @@ returns g c fed told is =
     ending c.args.events.now fed told (output (g.W.ByteOut.state c.args.writer.now) (g.W.ByteOut.state c.write.new.writer)) c.args.self.now c.expire.new.self c.in_ok-status.status c.in_ok-cut.cut
     (record { outcome = outcome_of c.report-report.result; senders = c.in_ok-senders.senders }) is c.in_ok-cut.ensures.ok c.in_ok-cut.ensures.accepted (c.in_ok-expire.ensures.ends is.has_heard.suits)
     c.in_ok-write.ensures.lines c.in_ok-status.ensures (ap outcome_of report) c.in_ok-senders.ensures
+    (λ strict. subst (λ (r : Counts). AreReadWhole r c.in_ok-senders.senders.items) report (rw (← c.deref.ensures.value) (c.in_ok-refuse_senders.ensures strict)))

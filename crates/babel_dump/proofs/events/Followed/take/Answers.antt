@@ -7,7 +7,7 @@ use Rattle.babel_dump.proofs.events.Followed.take.Goals as goal
 pub returns-in-Ok-clause-followed : goal.returns-in-Ok-clause-followed
 returns-in-Ok-clause-followed g c fed told is =
     let sunk = c.feed-fed.new.sink in
-    let said = c.say_lost.ensures in
+    let said = c.say.ensures in
     let same = c.write.ensures.same in
     let writer = output (g.W.ByteOut.state c.args.writer.now) (g.W.ByteOut.state c.write.new.writer) in
     record {

@@ -1,7 +1,7 @@
-use Rattle.std.proofs.Common.{ap, sym, ◌∙◌, rules, ◌≡◌, None, Some, subst}
+use Rattle.std.proofs.Common.{[], ap, sym, ◌∙◌, rules, ◌≡◌, None, Some, subst}
 use Rattle.std.proofs.lemmas.Result.{on_ok_weaker}
 use Rattle.babel_capture.specs.Sinking.{IsPacketOf, packet_said}
-use Rattle.babel_dump.proofs.EventsFollowed.{ends_tell_so, suits_still, under}
+use Rattle.babel_dump.proofs.EventsFollowed.{ends_tell_so, silences_so, suits_still, under}
 use Rattle.babel_dump.proofs.HeardRecords.{hears_no_packet, hears_one_packet, hears_untimed}
 use Rattle.babel_dump.specs.Followed.{HearsPacket, Suits}
 use Rattle.babel_dump.proofs.PacketsFed.{none_said}
@@ -18,7 +18,8 @@ returns-in_default-said-clause-heard c one suits told =
     let time : c.args.said.now.time ≡ Some c.nanoseconds-time.result = search rules in
     let packet : IsPacketOf one.what None = subst (IsPacketOf one.what) (none_said c.args.said.now.said c.in_default-said.not-Packet) told.packet in
     hears_no_packet c.args.events.now one c.args.self.now.teller c.expire.new.self suits c.expire.ensures.same c.expire.ensures.heard c.nanoseconds-time.result _ (sym told.time ∙ time) (sym packet.0)
-    (ends_tell_so _ speaker_order c.args.events.now c.args.self.now.teller suits _ _ _ _ _ (rw c.requires at c.in_ok-expire.ensures.ok))
+    (ends_tell_so _ speaker_order c.args.events.now c.args.self.now.teller suits _ _ _ _ (rw c.requires at c.in_ok-expire.ensures.ok))
+    (silences_so _ speaker_order c.args.events.now c.args.self.now.teller suits [] c.nanoseconds-time.result [] _ c.expire.new.self.watch (rw c.requires at c.in_ok-expire.ensures.silences))
 
 pub returns-in-Packet-clause-heard : goal.returns-in-Packet-clause-heard
 returns-in-Packet-clause-heard c =
@@ -29,5 +30,6 @@ returns-in-Packet-clause-heard c =
     let here = hears (suits_still _ _ c.args.events.now c.expire.ensures.same suits) in
     hears_one_packet c.args.events.now one c.args.self.now.teller c.expire.new.self c.hear_packet.new.self.teller c.expire.ensures.heard c.nanoseconds-time.result c.in-Packet.packet.origin
     c.in-Packet.packet.octets.now _ _ (sym told.time ∙ time) (sym packet.0) (sym packet.1)
-    (ends_tell_so _ speaker_order c.args.events.now c.args.self.now.teller suits _ _ _ _ _ (rw c.requires at c.in_ok-expire.ensures.ok)) here)
+    (ends_tell_so _ speaker_order c.args.events.now c.args.self.now.teller suits _ _ _ _ (rw c.requires at c.in_ok-expire.ensures.ok))
+    (silences_so _ speaker_order c.args.events.now c.args.self.now.teller suits [] c.nanoseconds-time.result [] _ c.expire.new.self.watch (rw c.requires at c.in_ok-expire.ensures.silences)) here)
     (under (Suits c.args.events.now _) (HearsPacket c.args.events.now _ _ _ _ _ _ _) c.hear_packet.result c.hear_packet.ensures.heard)

@@ -5,8 +5,8 @@ use Rattle.babel_dump.proofs.HeardRecords.{lost_more}
 use Rattle.babel_dump.proofs.SpeakerLaws.{speaker_order}
 use Rattle.babel_dump.proofs.hearing.Hearing.lose.Goals as goal
 
-pub returns-in_ok-push-in-Ok-true-clause-lost : goal.returns-in_ok-push-in-Ok-true-clause-lost
-returns-in_ok-push-in-Ok-true-clause-lost c =
+pub returns-in_ok-lost-in-Ok-true-clause-lost : goal.returns-in_ok-lost-in-Ok-true-clause-lost
+returns-in_ok-lost-in-Ok-true-clause-lost c =
     lost_more _ speaker_order c.args.self.now.lost c.insert.new.self c.in-Missed.missed (missed_said c.args.said.now.said) (ap missed_said c.in-Missed.is) c.in-Ok-true.ensures.updates.0
 
 pub returns-in-Ok-false-clause-lost : goal.returns-in-Ok-false-clause-lost

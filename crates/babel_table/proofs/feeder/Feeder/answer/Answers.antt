@@ -2,7 +2,7 @@
 use Rattle.std.proofs.Common.{◌≡◌, refl, subst}
 use Rattle.std.proofs.lemmas.Result.{err_from_is_err_and}
 use Rattle.babel_prefix.specs.Entries.{answer_for}
-use Rattle.babel_table.specs.BestMatch.{IsBestMatch}
+use Rattle.babel_table.specs.RowFor.{IsBestOf, held_of, row_for}
 use Rattle.babel_table.specs.Feeding.{Progress}
 use Rattle.babel_table.specs.Rows.{entries_of}
 use Rattle.babel_table.proofs.FeedLaws.{answered}
@@ -18,7 +18,8 @@ returns-clause-ok c =
     let d = c.args.dst.now in
     let s = c.args.src.now in
     let report = c.self.inside.stream.so_far.report in
-    answered c.args.self c.in_ok-check_end.ensures.ok.0 c.in_ok-check_end.ensures.ok.1 d s (record { held = c.lookup.result; report = report })
-    (subst (λ (p : Progress). IsBestMatch p.table.rows d s c.lookup.result) c.self.view_is c.lookup.ensures.best)
-    (subst (λ (p : Progress). c.lookup.result ≡ answer_for (entries_of p.table.rows) d s) c.self.view_is c.lookup.ensures.answer)
+    answered c.args.self c.in_ok-check_end.ensures.ok.0 c.in_ok-check_end.ensures.ok.1 d s (record { row = c.lookup.result; report = report })
+    (subst (λ (p : Progress). IsBestOf p.table.rows d s c.lookup.result) c.self.view_is c.lookup.ensures.best)
+    (subst (λ (p : Progress). c.lookup.result ≡ row_for p.table.rows d s) c.self.view_is c.lookup.ensures.row)
+    (subst (λ (p : Progress). held_of c.lookup.result ≡ answer_for (entries_of p.table.rows) d s) c.self.view_is c.lookup.ensures.held)
     (subst (λ (p : Progress). report ≡ p.table.report) c.self.view_is refl)

@@ -2,17 +2,17 @@
 use Rattle.std.proofs.Common.{Bool, List, ap, sym, subst, ◌∙◌}
 use Rattle.std.specs.Prelude.{if◌then◌else◌}
 use Rattle.babel_tlv.specs.Pair.{Pair}
-use Rattle.babel_table.specs.BestMatch.{IsBestMatch}
+use Rattle.babel_table.specs.RowFor.{IsBestOf}
 use Rattle.babel_table.proofs.nested_v4.NestedV4.best_match.Goals as goal
 
 pub returns-then-self : goal.returns-then-self
 returns-then-self c =
     let rows = c.self.inside in
-    subst (λ (now : List Pair). IsBestMatch now c.args.dst.now c.args.src.now c.best_match.result)
+    subst (λ (now : List Pair). IsBestOf now c.args.dst.now c.args.src.now c.best_match.result)
     (ap (λ (b : Bool). if b then rows.wide else rows.narrow) (sym c.if-self.true) ∙ c.self.view_is) c.best_match.ensures
 
 pub returns-else-self : goal.returns-else-self
 returns-else-self c =
     let rows = c.self.inside in
-    subst (λ (now : List Pair). IsBestMatch now c.args.dst.now c.args.src.now c.best_match-else-self.result)
+    subst (λ (now : List Pair). IsBestOf now c.args.dst.now c.args.src.now c.best_match-else-self.result)
     (ap (λ (b : Bool). if b then rows.wide else rows.narrow) (sym c.if-self.false) ∙ c.self.view_is) c.best_match-else-self.ensures

@@ -1,28 +1,54 @@
--- The packet is heard behind those before it.
-use Rattle.std.proofs.Common.{rules, ◌≡◌, ◌∙◌, None, Option, Some, List, ap, sym}
-use Rattle.std.specs.BTreeMap.{insert_entry, is_at}
-use Rattle.std.specs.Map.{lookup}
-use Rattle.std.specs.Option.{unwrap_or}
-use Rattle.babel_timeline.specs.Hearing.{nothing_heard}
+-- What ends by the time of the packet is told before it, and who returns.
+use Rattle.std.proofs.Common.{◌≡◌, ◌∙◌, ℕ, List, None, Option, ap, subst, sym, true}
+use Rattle.std.specs.BTreeMap.{BTreeMap}
 use Rattle.babel_timeline.specs.declared.heard.Heard.{Heard}
-use Rattle.babel_timeline.proofs.HearingLaws.{counts_if_ok}
-use Rattle.babel_timeline.proofs.KeptLaws.{set_is_insert}
+use Rattle.babel_timeline.specs.declared.interest.Interest.{Interest}
+use Rattle.babel_timeline.specs.declared.telling.Telling.{Telling}
+use Rattle.babel_timeline.specs.Hearing.{octets_heard}
+use Rattle.babel_timeline.specs.Rows.{Held}
+use Rattle.babel_table.specs.Moments.{Stamp}
+use Rattle.babel_timeline.specs.Silence.{Watching}
+use Rattle.babel_timeline.specs.SilencesTold.{TellsSilences, hellos_heard, watches}
+use Rattle.babel_timeline.specs.Telling.{AskedFor, Hears, IsTold, TellsEnds, of_rows}
+use Rattle.babel_timeline.proofs.SilenceTold.{hears_then}
+use Rattle.babel_timeline.proofs.TakingLaws.{on_ok_then}
+use Rattle.babel_timeline.proofs.WatchTold.{silences_then, watches_all}
 use Rattle.babel_timeline.proofs.teller.Teller.hear.Goals as goal
 
-pub returns-in-Some-clause-counts : goal.returns-in-Some-clause-counts
-returns-in-Some-clause-counts g c =
-    let old = c.args.self.now.heard.entries in
-    let there : lookup (is_at (g.S.Ord.cmp c.args.sender)) old ≡ Some c.in-Some.heard.now = search rules in
-    counts_if_ok g.S.Ord.cmp c.args.sender c.args.start c.args.packet.now old (c.get_mut.follows.lender c.take.new.heard).entries c.in-Some.heard.now c.take.new.heard c.take.result
-    (sym (ap (λ (h : Option Heard). unwrap_or h nothing_heard) there)) c.take.ensures.octets c.take.ensures.counts
-    ((c.get_mut.follows.holds c.take.new.heard).0 ∙ set_is_insert g.S.Ord.cmp c.args.sender g.met.S.Ord.total old c.in-Some.heard.now c.take.new.heard c.get_mut.ensures.ordered there)
+pub returns-clause-ok : goal.returns-clause-ok
+returns-clause-ok g c =
+    let cmp = g.S.Ord.cmp in
+    let old = c.args.self.now in
+    let mid = c.hear_hellos.new.self in
+    let new = c.hear_packet.new.self in
+    let asked = old.interest.asked in
+    let told = c.hear_hellos.new.told.items in
+    let same_told : of_rows asked told ≡ of_rows asked c.expire.new.told.items =
+    subst (λ (i : Interest). of_rows i.asked told ≡ of_rows i.asked c.expire.new.told.items) c.expire.ensures.same.1 c.in_ok-hear_hellos.ensures.told in
+    on_ok_then c.hear_packet.result c.hear_packet.ensures.ok (λ hears.
+    hears_then cmp g.met.S.Ord.total g.met.S.Sender.exact old.timeline.factor asked old.interest.view c.args.sender c.args.start c.args.time (octets_heard cmp old.heard.entries c.args.sender) c.args.packet.now
+    old.timeline.rows mid.timeline.rows new.timeline.rows c.args.told.now.items told c.hear_packet.new.told.items
+    (subst (λ (h : Held g.row.S.Denot). TellsEnds cmp old.timeline.factor asked c.args.time old.timeline.rows h.rows (of_rows asked c.args.told.now.items) (of_rows asked told)) (sym c.hear_hellos.ensures.same.0)
+    (subst (λ (t : List (Telling g.row.S.Denot)). TellsEnds cmp old.timeline.factor asked c.args.time old.timeline.rows c.expire.new.self.timeline.rows (of_rows asked c.args.told.now.items) t) (sym same_told)
+    c.in_ok-expire.ensures.ok))
+    (subst (λ (f : Option ℕ). Hears cmp f asked old.interest.view c.args.sender c.args.start c.args.time (octets_heard cmp old.heard.entries c.args.sender) c.args.packet.now
+    mid.timeline.rows new.timeline.rows told c.hear_packet.new.told.items) (ap (λ (h : Held g.row.S.Denot). h.factor) c.hear_hellos.ensures.same.0 ∙ c.expire.ensures.same.0)
+    (subst (λ (i : Interest). Hears cmp mid.timeline.factor i.asked i.view c.args.sender c.args.start c.args.time (octets_heard cmp old.heard.entries c.args.sender) c.args.packet.now
+    mid.timeline.rows new.timeline.rows told c.hear_packet.new.told.items) (c.hear_hellos.ensures.same.1 ∙ c.expire.ensures.same.1)
+    (subst (λ (m : BTreeMap g.row.S.Denot Heard). Hears cmp mid.timeline.factor mid.interest.asked mid.interest.view c.args.sender c.args.start c.args.time (octets_heard cmp m.entries c.args.sender) c.args.packet.now
+    mid.timeline.rows new.timeline.rows told c.hear_packet.new.told.items) (c.hear_hellos.ensures.same.2 ∙ c.expire.ensures.heard) hears))))
 
-pub returns-in-Ok-clause-counts : goal.returns-in-Ok-clause-counts
-returns-in-Ok-clause-counts g c =
-    let old = c.args.self.now.heard.entries in
-    let none : lookup (is_at (g.S.Ord.cmp c.args.sender)) old ≡ None = search rules in
-    let kept : c.get_mut.follows.lender-at-none.entries ≡ old = search rules in
-    let put : c.insert.new.self.entries ≡ insert_entry g.S.Ord.cmp c.get_mut.follows.lender-at-none.entries c.args.sender c.take-taken.new.heard = search rules in
-    counts_if_ok g.S.Ord.cmp c.args.sender c.args.start c.args.packet.now old c.insert.new.self.entries c.nothing-heard.result c.take-taken.new.heard c.take-taken.result
-    (c.nothing-heard.ensures ∙ sym (ap (λ (h : Option Heard). unwrap_or h nothing_heard) none)) c.take-taken.ensures.octets c.take-taken.ensures.counts
-    (put ∙ ap (λ (es : List (g.row.S.Denot × Heard)). insert_entry g.S.Ord.cmp es c.args.sender c.take-taken.new.heard) kept)
+-- Who was silent and who returns is told.
+pub returns-clause-silences : goal.returns-clause-silences
+returns-clause-silences g c watching =
+    let cmp = g.S.Ord.cmp in
+    let old = c.args.self.now in
+    let more : List (g.row.S.Denot × Stamp) = hellos_heard c.args.sender c.args.time c.args.packet.now in
+    let none : c.hear_hellos.new.self.interest.asked ≡ None = ap (λ (i : Interest). i.asked) (c.hear_hellos.ensures.same.1 ∙ c.expire.ensures.same.1) ∙ watches_all old.timeline.factor old.interest.asked watching in
+    let still : watches c.expire.new.self.timeline.factor c.expire.new.self.interest.asked ≡ true =
+    ap (λ (f : Option ℕ). watches f c.expire.new.self.interest.asked) c.expire.ensures.same.0 ∙ ap (λ (i : Interest). watches old.timeline.factor i.asked) c.expire.ensures.same.1 ∙ watching in
+    on_ok_then c.hear_packet.result c.hear_packet.ensures.ok (λ hears.
+    subst (λ (w : Watching g.row.S.Denot). TellsSilences cmp more c.args.time c.args.told.now.items c.hear_packet.new.told.items old.watch w) (sym c.hear_packet.ensures.same.2)
+    (silences_then cmp g.met.S.Ord.total g.met.S.Sender.exact c.args.time more c.args.told.now.items c.expire.new.told.items c.hear_hellos.new.told.items c.hear_packet.new.told.items
+    old.watch c.expire.new.self.watch c.hear_hellos.new.self.watch hears.tells.changes (c.in_ok-expire.ensures.silences watching) (c.in_ok-hear_hellos.ensures.returns still)
+    (subst (λ (q : AskedFor). IsTold cmp q hears.tells.changes c.hear_hellos.new.self.timeline.rows c.hear_packet.new.self.timeline.rows c.hear_hellos.new.told.items c.hear_packet.new.told.items) none hears.tells.told)))

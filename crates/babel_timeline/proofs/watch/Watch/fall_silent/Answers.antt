@@ -1,5 +1,5 @@
 -- The row that ends first goes, and its sender is silent.
-use Rattle.std.proofs.Common.{◌∙◌, Option, ap, refl, subst, sym}
+use Rattle.std.proofs.Common.{◌<◌, length, ◌∙◌, Option, ap, refl, subst, sym}
 use Rattle.std.specs.Prelude.{IfNone, IfSome}
 use Rattle.std.specs.BTreeMap.{is_at}
 use Rattle.std.specs.Map.{remove_entry}
@@ -9,6 +9,7 @@ use Rattle.babel_timeline.specs.declared.watch.Silence.{Silence}
 use Rattle.babel_timeline.specs.Kept.{expiring}
 use Rattle.babel_timeline.specs.Rows.{AllLast, EndsFirst, Held, row_at, subject_cmp}
 use Rattle.babel_timeline.specs.Silence.{FallsSilent, NoneFallsSilent, Watching}
+use Rattle.babel_timeline.proofs.TellingLaws.{less_ends}
 use Rattle.babel_timeline.proofs.WatchLaws.{first_falls, first_kept, none_falls}
 use Rattle.babel_timeline.proofs.watch.Watch.fall_silent.Goals as goal
 
@@ -41,3 +42,13 @@ returns-clause-first g c =
     c.time.ensures.value
     (c.take.ensures.rows ∙ ap (λ (h : Held g.row.S.Denot). record h { rows = remove_entry (is_at (subject_cmp g.S.Ord.cmp it)) h.rows }) c.first_end.ensures.same)
     c.in_ok-insert.ensures.updates.0)
+
+pub returns-clause-fewer : goal.returns-clause-fewer
+returns-clause-fewer g c =
+    let old : Held g.row.S.Denot = c.self.inside.hellos in
+    let it : Subject g.row.S.Denot = c.subject-subject.result in
+    subst (λ (w : Watching g.row.S.Denot). length c.take.new.self.rows < length w.rows) c.self.view_is
+    (less_ends g.S.Ord.cmp old.factor old.rows c.take.new.self.rows it c.in-Some.first.time
+    (subst (λ (s : Subject g.row.S.Denot). EndsFirst g.S.Ord.cmp old.factor old.rows s c.in-Some.first.time) (sym c.subject-subject.ensures)
+    (subst (λ (o : Option (Expiry g.row.S.Denot)). IfSome o (λ first. EndsFirst g.S.Ord.cmp old.factor old.rows (expiring first) first.time)) c.in-Some.is c.in_ok-first.ensures.first))
+    (ap (λ (h : Held g.row.S.Denot). h.rows) c.take.ensures.rows ∙ ap (λ (h : Held g.row.S.Denot). remove_entry (is_at (subject_cmp g.S.Ord.cmp it)) h.rows) c.first_end.ensures.same))

@@ -14,7 +14,6 @@ use Rattle.babel_trie.specs.declared.differing.Differing.{Differing}
 use Rattle.babel_trie.specs.declared.runs.Change.{Change}
 use Rattle.babel_trie.specs.declared.table.Node.{Node}
 use Rattle.babel_trie.specs.declared.table.Sources.{Sources}
-use Rattle.babel_trie.specs.declared.table.Sources.TheVariants.{Constant, Stored}
 use Rattle.babel_trie.specs.declared.table.Table.{Table}
 use Rattle.babel_trie.proofs.BoxesExist.{test_by}
 use Rattle.babel_trie.proofs.EarlyRuns.{agree_so_far, has_runs_so_far, so_far}
@@ -38,10 +37,8 @@ loop-list-init g c =
     let differing = c.args.self.now.differences in
     let none = none_said w differing.nodes.items c.new-list.result.items c.new-list.ensures.items in
     record {
-      differing = sound_by differing.nodes.items differing.numbers
-          (elim [ Constant v ↦ elim [ Constant u ↦ refl | Stored m ↦ refl ] | Stored k ↦ elim [ Constant v ↦ refl | Stored m ↦ refl ] ]) c.requires.sound;
-      sound = sound_by table.nodes.items table.numbers
-          (elim [ Constant v ↦ elim [ Constant u ↦ refl | Stored m ↦ refl ] | Stored k ↦ elim [ Constant v ↦ refl | Stored m ↦ refl ] ]) c.new-table.ensures.sound;
+      differing = sound_by (λ _ _. refl) (λ _ _. refl) (λ _ _. refl) (λ _ _. refl) c.requires.sound;
+      sound = sound_by (λ _ _. refl) (λ _ _. refl) (λ _ _. refl) (λ _ _. refl) c.new-table.ensures.sound;
       pass = c.new-pass.ensures.pass w table.nodes.items c.requires.left_order c.requires.left_table;
       other = c.new-other.ensures.pass w table.nodes.items c.requires.right_order c.requires.right_table;
       reached = omega (arith, c.new-pass.ensures.start);
@@ -55,14 +52,10 @@ loop-list-init g c =
     }
 
 pub reach_both-requires-clause-sound : goal.reach_both-requires-clause-sound
-reach_both-requires-clause-sound g c =
-    sound_by c.loop-list.table.nodes.items c.loop-list.table.numbers
-    (elim [ Constant v ↦ elim [ Constant u ↦ refl | Stored m ↦ refl ] | Stored k ↦ elim [ Constant v ↦ refl | Stored m ↦ refl ] ]) c.loop-list.invariant.sound
+reach_both-requires-clause-sound g c = sound_by (λ _ _. refl) (λ _ _. refl) (λ _ _. refl) (λ _ _. refl) c.loop-list.invariant.sound
 
 pub told_sources-requires-clause-sound : goal.told_sources-requires-clause-sound
-told_sources-requires-clause-sound g c =
-    sound_by c.loop-list.self.differences.nodes.items c.loop-list.self.differences.numbers
-    (elim [ Constant v ↦ elim [ Constant u ↦ refl | Stored m ↦ refl ] | Stored k ↦ elim [ Constant v ↦ refl | Stored m ↦ refl ] ]) c.loop-list.invariant.differing
+told_sources-requires-clause-sound g c = sound_by (λ _ _. refl) (λ _ _. refl) (λ _ _. refl) (λ _ _. refl) c.loop-list.invariant.differing
 
 pub told_sources-requires-clause-left : goal.told_sources-requires-clause-left
 told_sources-requires-clause-left g c =
@@ -140,9 +133,8 @@ pub returns-then-branch-clause-sound : goal.returns-then-branch-clause-sound
 returns-then-branch-clause-sound g c =
     let told : Table (Option (Differing g.row.V.Denot)) = c.told_sources.new.self.differences in
     let after : Table (Option (Differing g.row.V.Denot)) = c.has_more.new.self.differences in
-    let sound = sound_by told.nodes.items told.numbers
-    (elim [ Constant v ↦ elim [ Constant u ↦ refl | Stored m ↦ refl ] | Stored k ↦ elim [ Constant v ↦ refl | Stored m ↦ refl ] ]) c.in_ok-sources.ensures.sound in
-    sound_by after.nodes.items after.numbers (elim [ Constant v ↦ elim [ Constant u ↦ refl | Stored m ↦ refl ] | Stored k ↦ elim [ Constant v ↦ refl | Stored m ↦ refl ] ])
+    let sound = sound_by (λ _ _. refl) (λ _ _. refl) (λ _ _. refl) (λ _ _. refl) c.in_ok-sources.ensures.sound in
+    sound_by (λ _ _. refl) (λ _ _. refl) (λ _ _. refl) (λ _ _. refl)
     (subst (λ (t : Table (Option (Differing g.row.V.Denot))). IsSound (sources_cmp (option_cmp (differing_cmp g.V.Ord.cmp)))
     (sources_mark (option_mark (differing_mark (option_mark g.V.LawfulOrd.mark)))) t.nodes.items t.numbers)
     (sym c.in_ok-has_more.ensures.same) sound)
@@ -202,15 +194,13 @@ loop-list-preserved g c =
     let filled = c.in_ok-say.ensures.filled start behind in
     let pass = c.reach_both.new.pass in
     let other = c.reach_both.new.other in
-    let table = c.reach_both.new.table in
     let after : Table (Option (Differing g.row.V.Denot)) = c.has_more.new.self.differences in
     let same : after ≡ c.told_sources.new.self.differences = c.in_ok-has_more.ensures.same in
     record {
       differing = subst (λ (t : Table (Option (Differing g.row.V.Denot))). IsSound (sources_cmp (option_cmp (differing_cmp g.V.Ord.cmp)))
           (sources_mark (option_mark (differing_mark (option_mark g.V.LawfulOrd.mark)))) t.nodes.items t.numbers)
-          (sym same) (sound_by new c.told_sources.new.self.differences.numbers
-          (elim [ Constant v ↦ elim [ Constant u ↦ refl | Stored m ↦ refl ] | Stored k ↦ elim [ Constant v ↦ refl | Stored m ↦ refl ] ]) sources.sound);
-      sound = sound_by table.nodes.items table.numbers (elim [ Constant v ↦ elim [ Constant u ↦ refl | Stored m ↦ refl ] | Stored k ↦ elim [ Constant v ↦ refl | Stored m ↦ refl ] ]) reach.sound;
+          (sym same) (sound_by (λ _ _. refl) (λ _ _. refl) (λ _ _. refl) (λ _ _. refl) sources.sound);
+      sound = sound_by (λ _ _. refl) (λ _ _. refl) (λ _ _. refl) (λ _ _. refl) reach.sound;
       pass = reach.pass _ i.pass;
       other = reach.other _ i.other;
       reached = omega (arith, reach.reached, behind);

@@ -12,7 +12,7 @@ use Rattle.babel_trie.specs.declared.table.NodeNumber.{NodeNumber}
 use Rattle.babel_trie.specs.declared.table.Sources.{Sources}
 use Rattle.babel_trie.specs.declared.table.Sources.TheVariants.{Stored}
 use Rattle.babel_trie.proofs.FormLaws.{some_bits}
-use Rattle.babel_trie.proofs.HalfLaws.{halved, half_tries}
+use Rattle.babel_trie.proofs.HalfLaws.{half_tries}
 use Rattle.babel_trie.proofs.ListLaws.{width_le}
 use Rattle.babel_trie.proofs.NumberLaws.{one_shape, stored_node}
 use Rattle.babel_trie.proofs.PushLaws as push
@@ -115,28 +115,20 @@ push_node-returns-then-has_nothing_beside-clause-err g t c = on_err_weaker c.pus
 pub push_node-push_rows-requires : goal.push_node-push_rows-requires
 push_node-push_rows-requires g t c κs within =
     let nodes = c.args.self.now.nodes.items in
-    let node = Split c.args.node.now in
     let some = some_bits nodes c.args.bits c.args.node.now c.requires.trie in
-    let low = c.halves-low.result.0 in
-    let high = c.halves-low.result.1 in
-    let tries = half_tries c.args.bits nodes node low high (omega (arith, some)) c.requires.trie
-    (halved nodes node low high c.halves-low.ensures.one c.halves-low.ensures.node c.requires.trie.trie c.requires.trie.stands) in
+    let tries = half_tries c.args.bits nodes (Split c.args.node.now) _ _ (omega (arith, some)) c.requires.trie c.halves-low.ensures.one c.halves-low.ensures.node in
     let falls : 2 * (c.args.bits - 1) + 1 < t = omega (arith, c.decreases, some) in
-    let half : IsTrie (c.args.bits - 1) nodes low = tries.0 in
+    let half : IsTrie (c.args.bits - 1) nodes c.halves-low.result.0 = tries.0 in
     let fewer : c.args.bits - 1 ≤ width_of c.args.family = omega (arith, c.requires.bits) in
     search rules
 
 pub push_node-push_rows-requires-2 : goal.push_node-push_rows-requires-2
 push_node-push_rows-requires-2 g t c κs within =
     let nodes = c.args.self.now.nodes.items in
-    let node = Split c.args.node.now in
     let some = some_bits nodes c.args.bits c.args.node.now c.requires.trie in
-    let low = c.halves-low.result.0 in
-    let high = c.halves-low.result.1 in
-    let tries = half_tries c.args.bits nodes node low high (omega (arith, some)) c.requires.trie
-    (halved nodes node low high c.halves-low.ensures.one c.halves-low.ensures.node c.requires.trie.trie c.requires.trie.stands) in
+    let tries = half_tries c.args.bits nodes (Split c.args.node.now) _ _ (omega (arith, some)) c.requires.trie c.halves-low.ensures.one c.halves-low.ensures.node in
     let falls : 2 * (c.args.bits - 1) + 1 < t = omega (arith, c.decreases, some) in
-    let half : IsTrie (c.args.bits - 1) nodes high = tries.1 in
+    let half : IsTrie (c.args.bits - 1) nodes c.halves-low.result.1 = tries.1 in
     let fewer : c.args.bits - 1 ≤ width_of c.args.family = omega (arith, c.requires.bits) in
     search rules
 

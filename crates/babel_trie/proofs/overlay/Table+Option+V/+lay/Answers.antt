@@ -224,8 +224,7 @@ lay_halves-lay-requires g t c κs within =
     let high = c.halves-low.result.1 in
     let halves = c.halves-low.ensures in
     let parts = c.requires.rows in
-    let whole = c.requires.trie in
-    let tries = half_tries a.bits nodes a.trie.now low high parts.some whole (halved nodes a.trie.now low high halves.one halves.node whole.trie whole.stands) in
+    let tries = half_tries a.bits nodes a.trie.now low high parts.some c.requires.trie halves.one halves.node in
     let normals = halves_normal nodes (form_from_sound _ nodes a.self.now.numbers c.requires.sound) a.trie.now low high halves.one halves.node c.requires.normal in
     let falls : 3 * (a.bits - 1) < t = omega (arith, c.decreases, parts.some) in
     let trie : IsTrie (a.bits - 1) nodes low = tries.0 in
@@ -245,8 +244,7 @@ lay_halves-lay-requires-2 g t c κs within =
     let high = c.halves-low.result.1 in
     let halves = c.halves-low.ensures in
     let parts = c.requires.rows in
-    let whole = c.requires.trie in
-    let tries = half_tries a.bits nodes a.trie.now low high parts.some whole (halved nodes a.trie.now low high halves.one halves.node whole.trie whole.stands) in
+    let tries = half_tries a.bits nodes a.trie.now low high parts.some c.requires.trie halves.one halves.node in
     let normals = halves_normal nodes (form_from_sound _ nodes a.self.now.numbers c.requires.sound) a.trie.now low high halves.one halves.node c.requires.normal in
     let falls : 3 * (a.bits - 1) < t = omega (arith, c.decreases, parts.some) in
     let trie : IsTrie (a.bits - 1) new high = IsTrie-grows nodes new keeps (a.bits - 1) high tries.1 in
@@ -260,11 +258,7 @@ pub lay_halves-join-requires-clause-low : goal.lay_halves-join-requires-clause-l
 lay_halves-join-requires-clause-low g t c =
     let a = c.args in
     let nodes = a.self.now.nodes.items in
-    let low = c.halves-low.result.0 in
-    let high = c.halves-low.result.1 in
-    let halves = c.halves-low.ensures in
-    let whole = c.requires.trie in
-    let trie = (half_tries a.bits nodes a.trie.now low high c.requires.rows.some whole (halved nodes a.trie.now low high halves.one halves.node whole.trie whole.stands)).0 in
+    let trie = (half_tries a.bits nodes a.trie.now _ _ c.requires.rows.some c.requires.trie c.halves-low.ensures.one c.halves-low.ensures.node).0 in
     let laid = c.in_ok-lay.ensures.laid trie.trie trie.stands in
     let fits : height laid.new ≤ 127 = omega (arith, laid.fits trie.fits, c.requires.rows.place.bits_in, c.requires.width) in
     IsTrie-grows c.lay.new.self.nodes.items c.lay-2.new.self.nodes.items c.in_ok-lay-2.ensures.keeps 127 c.lay.new.trie
@@ -274,11 +268,8 @@ pub lay_halves-join-requires-clause-high : goal.lay_halves-join-requires-clause-
 lay_halves-join-requires-clause-high g t c =
     let a = c.args in
     let nodes = a.self.now.nodes.items in
-    let low = c.halves-low.result.0 in
     let high = c.halves-low.result.1 in
-    let halves = c.halves-low.ensures in
-    let whole = c.requires.trie in
-    let trie = (half_tries a.bits nodes a.trie.now low high c.requires.rows.some whole (halved nodes a.trie.now low high halves.one halves.node whole.trie whole.stands)).1 in
+    let trie = (half_tries a.bits nodes a.trie.now _ high c.requires.rows.some c.requires.trie c.halves-low.ensures.one c.halves-low.ensures.node).1 in
     let laid = c.in_ok-lay-2.ensures.laid trie.trie (Stands-grows nodes c.lay.new.self.nodes.items c.in_ok-lay.ensures.keeps high trie.trie trie.stands) in
     let fits : height laid.new ≤ 127 = omega (arith, laid.fits trie.fits, c.requires.rows.place.bits_in, c.requires.width) in
     record { trie = laid.new; stands = laid.stands; fits = fits; reduced = laid.reduced trie.reduced }

@@ -1,5 +1,12 @@
 -- What is laid over what the sources are, stored; one row from all sources is a constant.
-use Rattle.std.proofs.Common.{Some, refl, arith}
+use Rattle.std.proofs.Common.{◌≡◌, ◌+◌, Some, map, refl, ◌∙◌, ap, sym, subst, arith}
+use Rattle.babel_prefix.specs.Best.{Row}
+use Rattle.babel_prefix.specs.Covers.{BlockCovers}
+use Rattle.babel_prefix.specs.Entries.{row_of}
+use Rattle.babel_trie.specs.Rows.{Overlays}
+use Rattle.babel_trie.specs.Shape.{value_at}
+use Rattle.babel_trie.proofs.OverlayLaws.{overlays_same}
+use Rattle.babel_trie.proofs.PartLaws.{from_map}
 use Rattle.babel_trie.specs.Rows.{IsPlace}
 use Rattle.babel_trie.specs.declared.table.Loose.TheVariants.{Same}
 use Rattle.babel_trie.proofs.SourceLaws.{overlaid_one}
@@ -7,6 +14,23 @@ use Rattle.babel_trie.proofs.NumberLaws.{Stands-grows, opened-normal, form_from_
 use Rattle.babel_trie.proofs.FormLaws.{opened_trie, opened_stands, Represents-in}
 use Rattle.babel_trie.proofs.PathLaws.{loose_below}
 use Rattle.babel_trie.proofs.overlay.Table+Option+V.overlaid.Goals as goal
+
+pub returns-then-says_all-clause-overlaid : goal.returns-then-says_all-clause-overlaid
+returns-then-says_all-clause-overlaid g c t p =
+    let w = c.args.width in
+    let rows = c.args.rows.now in
+    let says = c.says_all.ensures c.if-says_all.true in
+    record {
+      new = t;
+      stands = p;
+      fits = λ f. f;
+      reduced = λ r. r;
+      values = λ d a _ _.
+          let e : a ≡ 0 + a = omega arith in
+          subst (λ n. Overlays w (map row_of rows) d n (value_at t w a) (value_at t w a)) e (overlays_same w (map row_of rows) d a (value_at t w a) c.requires.table
+          (λ row m covers. let x = from_map row_of rows row m in
+          says x.0 x.1 t a p (subst (λ (r : Row g.row.V.Denot). BlockCovers w r.src a) (sym x.2) covers) ∙ ap (λ (r : Row g.row.V.Denot). Some r.value) x.2));
+    }
 
 pub opened-trie-requires : goal.opened-trie-requires
 opened-trie-requires g c = Represents-in c.args.self.now.nodes.items c.args.old c.requires.trie.trie c.requires.trie.stands

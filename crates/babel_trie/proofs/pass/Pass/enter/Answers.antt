@@ -5,12 +5,13 @@ use Rattle.std.proofs.Math.Pow.{pow_mono}
 use Rattle.babel_prefix.specs.Address.{Address, block_of}
 use Rattle.babel_prefix.specs.Block.{Block}
 use Rattle.babel_prefix.specs.Entries.{Entry}
-use Rattle.babel_prefix.proofs.Members.{Listed}
+use Rattle.babel_prefix.proofs.Members.{Listed, Listed-append_left, Listed-append_right}
 use Rattle.babel_trie.specs.Pass.{IsUnderWay, ahead_of, rows_left}
 use Rattle.babel_trie.specs.Split.{rows_of_split}
 use Rattle.babel_trie.specs.declared.pass.Pass.{Pass}
 use Rattle.babel_trie.specs.declared.pass.Reached.{Reached}
 use Rattle.babel_trie.specs.declared.runs.Change.{Change}
+use Rattle.babel_trie.proofs.FrontLaws.{part_table}
 use Rattle.babel_trie.proofs.PassLaws.{IsNext, left_block, reverse-push, sources_in, way-held, way-entered, way-entered_last}
 use Rattle.babel_trie.proofs.Ranges.{size, block_ends}
 use Rattle.babel_trie.proofs.pass.Pass.enter.Goals.{then-end-last_address+in_ok-push, else-end-last_address}
@@ -52,6 +53,15 @@ overlaid-requires-clause-rows g c =
     let n : IsNext w own others (block_of c.args.first.0) =
     record { some = omega (arith, ap length same, c.in_ok-others.ensures.some); one = λ x t. c.in_ok-others.ensures.one x (subst (λ xs. Listed xs x) same t) } in
     sources_in n (subst (IsUnderWay w c.requires.pass.0 c.args.table.now.nodes.items self.now (ahead_of self)) split c.requires.pass.1)
+
+pub overlaid-requires-clause-table : goal.overlaid-requires-clause-table
+overlaid-requires-clause-table g c =
+    let p = c.requires.pass.1 in
+    let own = c.deref.result.now in
+    let others = rows_of_split g.R.Rows.rows c.in_ok-others.others in
+    let left = ap (rows_of_split g.R.Rows.rows) c.requires.next ∙ c.in_ok-others.ensures.parts ∙ ap (λ xs. xs ++ others) (sym c.deref.ensures.value) in
+    let whole = p.whole ∙ ap (λ xs. p.gone ++ xs) left in
+    part_table c.args.width own c.requires.pass.0 (λ x t. subst (λ xs. Listed xs x) (sym whole) (Listed-append_right p.gone (own ++ others) x (Listed-append_left own others x t))) p.table
 
 pub last_address-requires : goal.last_address-requires
 last_address-requires g c = omega (arith, pow_mono {i = c.args.width} {j = 128} c.requires.width)

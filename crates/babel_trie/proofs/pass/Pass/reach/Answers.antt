@@ -8,7 +8,6 @@ use Rattle.babel_trie.specs.Pass.{IsQuietUpTo, ahead_of, rows_left}
 use Rattle.babel_trie.specs.Rows.{InOrder}
 use Rattle.babel_trie.specs.Runs.{StartAfter}
 use Rattle.babel_trie.specs.Split.{rows_of_split}
-use Rattle.babel_trie.specs.declared.table.Sources.TheVariants.{Constant, Stored}
 use Rattle.babel_trie.proofs.NodeLaws.{sound_by}
 use Rattle.babel_trie.proofs.PassLaws.{first-least, left_order}
 use Rattle.babel_trie.proofs.pass.Pass.reach.Goals.{in-Some+then-at-start, in_default}
@@ -16,9 +15,8 @@ use Rattle.babel_trie.proofs.pass.Pass.reach.Goals as goal
 
 pub loop-self-init : goal.loop-self-init
 loop-self-init g c =
-    let table = c.args.table.now in
     record {
-      sound = sound_by table.nodes.items table.numbers (elim [ Constant v ↦ elim [ Constant u ↦ refl | Stored m ↦ refl ] | Stored k ↦ elim [ Constant v ↦ refl | Stored m ↦ refl ] ]) c.requires.sound;
+      sound = sound_by (λ _ _. refl) (λ _ _. refl) (λ _ _. refl) (λ _ _. refl) c.requires.sound;
       keeps = λ k node e. e;
       pass = λ rows p. p;
       reached = c.requires.order;
@@ -48,9 +46,7 @@ leave-requires-clause-rows g c row t =
     omega (arith, first-least left (rows c.in-Some.behind) c.in-Some.first split (left_order p) row t, c.bits-start.ensures.value ∙ ap (λ (x : Address). x.bits) c.addr.ensures.value)
 
 pub enter-requires-clause-sound : goal.enter-requires-clause-sound
-enter-requires-clause-sound g c =
-    sound_by c.loop-self.table.nodes.items c.loop-self.table.numbers
-    (elim [ Constant v ↦ elim [ Constant u ↦ refl | Stored m ↦ refl ] | Stored k ↦ elim [ Constant v ↦ refl | Stored m ↦ refl ] ]) c.loop-self.invariant.sound
+enter-requires-clause-sound g c = sound_by (λ _ _. refl) (λ _ _. refl) (λ _ _. refl) (λ _ _. refl) c.loop-self.invariant.sound
 
 pub enter-requires-clause-pass : goal.enter-requires-clause-pass
 enter-requires-clause-pass g c =
@@ -60,12 +56,11 @@ enter-requires-clause-pass g c =
 pub loop-self-preserved : goal.loop-self-preserved
 loop-self-preserved g c =
     let i = c.loop-self.invariant in
-    let table = c.enter.new.table in
     let enter = c.in_ok-enter.ensures in
     let left = ap (λ split. length (rows_of_split g.R.Rows.rows split)) c.leave.ensures.rest in
     let start_is = c.bits-start.ensures.value ∙ ap (λ (x : Address). x.bits) c.addr.ensures.value in
     record {
-      sound = sound_by table.nodes.items table.numbers (elim [ Constant v ↦ elim [ Constant u ↦ refl | Stored m ↦ refl ] | Stored k ↦ elim [ Constant v ↦ refl | Stored m ↦ refl ] ]) enter.sound;
+      sound = sound_by (λ _ _. refl) (λ _ _. refl) (λ _ _. refl) (λ _ _. refl) enter.sound;
       keeps = λ k node e. enter.keeps k node (i.keeps k node e);
       pass = λ rows p. enter.pass rows (c.leave.ensures.pass c.args.width rows c.loop-self.table.nodes.items (i.pass rows p));
       reached = omega (arith, enter.start, start_is, c.if-at-start.false);
@@ -107,9 +102,7 @@ next_start-requires g c =
     record { pass = (c.args.width, r.0, c.loop-self.table.nodes.items, c.leave-2.ensures.pass c.args.width r.0 c.loop-self.table.nodes.items (c.loop-self.invariant.pass r.0 r.1)) }
 
 pub returns-clause-sound : goal.returns-clause-sound
-returns-clause-sound g c =
-    sound_by c.loop-self.table.nodes.items c.loop-self.table.numbers
-    (elim [ Constant v ↦ elim [ Constant u ↦ refl | Stored m ↦ refl ] | Stored k ↦ elim [ Constant v ↦ refl | Stored m ↦ refl ] ]) c.loop-self.invariant.sound
+returns-clause-sound g c = sound_by (λ _ _. refl) (λ _ _. refl) (λ _ _. refl) (λ _ _. refl) c.loop-self.invariant.sound
 
 pub returns-clause-behind : goal.returns-clause-behind
 returns-clause-behind g c =

@@ -46,7 +46,7 @@ loop-due-init g c =
     let rows = g.R.Rows.rows a.rows in
     let none = none_said a.width (answer a.width (map row_of rows)) (take (length c.nodes-kept.result.now) table.nodes.items) c.in_ok-list.list.items c.in_ok-list.ensures.items in
     record {
-      sound = sound_by table.nodes.items table.numbers (elim [ Constant v ↦ elim [ Constant u ↦ refl | Stored m ↦ refl ] | Stored k ↦ elim [ Constant v ↦ refl | Stored m ↦ refl ] ]) c.requires.sound;
+      sound = sound_by (λ _ _. refl) (λ _ _. refl) (λ _ _. refl) (λ _ _. refl) c.requires.sound;
       keeps = λ k node e. subst (λ xs. slice_get xs k ≡ Some node) (sym (all_taken table.nodes.items c.nodes-kept.result.now c.nodes-kept.ensures)) e;
       pass = c.new-pass.ensures.pass a.width table.nodes.items c.requires.order c.requires.table;
       reached = omega (arith, c.new-pass.ensures.start);
@@ -60,9 +60,7 @@ loop-due-init g c =
     }
 
 pub early_count-requires-clause-sound : goal.early_count-requires-clause-sound
-early_count-requires-clause-sound g c =
-    sound_by c.loop-due.self.nodes.items c.loop-due.self.numbers
-    (elim [ Constant v ↦ elim [ Constant u ↦ refl | Stored m ↦ refl ] | Stored k ↦ elim [ Constant v ↦ refl | Stored m ↦ refl ] ]) c.loop-due.invariant.sound
+early_count-requires-clause-sound g c = sound_by (λ _ _. refl) (λ _ _. refl) (λ _ _. refl) (λ _ _. refl) c.loop-due.invariant.sound
 
 pub early_count-requires-clause-runs : goal.early_count-requires-clause-runs
 early_count-requires-clause-runs g c =
@@ -81,9 +79,7 @@ early_count-requires-clause-runs g c =
     (w, h, subst (λ (xs : List (Change (Sources (Option g.row.V.Denot)))). HasRuns w nodes xs h) (sym is) runs)
 
 pub returns-then-branch-most-clause-sound : goal.returns-then-branch-most-clause-sound
-returns-then-branch-most-clause-sound g c =
-    sound_by c.loop-due.self.nodes.items c.loop-due.self.numbers
-    (elim [ Constant v ↦ elim [ Constant u ↦ refl | Stored m ↦ refl ] | Stored k ↦ elim [ Constant v ↦ refl | Stored m ↦ refl ] ]) c.loop-due.invariant.sound
+returns-then-branch-most-clause-sound g c = sound_by (λ _ _. refl) (λ _ _. refl) (λ _ _. refl) (λ _ _. refl) c.loop-due.invariant.sound
 
 pub returns-then-branch-most-clause-runs : goal.returns-then-branch-most-clause-runs
 returns-then-branch-most-clause-runs g c =
@@ -110,9 +106,7 @@ pub returns-then-branch-most-clause-keeps : goal.returns-then-branch-most-clause
 returns-then-branch-most-clause-keeps g c k node e = slice_get-taken c.loop-due.self.nodes.items c.loop-due.kept k node (c.loop-due.invariant.keeps k node e)
 
 pub reach_keeping-requires-clause-sound : goal.reach_keeping-requires-clause-sound
-reach_keeping-requires-clause-sound g c =
-    sound_by c.loop-due.self.nodes.items c.loop-due.self.numbers
-    (elim [ Constant v ↦ elim [ Constant u ↦ refl | Stored m ↦ refl ] | Stored k ↦ elim [ Constant v ↦ refl | Stored m ↦ refl ] ]) c.loop-due.invariant.sound
+reach_keeping-requires-clause-sound g c = sound_by (λ _ _. refl) (λ _ _. refl) (λ _ _. refl) (λ _ _. refl) c.loop-due.invariant.sound
 
 pub returns-in_default-clause-keeps : goal.returns-in_default-clause-keeps
 returns-in_default-clause-keeps g c k node e = c.in_ok-next.ensures.keeps k node (c.loop-due.invariant.keeps k node e)
@@ -157,7 +151,7 @@ loop-due-preserved g c =
     let comes : IsQuietUpTo start g.R.Rows.rows new → ⊥ =
     λ q. let lt : start < start = subst (λ (o : Option ℕ). IfSome o (λ next. start < next)) c.in-Some.is ((reach.next start).0 q) in omega arith in
     record {
-      sound = sound_by table.nodes.items table.numbers (elim [ Constant v ↦ elim [ Constant u ↦ refl | Stored m ↦ refl ] | Stored k ↦ elim [ Constant v ↦ refl | Stored m ↦ refl ] ]) reach.sound;
+      sound = sound_by (λ _ _. refl) (λ _ _. refl) (λ _ _. refl) (λ _ _. refl) reach.sound;
       keeps = keeps-kept c.loop-due.kept c.kept_with-kept.result c.args.self.now.nodes.items c.loop-due.self.nodes.items table.nodes.items c.sources-sources.result i.keeps reach.keeps kept;
       pass = reach.pass rows i.pass;
       reached = omega (arith, reach.reached);

@@ -4,15 +4,9 @@ use Rattle.std.proofs.lemmas.Bool.{false≢true}
 use Rattle.babel_trie.specs.Differs.{DifferFirst, IsFirstDifference}
 use Rattle.babel_trie.specs.Interned.{IsTrie}
 use Rattle.babel_trie.specs.Shape.{value_at}
-use Rattle.babel_trie.proofs.DifferLaws.{agree_at_leaves, agree_in_one, differ_at_leaves, sides, in_both, differ_low, differ_high, halves_are_tries, in_width}
-use Rattle.babel_trie.proofs.HalfLaws.{halved}
+use Rattle.babel_trie.proofs.DifferLaws.{agree_at_leaves, agree_in_one, differ_at_leaves, sides, in_both, differ_low, differ_high, in_width}
+use Rattle.babel_trie.proofs.HalfLaws.{halved, half_tries}
 use Rattle.babel_trie.proofs.table.Table.+first_apart.Goals as goal
-
-pub halves-requires : goal.halves-requires
-halves-requires g t c = (c.args.bits, c.requires.width, c.requires.trie)
-
-pub halves-requires-2 : goal.halves-requires-2
-halves-requires-2 g t c = (c.args.bits, c.requires.width, c.requires.other_trie)
 
 pub overflow_sub-bits : goal.overflow_sub-bits
 overflow_sub-bits g t c = c.in_default.ensures.fork c.args.bits c.args.self.now.nodes.items c.args.other.now.nodes.items c.requires.trie c.requires.other_trie
@@ -22,12 +16,8 @@ first_apart-requires g t c κs within =
     let a = c.args in
     let some : 0 < a.bits = c.in_default.ensures.fork a.bits a.self.now.nodes.items a.other.now.nodes.items c.requires.trie c.requires.other_trie in
     let falls : a.bits - 1 < t = omega (arith, c.decreases) in
-    let own = halves_are_tries a.bits a.self.now.nodes.items a.whole c.halves.result.0 c.halves.result.1 c.requires.trie some
-    (halved c.args.self.now.nodes.items c.args.whole c.halves.result.0 c.halves.result.1 c.halves.ensures.one c.halves.ensures.node
-    c.requires.trie.trie c.requires.trie.stands) in
-    let theirs = halves_are_tries a.bits a.other.now.nodes.items a.other_whole c.halves-2.result.0 c.halves-2.result.1 c.requires.other_trie some
-    (halved c.args.other.now.nodes.items c.args.other_whole c.halves-2.result.0 c.halves-2.result.1 c.halves-2.ensures.one c.halves-2.ensures.node
-    c.requires.other_trie.trie c.requires.other_trie.stands) in
+    let own = half_tries a.bits a.self.now.nodes.items a.whole _ _ some c.requires.trie c.halves.ensures.one c.halves.ensures.node in
+    let theirs = half_tries a.bits a.other.now.nodes.items a.other_whole _ _ some c.requires.other_trie c.halves-2.ensures.one c.halves-2.ensures.node in
     let left : IsTrie (a.bits - 1) a.self.now.nodes.items c.halves.result.0 = own.0 in
     let right : IsTrie (a.bits - 1) a.other.now.nodes.items c.halves-2.result.0 = theirs.0 in
     search rules
@@ -40,12 +30,8 @@ first_apart-requires-2 g t c κs within =
     let a = c.args in
     let some : 0 < a.bits = c.in_default.ensures.fork a.bits a.self.now.nodes.items a.other.now.nodes.items c.requires.trie c.requires.other_trie in
     let falls : a.bits - 1 < t = omega (arith, c.decreases) in
-    let own = halves_are_tries a.bits a.self.now.nodes.items a.whole c.halves.result.0 c.halves.result.1 c.requires.trie some
-    (halved c.args.self.now.nodes.items c.args.whole c.halves.result.0 c.halves.result.1 c.halves.ensures.one c.halves.ensures.node
-    c.requires.trie.trie c.requires.trie.stands) in
-    let theirs = halves_are_tries a.bits a.other.now.nodes.items a.other_whole c.halves-2.result.0 c.halves-2.result.1 c.requires.other_trie some
-    (halved c.args.other.now.nodes.items c.args.other_whole c.halves-2.result.0 c.halves-2.result.1 c.halves-2.ensures.one c.halves-2.ensures.node
-    c.requires.other_trie.trie c.requires.other_trie.stands) in
+    let own = half_tries a.bits a.self.now.nodes.items a.whole _ _ some c.requires.trie c.halves.ensures.one c.halves.ensures.node in
+    let theirs = half_tries a.bits a.other.now.nodes.items a.other_whole _ _ some c.requires.other_trie c.halves-2.ensures.one c.halves-2.ensures.node in
     let left : IsTrie (a.bits - 1) a.self.now.nodes.items c.halves.result.1 = own.1 in
     let right : IsTrie (a.bits - 1) a.other.now.nodes.items c.halves-2.result.1 = theirs.1 in
     search rules
@@ -57,8 +43,7 @@ pub in_upper_half-requires-clause-room : goal.in_upper_half-requires-clause-room
 in_upper_half-requires-clause-room g t c =
     let a = c.args in
     let p = halved c.args.self.now.nodes.items c.args.whole c.halves.result.0 c.halves.result.1 c.halves.ensures.one c.halves.ensures.node c.requires.trie.trie c.requires.trie.stands in
-    let q = halved c.args.other.now.nodes.items c.args.other_whole c.halves-2.result.0 c.halves-2.result.1 c.halves-2.ensures.one
-    c.halves-2.ensures.node c.requires.other_trie.trie c.requires.other_trie.stands in
+    let q = halved c.args.other.now.nodes.items c.args.other_whole _ _ c.halves-2.ensures.one c.halves-2.ensures.node c.requires.other_trie.trie c.requires.other_trie.stands in
     let above : DifferFirst (2 ^ (a.bits - 1)) (value_at p.high_half (a.bits - 1)) (value_at q.high_half (a.bits - 1)) c.in_ok-at.at =
     c.in_ok-at.ensures p.high_half q.high_half p.high_stands q.high_stands in
     in_width a.bits c.in_ok-at.at (c.in_default.ensures.fork a.bits a.self.now.nodes.items a.other.now.nodes.items c.requires.trie c.requires.other_trie) c.requires.width above.in_range

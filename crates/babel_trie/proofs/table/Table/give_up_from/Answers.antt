@@ -16,6 +16,3 @@ returns-clause-sound g c =
     sound_after_take _ c.args.self.now.nodes.items c.args.self.now.numbers c.args.kept c.requires.sound
     (index_take _ _ c.args.self.now.nodes.items c.args.kept c.args.self.now.numbers c.requires.sound.indexed)
     c.truncate.new.self.items c.truncate.ensures.items
-
-pub returns-clause-nodes : goal.returns-clause-nodes
-returns-clause-nodes g c = (c.args.kept, omega arith, c.truncate.ensures.items)

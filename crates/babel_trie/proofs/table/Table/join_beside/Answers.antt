@@ -1,6 +1,6 @@
 -- Two nodes are the halves of a node as they are; else both are opened.
 use Rattle.std.proofs.Common.{Bool, true, false, List, sym, subst}
-use Rattle.babel_trie.specs.Interned.{IsNormalLoose, IsTrie, Joins, JoinsBy, Opens}
+use Rattle.babel_trie.specs.Interned.{Joins, JoinsBy, Opens}
 use Rattle.babel_trie.specs.Laid.{AreHalvesBy}
 use Rattle.babel_trie.specs.Sound.{IsLooseBelow}
 use Rattle.babel_trie.specs.declared.table.Loose.{Loose}
@@ -9,7 +9,7 @@ use Rattle.babel_trie.specs.declared.table.Node.{Node}
 use Rattle.babel_trie.specs.declared.table.Sources.{Sources}
 use Rattle.babel_trie.specs.declared.table.Sources.TheVariants.{Stored}
 use Rattle.babel_trie.proofs.NumberLaws.{one_opening, Opens-grows}
-use Rattle.babel_trie.proofs.FormLaws.{Represents-in, joins_beside, opened_trie}
+use Rattle.babel_trie.proofs.FormLaws.{Represents-in, joins_beside}
 use Rattle.babel_trie.proofs.PartLaws.{on_ok_then}
 use Rattle.babel_trie.proofs.PathLaws.{loose_below}
 use Rattle.babel_trie.proofs.table.Table.join_beside.Goals as goal
@@ -34,25 +34,6 @@ returns-in-Split-Stored-clause-joins g c x opens =
 
 pub opened-requires : goal.opened-requires
 opened-requires g c = Represents-in c.args.self.now.nodes.items c.args.beside c.requires.beside.trie c.requires.beside.stands
-
-pub interned-requires-clause-normal : goal.interned-requires-clause-normal
-interned-requires-clause-normal g c = subst (IsNormalLoose c.args.self.now.nodes.items) c.in-Split-Stored.is-0 c.requires.normal
-
-each_half : {X : Type 0} (P : X → Type 0) (low : Bool) (inside beside first second : X) → AreHalvesBy low inside beside first second → P inside → P beside → P first × P second
-each_half P true inside beside first second by p q = (subst P (sym by.0) p, subst P (sym by.1) q)
-each_half P false inside beside first second by p q = (subst P (sym by.0) q, subst P (sym by.1) p)
-
-pub join-requires-clause-low : goal.join-requires-clause-low
-join-requires-clause-low g c =
-    let nodes = c.args.self.now.nodes.items in
-    (each_half (IsTrie 127 nodes) c.args.low c.args.inside.now c.opened.result c.in_order-2.result.0 c.in_order-2.result.1 c.in_order-2.ensures
-    c.requires.inside (opened_trie nodes 127 c.args.beside c.opened.result c.opened.ensures c.requires.beside)).0
-
-pub join-requires-clause-high : goal.join-requires-clause-high
-join-requires-clause-high g c =
-    let nodes = c.args.self.now.nodes.items in
-    (each_half (IsTrie 127 nodes) c.args.low c.args.inside.now c.opened.result c.in_order-2.result.0 c.in_order-2.result.1 c.in_order-2.ensures
-    c.requires.inside (opened_trie nodes 127 c.args.beside c.opened.result c.opened.ensures c.requires.beside)).1
 
 joined_by : {V : Type 0} (old new : List (Node V)) (low : Bool) (inside beside first second whole : Loose V)
     → AreHalvesBy low inside beside first second → Joins old first second new whole → JoinsBy low old inside beside new whole

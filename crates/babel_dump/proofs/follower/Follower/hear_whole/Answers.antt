@@ -2,7 +2,7 @@ use Rattle.babel_capture.specs.Sinking.{missed_said}
 use Rattle.babel_dump.specs.EventsRun.{requests_made, told_from}
 use Rattle.babel_dump.proofs.HeardRecords.{heard_and_lost}
 use Rattle.babel_dump.proofs.HeardRequests.{told_both}
-use Rattle.babel_dump.proofs.follower.Follower.hear.Goals as goal
+use Rattle.babel_dump.proofs.follower.Follower.hear_whole.Goals as goal
 
 pub returns-clause-heard : goal.returns-clause-heard
 returns-clause-heard c made one before told was =

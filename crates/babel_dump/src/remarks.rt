@@ -1,0 +1,128 @@
+//! What was not read of a capture, as there is to say at once.
+use crate::events_job::Events;
+use crate::hint::Hint;
+use crate::ignored::newly_ignored;
+use crate::left_out::LeftOutDatagram;
+use crate::reason_text::REASONS;
+use crate::remark::{NamedRemark, Remark, Unread};
+use crate::says::Says;
+use crate::speaker::Speaker;
+use crate::trouble::say_hint;
+use babel_capture::{Gathered, Origin, Reason};
+use babel_table::Report;
+use babel_tlv::Reason as IgnoredFor;
+use std::alloc::{AllocError, Global};
+use std::collections::BTreeSet;
+
+/// What was not read, of which was not said yet. If the command is quiet, nothing is said.
+#[derive(Drop)]
+pub(crate) struct Remarks {
+    is_quiet: bool,
+    remarks: Vec<Remark>,
+    /// Whose datagrams were left out, and for which reasons.
+    left_out: BTreeSet<(Speaker, Reason)>,
+    /// What can be done where encoding 4 is ignored, until that is said.
+    hint: Option<Hint>,
+}
+
+impl Remarks {
+    /// Nothing yet.
+    pub(crate) fn new(alloc: Global, events: &Events) -> Remarks {
+        Remarks {
+            is_quiet: events.quiet,
+            remarks: Vec::new(alloc),
+            left_out: BTreeSet::new(alloc),
+            hint: Hint::of_encoding_4(events.limits.via_v6()),
+        }
+    }
+
+    /// Adds what of a sender was not read.
+    fn add(&mut self, remark: Remark) -> Result<(), AllocError> {
+        if !self.is_quiet {
+            self.remarks.push(remark)?;
+        }
+        Ok(())
+    }
+
+    /// Adds what of a sender's datagram was not read.
+    fn add_datagram(&mut self, origin: Origin, unread: Unread) -> Result<(), AllocError> {
+        self.add(Remark {
+            origin,
+            unread,
+            ignores_encoding_4: false,
+        })
+    }
+
+    /// A datagram of a sender was left out that lacks something, so that no more is told of it.
+    pub(crate) fn lost(
+        &mut self,
+        origin: Origin,
+        datagram: LeftOutDatagram,
+    ) -> Result<(), AllocError> {
+        self.add_datagram(origin, Unread::Lost(datagram))
+    }
+
+    /// A datagram of a sender was left out, of which nothing is missing. It is said once of each
+    /// sender at its place and each reason.
+    pub(crate) fn left_out(
+        &mut self,
+        origin: Origin,
+        datagram: LeftOutDatagram,
+    ) -> Result<(), AllocError> {
+        let Origin { place, sender } = origin;
+        match self
+            .left_out
+            .insert((Speaker { sender, place }, datagram.reason))
+        {
+            Ok(true) => self.add_datagram(origin, Unread::LeftOut(datagram)),
+            Ok(false) => Ok(()),
+            Err(_) => Err(AllocError),
+        }
+    }
+
+    /// A sender had the one report, and now has the other: the first TLV for each reason for which
+    /// none was ignored before.
+    pub(crate) fn ignored(
+        &mut self,
+        origin: &Origin,
+        before: &Report,
+        now: &Report,
+    ) -> Result<(), AllocError> {
+        for reason in &REASONS {
+            self.ignored_for(origin, before, now, *reason)?;
+        }
+        Ok(())
+    }
+
+    /// The same for one reason.
+    fn ignored_for(
+        &mut self,
+        origin: &Origin,
+        before: &Report,
+        now: &Report,
+        reason: IgnoredFor,
+    ) -> Result<(), AllocError> {
+        let Some(tlv) = newly_ignored(before, now, reason) else {
+            return Ok(());
+        };
+        self.add(Remark {
+            origin: *origin,
+            unread: Unread::Ignored(tlv),
+            ignores_encoding_4: now.ignores_encoding_4(),
+        })
+    }
+
+    /// Says what was not read since it was said last.
+    pub(crate) fn say<S: Says>(&mut self, gathered: &Gathered, says: &mut S) {
+        for remark in &self.remarks {
+            says.say(&NamedRemark {
+                remark: *remark,
+                name: gathered.name(remark.origin.place.interface),
+            });
+            if remark.is_of_encoding_4() {
+                say_hint(says, &self.hint.take());
+            }
+        }
+        self.remarks.clear();
+    }
+}

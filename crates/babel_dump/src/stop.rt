@@ -1,0 +1,31 @@
+use crate::hearing::Unheard;
+use crate::ignored::IgnoredTlv;
+use crate::left_out::LeftOutDatagram;
+use babel_capture::Origin;
+
+/// Why no more of a capture is heard.
+#[derive(Clone, Copy)]
+pub(crate) enum Stop {
+    /// A record can't be heard.
+    Unheard(Unheard),
+    /// A TLV of this sender was ignored, and the capture is read strictly.
+    Ignored {
+        origin: Origin,
+        tlv: IgnoredTlv,
+        /// Whether it is an Update that is ignored because its encoding is 4: RFC 9229.
+        ignores_encoding_4: bool,
+    },
+    /// A datagram was left out, and the capture is read strictly.
+    LeftOut(LeftOutDatagram),
+}
+
+impl From<Unheard> for Stop {
+    ghost use Rattle.std.specs.Prelude.{◌≡◌};
+    ghost use Rattle.babel_dump.specs.declared.stop.Stop.TheVariants as stops;
+
+    ghost from_gives = { λ fault stop. stop ≡ stops.Unheard fault };
+
+    fn from(fault: Unheard) -> Stop {
+        Stop::Unheard(fault)
+    }
+}

@@ -1,6 +1,0 @@
--- A table with no node is sound.
-use Rattle.babel_trie.proofs.NumberLaws.{sound_of_none}
-use Rattle.babel_trie.proofs.table.Table.new.Goals as goal
-
-pub returns : goal.returns
-returns g c = record { sound = sound_of_none _ c.new.result.items c.new-2.result c.new.ensures.items c.new-2.ensures }
