@@ -2,8 +2,10 @@ pub mod BackingLaws
 pub mod CountLaws
 pub mod Entries
 pub mod FindingLaws
+pub mod FragmentLaws
 pub mod FramingLaws
 pub mod GatherLaws
+pub mod KnownLaws
 pub mod LaidOutLaws
 pub mod MemoryLaws
 pub mod NumberLaws
@@ -14,6 +16,7 @@ pub mod OneOrigin
 pub mod PacketLaws
 pub mod PcapLaws
 pub mod PcapngLaws
+pub mod PieceLaws
 pub mod ReadBack
 pub mod ReadingLaws
 pub mod SeenInFrames

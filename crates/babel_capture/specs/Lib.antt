@@ -8,12 +8,15 @@ pub mod Counting
 pub mod Dumps
 pub mod Ethernet
 pub mod Findings
+pub mod Fragments
 pub mod Frame
 pub mod Gathering
 pub mod Headers
 pub mod InFrame
+pub mod Indexing
 pub mod Ipv4
 pub mod Ipv6
+pub mod Keeping
 pub mod Lack
 pub mod LaidOut
 pub mod Layers
@@ -29,6 +32,7 @@ pub mod Octets
 pub mod Packets
 pub mod PcapFiles
 pub mod PcapngFiles
+pub mod Pieces
 pub mod Place
 pub mod Reading
 pub mod Sections
