@@ -14,6 +14,7 @@ pub mod OneCapture
 pub mod OneFault
 pub mod OneOrigin
 pub mod PacketLaws
+pub mod PartLaws
 pub mod PcapLaws
 pub mod PcapngLaws
 pub mod PieceLaws

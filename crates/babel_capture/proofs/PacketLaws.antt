@@ -16,7 +16,7 @@ use Rattle.babel_capture.specs.Dumps.{dump_of}
 use Rattle.babel_capture.specs.Findings.{Found, Finds, PayloadIs, CarriedIs, lack_found, octets_found}
 use Rattle.babel_capture.specs.Gathering.{AreMade, Gathering}
 use Rattle.babel_capture.specs.Packets.{ArePackets}
-use Rattle.babel_capture.specs.Sight.{Sight, Carried, other, too_short, datagram, other_port, not_link_local, lacking, carries}
+use Rattle.babel_capture.specs.Sight.{Sight, Carried, other, too_short, fragmented, datagram, other_port, not_link_local, lacking, carries}
 use Rattle.babel_capture.specs.Window.{Extent}
 use Rattle.babel_capture.proofs.SinkLaws.{dump-append, dump-one}
 
@@ -56,6 +56,7 @@ in_carried wanted place sender (carries payload) what is = in_payload place send
 pub in_sight : (wanted : Wanted) (sight : Sight) (what : Found) → Finds wanted sight what → ArePackets (octets_found what)
 in_sight wanted other what is = nothing_found (octets_found what) (ap octets_found is)
 in_sight wanted too_short what is = nothing_found (octets_found what) (ap octets_found is)
+in_sight wanted (fragmented fragment) what is = nothing_found (octets_found what) (ap octets_found is)
 in_sight wanted (datagram place sender carried) what (inl (is_wanted, is)) = in_carried wanted place sender carried what is
 in_sight wanted (datagram place sender carried) what (inr (not, is)) = nothing_found (octets_found what) (ap octets_found is)
 

@@ -3,7 +3,7 @@ use Rattle.std.specs.Prelude.{◌≡◌, ℕ, ◌<◌, List, drop, length, ◌++
 use Rattle.babel_prefix.specs.Address.{Address}
 use Rattle.babel_capture.specs.declared.lack.Lack.{Lack}
 use Rattle.babel_capture.specs.declared.lack.Lack.TheVariants as lacks
-use Rattle.babel_capture.specs.Sight.{Sight, Carried, other, too_short, datagram}
+use Rattle.babel_capture.specs.Sight.{Sight, Carried, other, too_short, fragmented, datagram}
 use Rattle.babel_capture.specs.Sight.{other_port, not_link_local, lacking, carries}
 use Rattle.babel_capture.specs.Udp.{source_port, destination_port, udp_len, may_send}
 
@@ -39,4 +39,5 @@ BacksCarried sender octets all (carries payload) =
 abbrev pub Backs : List ℕ → ℕ → Sight → Type 0
 Backs octets all other = Unit {0}
 Backs octets all too_short = Unit {0}
+Backs octets all (fragmented fragment) = StandIn fragment.octets octets
 Backs octets all (datagram place sender carried) = BacksCarried sender octets all carried

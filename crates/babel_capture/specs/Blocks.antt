@@ -4,6 +4,7 @@ use Rattle.std.specs.Prelude.{◌≡◌, ℕ, ◌+◌, ◌-◌, ◌<◌, ◌≤�
 use Rattle.std.specs.Prelude.{◌⊎◌, Option, None, Some}
 use Rattle.std.specs.List.{flat_map}
 use Rattle.std.specs.Result.{IsOkAnd}
+use Rattle.babel_prefix.specs.Address.{Address}
 use Rattle.babel_capture.specs.declared.layout.Layout.TheVariants as layouts
 use Rattle.babel_capture.specs.declared.link.Link.{Link}
 use Rattle.babel_capture.specs.Contents.{Captured, Content, file, section, describes, holds, skips}
@@ -110,6 +111,11 @@ sight_in packet =
 abbrev pub section_with : ℕ → Sight → Option ℕ
 section_with first (datagram place sender (carries payload)) = Some first
 section_with first what = None
+
+-- who sent it
+abbrev pub sender_with : Sight → Option Address
+sender_with (datagram place sender (carries payload)) = Some sender
+sender_with what = None
 
 -- when the packet came, and in which section, which is seen so
 abbrev pub came_with : Captured → Sight → Came

@@ -15,7 +15,7 @@ use Rattle.babel_capture.specs.declared.reason.Reason.TheVariants as reasons
 use Rattle.babel_capture.specs.declared.tallies.Origin.{Origin}
 use Rattle.babel_capture.specs.declared.wanted.Wanted.{Wanted}
 use Rattle.babel_capture.specs.Lack.{lack_reason}
-use Rattle.babel_capture.specs.Sight.{Sight, Carried, other, too_short, datagram}
+use Rattle.babel_capture.specs.Sight.{Sight, Carried, other, too_short, fragmented, datagram}
 use Rattle.babel_capture.specs.Sight.{other_port, not_link_local, lacking, carries}
 
 -- nothing; a frame that is too short to tell; a datagram left out, for a reason, and whose it is
@@ -100,6 +100,7 @@ CarriedIs wanted place sender (carries payload) what = PayloadIs place sender pa
 abbrev pub Finds : Wanted → Sight → Found → Type 0
 Finds wanted other what = what ≡ passed
 Finds wanted too_short what = what ≡ untold
+Finds wanted (fragmented fragment) what = what ≡ passed
 Finds wanted (datagram place sender carried) what =
     Either (IsWanted wanted sender place) (CarriedIs wanted place sender carried what) (what
     ≡ passed)

@@ -1,7 +1,8 @@
 -- Datagrams that are put together of their fragments: RFC 791, 3.2; RFC 8200, 4.5; RFC 5722, 4. For
 -- how long a datagram is known after it is whole, and how much is kept, is this project's own.
-use Rattle.std.specs.Prelude.{ℕ, ◌-◌, Bool, not, false, ◌==◌, ◌&&◌, ◌||◌, nat_lt, is_some}
-use Rattle.std.specs.Prelude.{if◌then◌else◌, List, [], ◌∷◌, length, max, sum_by, Option, None, Some}
+use Rattle.std.specs.Prelude.{ℕ, ◌-◌, Bool, not, true, false, ◌==◌, ◌&&◌, ◌||◌, nat_lt, is_some}
+use Rattle.std.specs.Prelude.{if◌then◌else◌, List, [], ◌∷◌, drop, length, max, sum_by, Option}
+use Rattle.std.specs.Prelude.{None, Some}
 use Rattle.std.specs.declared.cmp.Ordering.{Ordering}
 use Rattle.std.specs.BTreeMap.{insert_entry, is_at}
 use Rattle.std.specs.List.{find}
@@ -15,10 +16,15 @@ use Rattle.babel_capture.specs.declared.datagram.Standing.TheVariants as standin
 use Rattle.babel_capture.specs.declared.datagram.Step.{Step}
 use Rattle.babel_capture.specs.declared.datagram.Step.TheVariants as steps
 use Rattle.babel_capture.specs.declared.fragment.DatagramId.{DatagramId}
+use Rattle.babel_capture.specs.declared.fragment.UdpPlace.{UdpPlace}
 use Rattle.babel_capture.specs.declared.pieces.Meeting.{Meeting}
 use Rattle.babel_capture.specs.declared.pieces.Meeting.TheVariants as meetings
-use Rattle.babel_capture.specs.Pieces.{Fragment, KeptPieces, is_whole, len_of, meeting, piece_of}
+use Rattle.babel_capture.specs.Pieces.{Fragment, KeptPieces, furthest, is_whole, joined, len_of}
+use Rattle.babel_capture.specs.Pieces.{meeting, piece_of}
+use Rattle.babel_capture.specs.Sight as sights
+use Rattle.babel_capture.specs.Sight.{Sight}
 use Rattle.babel_capture.specs.Tallies.{origin_cmp}
+use Rattle.babel_capture.specs.Udp.{missing_sight, udp_sight}
 
 -- ---- which datagram
 
@@ -90,6 +96,29 @@ stepped datagram fragment steps.Completes = with_fragment datagram fragment
 stepped datagram fragment steps.Overlaps = record datagram { standing = standings.Dropped }
 stepped datagram fragment steps.Ignored = datagram
 stepped datagram fragment steps.Anew = datagram
+
+-- What it is where fragments of it are missing: as its first one tells or, without that, as its group
+-- does.
+abbrev pub lost_by : Datagram → Option UdpPlace → Sight
+lost_by datagram (Some udp) =
+    missing_sight datagram.id.origin.place datagram.id.origin.sender udp.is_of_routers
+lost_by datagram None =
+    if datagram.is_to_group
+    then missing_sight datagram.id.origin.place datagram.id.origin.sender true
+    else sights.other
+
+abbrev pub lost_sight : Datagram → Sight
+lost_sight datagram = lost_by datagram datagram.udp
+
+-- and where it is whole: UDP in the octets of its fragments, as one that was sent so
+abbrev pub whole_by : Datagram → Option UdpPlace → Sight
+whole_by datagram (Some udp) =
+    udp_sight datagram.id.origin.place datagram.id.origin.sender false
+    (drop udp.at (joined (values_of datagram.pieces))) (furthest datagram.pieces - udp.at)
+whole_by datagram None = sights.other
+
+abbrev pub whole_sight : Datagram → Sight
+whole_sight datagram = whole_by datagram datagram.udp
 
 -- ---- all that are known
 

@@ -14,6 +14,7 @@ pub mod Gathering
 pub mod Headers
 pub mod InFrame
 pub mod Indexing
+pub mod IpFragments
 pub mod Ipv4
 pub mod Ipv6
 pub mod Keeping

@@ -9,20 +9,21 @@ use Rattle.std.specs.Ordering.{nat_cmp}
 use Rattle.std.specs.Str.{bytes_eq}
 use Rattle.babel_capture.specs.declared.fragment.DatagramId.{DatagramId}
 use Rattle.babel_capture.specs.declared.fragment.Fragment.{Fragment as HeldFragment}
+use Rattle.babel_capture.specs.declared.fragment.UdpPlace.{UdpPlace}
 use Rattle.babel_capture.specs.declared.pieces.Meeting.{Meeting}
 use Rattle.babel_capture.specs.declared.pieces.Meeting.TheVariants as meetings
 
 -- A fragment: of which datagram, where in that it begins, in octets, whether more come after it, how
 -- many octets of the datagram it had, and those of them that the recorder kept, its first ones; where
--- in the datagram UDP begins, if this is the first fragment of one that comes from the port of Babel
--- or goes to it; and whether it goes to a group of Babel, and says that it is of UDP
+-- UDP begins, if this is the first fragment of a datagram from or to the port of Babel; and whether it
+-- goes to a group of Babel, and says that it is of UDP
 pub record Fragment : Type 0 where
   pub id : DatagramId
   pub offset : ℕ
   pub more : Bool
   pub len : ℕ
   pub octets : List ℕ
-  pub udp : Option ℕ
+  pub udp : Option UdpPlace
   pub is_to_group : Bool
 
 -- as the code holds it, without where its octets lie in memory

@@ -1,12 +1,18 @@
 ghost use Rattle.std.specs.Prelude.{◌≡◌, ◌+◌, ◌^◌, ◌<◌, IfOk, OnErr, false};
+ghost use Rattle.std.specs.Map.{values_of};
 ghost use Rattle.babel_capture.specs.Fragments.{begun, is_of_another, step_in, step_to_whole};
-ghost use Rattle.babel_capture.specs.Fragments.{stepped};
-ghost use Rattle.babel_capture.specs.Pieces.{fragment_of, meeting};
+ghost use Rattle.babel_capture.specs.Fragments.{lost_sight, stepped, whole_sight};
+ghost use Rattle.babel_capture.specs.Pieces.{fragment_of, joined, meeting};
+ghost use Rattle.babel_capture.specs.Sight.{sight_of};
 ghost use Rattle.babel_capture.specs.declared.datagram.Standing.TheVariants as standings;
 ghost use Rattle.babel_capture.specs.declared.pieces.Meeting.TheVariants as meetings;
 
-use crate::fragment::{DatagramId, Fragment};
+use crate::fragment::{DatagramId, Fragment, UdpPlace};
+use crate::part::Part;
 use crate::pieces::{Meeting, Pieces};
+use crate::seen::Seen;
+use crate::tallies::Origin;
+use crate::udp::{look_at_lost, look_into_udp};
 use std::alloc::{AllocError, Global};
 
 /// A datagram that comes in fragments.
@@ -19,8 +25,8 @@ pub(crate) struct Datagram {
     pub(crate) came: u128,
     /// Whether that goes to a group of Babel, and says that it is of UDP.
     pub(crate) is_to_group: bool,
-    /// Where in the datagram UDP begins, if its first fragment came.
-    pub(crate) udp: Option<u16>,
+    /// Where UDP begins, if its first fragment came.
+    pub(crate) udp: Option<UdpPlace>,
     pub(crate) standing: Standing,
     pub(crate) pieces: Pieces,
 }
@@ -90,6 +96,40 @@ impl Datagram {
             standing: Standing::Open,
             pieces,
         })
+    }
+
+    /// What it is where fragments of it are missing: as the first one tells or, without that, as
+    /// its group does.
+    pub(crate) fn look_lost(&self) -> Seen<'static>
+        ensures { sight_of result ≡ lost_sight self.now }
+    {
+        let Origin { place, sender } = self.id.origin;
+        match self.udp {
+            Some(udp) => look_at_lost(place, sender, udp.is_of_routers),
+            None => {
+                if self.is_to_group {
+                    look_at_lost(place, sender, true)
+                } else {
+                    Seen::Other
+                }
+            }
+        }
+    }
+
+    /// What it is where it is whole, of these octets.
+    pub(crate) fn look_whole<'a>(&self, octets: &'a [u8]) -> Seen<'a>
+        requires { octets.now ≡ joined (values_of self.now.pieces) }
+        ensures { sight_of result ≡ whole_sight self.now }
+    {
+        let Some(udp) = self.udp else {
+            return Seen::Other;
+        };
+        let whole = Part {
+            octets,
+            whole: self.pieces.end() as usize,
+        };
+        let Origin { place, sender } = self.id.origin;
+        look_into_udp(place, sender, false, whole.after(udp.at as usize))
     }
 
     /// Takes one fragment more of it.

@@ -25,12 +25,13 @@ ghost use Rattle.babel_capture.specs.declared.wanted.Wanted.{Wanted};
 ghost use Rattle.babel_capture.specs.Backing.{Backs};
 ghost use Rattle.babel_capture.specs.Frame.{frame_sight};
 ghost use Rattle.babel_capture.specs.InFrame.{AreOctets, IsInFrame};
-ghost use Rattle.babel_capture.specs.LaidOut.{HasBabel, IsBabel, IsOverIp, UdpDatagram};
+ghost use Rattle.babel_capture.specs.IpFragments.{IpFragment, fragment_sight};
+ghost use Rattle.babel_capture.specs.LaidOut.{IsBabel, IsOverIp, IsPartOverIp, UdpDatagram};
 ghost use Rattle.babel_capture.specs.LinkHeaders.{HasEtherType, HasFamily, IsHeader};
 ghost use Rattle.babel_capture.specs.LinkHeaders.{IsOtherFamily, IsOtherType};
 ghost use Rattle.byteorder.specs.Endian.{big_bytes, little_bytes};
 ghost use Rattle.babel_prefix.specs.Address.{Address};
-ghost use Rattle.babel_capture.specs.Sight.{Carried, Sight, carries, datagram, lacking, other};
+ghost use Rattle.babel_capture.specs.Sight.{Sight, carries, datagram, lacking, other};
 ghost use Rattle.babel_capture.specs.declared.link.Link.{Link as LinkType};
 ghost use Rattle.babel_capture.specs.declared.lack.Lack.TheVariants.{Snapped};
 ghost use Rattle.babel_capture.specs.declared.place.Place.{Place};
@@ -51,12 +52,23 @@ pub fn sight_is_backed()
 /// several fragments of one is seen as a fragment.
 pub fn laid_out_is_seen()
     ensures { (link : LinkType) (interface ether_type : ℕ) (place : Place) (sender : Address)
-        (carried : Carried) (header packet after : List ℕ) (more all : ℕ)
+        (udp : UdpDatagram) (header packet after : List ℕ) (more all : ℕ)
         → IsHeader link interface ether_type place header
-        → HasBabel ether_type sender packet more carried
+        → IsBabel udp → IsOverIp ether_type sender udp packet more
         → length header + (length packet + more) ≤ all
         → frame_sight interface link (header ++ (packet ++ after)) all
-        ≡ datagram place sender carried }
+        ≡ datagram place sender (carries udp.payload) }
+{}
+
+/// A fragment of a UDP datagram that is laid out as the RFCs say, over IPv4 with any options or over
+/// IPv6 with up to eight extension headers before that of fragments, is seen as that fragment.
+pub fn fragment_is_seen()
+    ensures { (link : LinkType) (interface ether_type : ℕ) (place : Place) (fragment : IpFragment)
+        (header packet after : List ℕ) (all : ℕ)
+        → IsHeader link interface ether_type place header
+        → IsPartOverIp ether_type place packet fragment
+        → length header + length packet ≤ all
+        → frame_sight interface link (header ++ (packet ++ after)) all ≡ fragment_sight fragment }
 {}
 
 /// And nothing else is: where the octets of a frame are seen as a packet, they are laid out so.

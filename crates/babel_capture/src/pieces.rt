@@ -4,8 +4,8 @@ ghost use Rattle.std.specs.BTreeMap.{get, insert_entry};
 ghost use Rattle.std.specs.List.{list_any};
 ghost use Rattle.std.specs.Map.{values_of};
 ghost use Rattle.std.specs.Ordering.{nat_cmp};
-ghost use Rattle.babel_capture.specs.Pieces.{KeptPiece, fragment_of, is_same, is_whole, joined};
-ghost use Rattle.babel_capture.specs.Pieces.{len_of, meeting, overlaps, piece_of, share};
+ghost use Rattle.babel_capture.specs.Pieces.{KeptPiece, fragment_of, furthest, is_same, is_whole};
+ghost use Rattle.babel_capture.specs.Pieces.{joined, len_of, meeting, overlaps, piece_of, share};
 ghost use Rattle.babel_capture.specs.declared.pieces.Meeting.TheVariants as meetings;
 
 use crate::fragment::Fragment;
@@ -116,6 +116,13 @@ impl Pieces {
         ensures { result ≡ len_of self.now }
     {
         self.len
+    }
+
+    /// Where in the datagram the furthest of them ends.
+    pub(crate) fn end(&self) -> u16
+        ensures { result ≡ furthest self.now }
+    {
+        self.end
     }
 
     /// Whether the datagram is whole.
