@@ -27,6 +27,9 @@ count-cons p x xs = sum_by-append (λ s. cond (p s) 1 0) (x ∷ []) xs ∙ ap (�
 pub updates-step : (left next : List TlvAt) (tlv : TlvAt) → left ≡ tlv ∷ next → count_by is_update left ≡ cond (is_update tlv) 1 0 + count_by is_update next
 updates-step left next tlv is = ap (count_by is_update) is ∙ count-cons is_update tlv next
 
+pub update-step : (left next : List TlvAt) (tlv : TlvAt) → left ≡ tlv ∷ next → tlv.kind ≡ 8 → count_by is_update left ≡ 1 + count_by is_update next
+update-step left next tlv is update = updates-step left next tlv is ∙ ap (λ (kind : ℕ). cond (kind == 8) 1 0 + count_by is_update next) update
+
 pub octets-step : (left next : List TlvAt) (tlv : TlvAt) → left ≡ tlv ∷ next → length (flat_map tlv_octets left) ≡ length (tlv_octets tlv) + length (flat_map tlv_octets next)
 octets-step left next tlv is = ap (λ (t : List TlvAt). length (flat_map tlv_octets t)) is ∙ length-append (tlv_octets tlv) (flat_map tlv_octets next)
 

@@ -1,6 +1,6 @@
-ghost use Rattle.std.specs.Prelude.{◌≡◌, length, drop, if◌then◌else◌};
+ghost use Rattle.std.specs.Prelude.{◌≡◌, length, drop};
 ghost use Rattle.babel_capture.specs.Timing.{greatest};
-ghost use Rattle.babel_capture.specs.Updates.{announced_interval, interval_in, is_update};
+ghost use Rattle.babel_capture.specs.Updates.{announced_interval, interval_in};
 ghost use Rattle.babel_capture.specs.Updates.{updates_in};
 ghost use Rattle.babel_tlv.specs.Frames.{tlv_value};
 ghost use Rattle.babel_tlv.specs.Framing.{tlv_octets};
@@ -45,8 +45,10 @@ pub fn updates_in(packet: &[u8]) -> Updates
     let mut interval = None;
     while let Some(tlv) = tlvs.advance() {
         len += len_of(&tlv);
-        count += one_if_update(&tlv);
-        interval = greater(interval, announced_interval(&tlv));
+        if tlv.kind == UPDATE {
+            count += 1;
+            interval = greater(interval, announced_interval(&tlv));
+        }
     }
     if len == body.len() {
         Updates { count, interval }
@@ -94,11 +96,4 @@ fn len_of(tlv: &Tlv<'_>) -> usize
     ensures { result ≡ length (tlv_octets (tlv_value tlv.now)) }
 {
     if tlv.kind == 0 { 1 } else { 2 + tlv.body.len() }
-}
-
-/// 1 for an Update, and 0 for another TLV.
-fn one_if_update(tlv: &Tlv<'_>) -> u64
-    ensures { result ≡ (if is_update (tlv_value tlv.now) then 1 else 0) }
-{
-    if tlv.kind == UPDATE { 1 } else { 0 }
 }

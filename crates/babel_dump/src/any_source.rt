@@ -32,7 +32,7 @@ pub(crate) fn found_any_source(
         reports: Reports::AnySource(*table.report(), source_to_tell(table, &dst)),
     };
     let text = lookup_output(alloc, format, AddrPair { dst, src }, held)?;
-    Found::text(alloc, text, outcome)
+    Ok(Found::text(text, outcome))
 }
 
 /// The source of an answer that is for any source.

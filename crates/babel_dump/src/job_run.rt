@@ -67,7 +67,7 @@ pub fn run_job<R: ByteIn, S: ByteIn, W: ByteOut>(
 {
     let found = find(alloc, job, reader, other);
     let aside = aside_of(&found);
-    let outcome = finish(writer, found)?;
+    let outcome = finish(alloc, writer, found)?;
     Ok(Ran { outcome, aside })
 }
 

@@ -62,7 +62,7 @@ pub(crate) fn found_key(
     let named = file_output(alloc, format, file)?;
     let key = make_key(alloc, reading, form, view, format, &named, table)?;
     let outcome = Outcome::of_dump(0, key.report);
-    Ok(Found::text(alloc, key.line, outcome)?)
+    Ok(Found::text(key.line, outcome))
 }
 
 /// The key of a table, which is named so in this format.

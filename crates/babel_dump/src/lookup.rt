@@ -24,7 +24,7 @@ pub(crate) fn found_answer(
 {
     let outcome = Outcome::of_dump(lookup_status(answer.held.as_ref()), answer.report);
     let text = lookup_output(alloc, format, pair, answer.held)?;
-    Found::text(alloc, text, outcome)
+    Ok(Found::text(text, outcome))
 }
 
 /// The status of an answer.
