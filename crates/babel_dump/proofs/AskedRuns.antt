@@ -3,6 +3,7 @@ use Rattle.std.proofs.Common.{◌≡◌, ◌≢◌, ℕ, Bool, List, Option, Non
 use Rattle.std.specs.Prelude.{IfOk, IfSome}
 use Rattle.std.specs.Io.KnownBytes.{Appends, Keeps}
 use Rattle.std.specs.Map.{keys_of}
+use Rattle.std.specs.Option.{unwrap_or}
 use Rattle.babel_capture.specs.Counts.{Made}
 use Rattle.babel_dump.specs.CaptureGiven.{made_in}
 use Rattle.babel_dump.specs.Device.{InputState}
@@ -96,7 +97,8 @@ pub wrote_so : (keys : SenderKeys) (stream : Option (List ℕ)) (begins told : B
     → BeginsSo stream begins → told ≡ begins → told ≢ beginnings.Dump → Keeps stream old.left → GaveSenders keys (each_from keys old new) senders
     → ((records : List Made) → AreWhole (packets_made records) → AreOwn keys records senders.tables.entries
     → AreKeys keys records senders.read.moment senders.read.gathered (keys_of senders.tables.entries) made)
-    → done.senders ≡ made.senders → text ≡ made.lines.items → Appends writer.old.taken writer.new.taken text → done.status ≡ 0 → WroteKeys keys stream writer done
+    → done.senders ≡ made.senders → text ≡ made.lines.items → Appends writer.old.taken writer.new.taken text
+    → done.status ≡ unwrap_or made.status 0 → WroteKeys keys stream writer done
 wrote_so keys stream begins told old new writer senders made text done begun is no_dump keeps gave are same lines wrote status = record {
   begins = begins;
   begun = begun;

@@ -1,5 +1,5 @@
 -- The keys of the senders in a capture, all together.
-use Rattle.std.proofs.Common.{◌≡◌, ◌+◌, ◌≤◌, ℕ, Less, Bool, List, [], ◌∷◌, ◌++◌, map, Option, Some, Result, Ok, Err, refl, sym, ap, subst, ◌∙◌, true, false, append_assoc, append-nil, arith}
+use Rattle.std.proofs.Common.{◌≡◌, ◌+◌, ◌≤◌, ℕ, Less, Bool, List, [], ◌∷◌, ◌++◌, map, Option, None, Some, Result, Ok, Err, refl, sym, ap, subst, ◌∙◌, true, false, append_assoc, append-nil, arith}
 use Rattle.std.specs.Prelude.{IfErr, IfOk}
 use Rattle.std.specs.BTreeMap.{is_at}
 use Rattle.std.specs.List.{AllByRecursion}
@@ -24,7 +24,7 @@ use Rattle.babel_dump.specs.Fed.{AreWhole}
 use Rattle.babel_dump.specs.declared.input_fault.InputFault.{InputFault}
 use Rattle.babel_dump.specs.declared.key.MadeKey.{MadeKey}
 use Rattle.babel_dump.specs.Packets.{packets_made}
-use Rattle.babel_dump.specs.MadeKeys.{AreKeys, FoundKey, IsFound, TellsKeys, line_of, rows_of, told_by, told_of}
+use Rattle.babel_dump.specs.MadeKeys.{AreKeys, FoundKey, IsFound, TellsKeys, line_of, rows_of, status_with, told_by, told_of}
 use Rattle.babel_dump.specs.SenderKeys.{AreOwn, IsFedOwn, IsOwn, IsSenderKey, NoSenderKey, first_missed, is_asked, own_packets, table_at}
 use Rattle.babel_dump.specs.declared.done.ToldSender.{ToldSender}
 use Rattle.babel_dump.specs.declared.made_keys.MadeKeys.{MadeKeys}
@@ -32,24 +32,27 @@ use Rattle.babel_dump.specs.declared.sender_keys.SenderKeys.{SenderKeys}
 use Rattle.babel_dump.specs.declared.sender_tables.SenderTable.{SenderTable}
 
 -- of none
-pub tells_none : (keys : SenderKeys) (gathering : Gathering) (made : MadeKeys) → made.senders.items ≡ [] → made.lines.items ≡ [] → made.rows ≡ 0 → TellsKeys keys gathering [] made
-tells_none keys gathering made senders lines rows = record { senders = ap (map told_by) senders; lines = lines; rows = rows; few = omega (arith, rows) }
+pub tells_none : (keys : SenderKeys) (gathering : Gathering) (made : MadeKeys) → made.senders.items ≡ [] → made.lines.items ≡ [] → made.rows ≡ 0 → made.status ≡ None
+    → TellsKeys keys gathering [] made
+tells_none keys gathering made senders lines rows status = record { senders = ap (map told_by) senders; lines = lines; rows = rows; few = omega (arith, rows); status = status }
 
 -- one more is told of
 module _ (keys : SenderKeys) (gathering : Gathering) (found : List FoundKey) (one : FoundKey) (old new : MadeKeys) where
   pub tells_more : (sender : ToldSender) → TellsKeys keys gathering found old → new.senders.items ≡ old.senders.items ++ sender ∷ [] → told_by sender ≡ told_of gathering one
       → new.lines.items ≡ old.lines.items ++ line_of one.key → new.rows ≡ old.rows + rows_of one.key → new.rows ≤ keys.limits.entries
-      → TellsKeys keys gathering (found ++ one ∷ []) new
-  tells_more sender tells pushed told lines rows few =
+      → new.status ≡ status_with old.status one.key → TellsKeys keys gathering (found ++ one ∷ []) new
+  tells_more sender tells pushed told lines rows few status =
       let senders_before = map-append told_by old.senders.items (sender ∷ []) in
       let senders_after = map-append (told_of gathering) found (one ∷ []) in
       let lines_after = flat_map-append (λ (f : FoundKey). line_of f.key) found (one ∷ []) in
       let rows_after = fold-append (λ sum (f : FoundKey). sum + rows_of f.key) 0 found (one ∷ []) in
+      let status_after = fold-append (λ (before : Option ℕ) (f : FoundKey). status_with before f.key) None found (one ∷ []) in
       let one_line = append-nil (line_of one.key) in
       let senders_were = tells.senders in
       let lines_were = tells.lines in
       let rows_were = tells.rows in
-      record { senders = cc; lines = cc; rows = cc; few = few }
+      let status_was = tells.status in
+      record { senders = cc; lines = cc; rows = cc; few = few; status = cc }
 
 -- ---- the table of each sender is its own
 

@@ -1,12 +1,13 @@
 -- The key of a sender in a capture is that of the table of its own packets.
-use Rattle.std.proofs.Common.{◌≡◌, ◌≢◌, ℕ, true, List, Option, None, Some, refl, sym, ap, subst, ◌∙◌, inl}
-use Rattle.std.specs.Prelude.{IfSome}
+use Rattle.std.proofs.Common.{◌≡◌, ◌≢◌, ℕ, true, List, Option, None, Some, Result, Ok, Err, refl, sym, ap, subst, ◌∙◌, inl}
+use Rattle.std.specs.Prelude.{IfOk, IfSome}
 use Rattle.babel_capture.specs.Counts.{Made}
 use Rattle.babel_capture.specs.declared.tallies.Origin.{Origin}
 use Rattle.babel_prefix.specs.Address.{Address}
 use Rattle.babel_tlv.specs.declared.fault.Fault.{Fault}
 use Rattle.babel_tlv.specs.declared.fault.Fault.TheVariants as faults
 use Rattle.babel_tlv.specs.declared.mode.Mode.{Mode}
+use Rattle.babel_tlv.specs.declared.view.View.{View}
 use Rattle.babel_table.specs.Bounds.{Bounds}
 use Rattle.babel_table.specs.DumpFault.{DumpFault, HasNoFault}
 use Rattle.babel_table.specs.Feeding.{HasHeard, Progress}
@@ -16,12 +17,17 @@ use Rattle.babel_table.specs.TableOf.{IsTableOf}
 use Rattle.babel_dump.specs.Fed.{AreWhole}
 use Rattle.babel_dump.specs.Given.{IsTableRead, expired}
 use Rattle.babel_dump.specs.Packets.{packets_made}
-use Rattle.babel_dump.specs.SenderKeys.{IsFedOwn, IsOwnTable, NoSenderKey, first_missed, own_packets, own_reading}
+use Rattle.babel_dump.specs.SenderKeys.{IsFedOwn, IsLedBy, IsOwnTable, IsToldOf, NoSenderKey, first_missed, own_packets, own_reading}
 use Rattle.babel_dump.specs.Strict.{IsNotReadWhole}
 use Rattle.babel_dump.specs.declared.input.Expired.{Expired}
 use Rattle.babel_dump.specs.declared.input_fault.InputFault.{InputFault}
 use Rattle.babel_dump.specs.declared.input_fault.InputFault.TheVariants as input_faults
+use Rattle.babel_dump.specs.declared.job.Form.{Form}
+use Rattle.babel_dump.specs.declared.job.Task.{Task}
+use Rattle.babel_dump.specs.declared.job.Task.TheVariants as tasks
+use Rattle.babel_dump.specs.declared.key.MadeKey.{MadeKey}
 use Rattle.babel_dump.specs.declared.left_out.LeftOutDatagram.{LeftOutDatagram}
+use Rattle.babel_dump.specs.declared.reading.Reading.{Reading}
 use Rattle.babel_dump.specs.declared.sender_keys.SenderKeys.{SenderKeys}
 use Rattle.babel_dump.specs.declared.sender_tables.SenderTable.{SenderTable}
 use Rattle.babel_dump.proofs.OwnTables.{whole_own}
@@ -103,3 +109,40 @@ own_unread keys made moment origin table input_faults.NoUpdates own (strict, unr
 own_unread keys made moment origin table (input_faults.SeveralInterfaces interfaces) own (strict, unread) = absurd unread
 own_unread keys made moment origin table (input_faults.NoPackets absence) own (strict, unread) = absurd unread
 own_unread keys made moment origin table input_faults.Read own (strict, unread) = absurd unread
+
+-- what is told of a table has no word of how many rows expired
+module _ (keys : SenderKeys) (reading : Reading) (origin : Origin) (name : List ℕ) (key : MadeKey) (expired_rows : ℕ) (table : Routes) where
+  abbrev again : MadeKey
+  again = record key { expired_rows = expired_rows }
+
+  led_again : IsLedBy keys reading origin name key table → IsLedBy keys reading origin name again table
+  led_again told = record { text = told.text; outcome = told.outcome; finds = told.finds; line_is = told.line_is; status_is = told.status_is; report_is = told.report_is; rows_is = told.rows_is }
+
+  again_of : (task : Task) → IsToldOf task keys reading origin name key table → IsToldOf task keys reading origin name again table
+  again_of (tasks.Key form view) told =
+      record { octets = told.octets; are = told.are; line_is = told.line_is; status_is = told.status_is; report_is = told.report_is; rows_is = told.rows_is }
+  again_of (tasks.Show filter summary) told = led_again told
+  again_of (tasks.Lookup pair with_prefix) told = led_again told
+  again_of (tasks.AnySource dst with_prefix) told = led_again told
+  again_of (tasks.Normalise form view body hex) told = led_again told
+  again_of (tasks.Pairs form view filter count) told = led_again told
+
+pub told_again : (task : Task) (keys : SenderKeys) (reading : Reading) (origin : Origin) (name : List ℕ) (key : MadeKey) (expired_rows : ℕ) (table : Routes)
+    → IsToldOf task keys reading origin name key table → IsToldOf task keys reading origin name (record key { expired_rows = expired_rows }) table
+told_again task keys reading origin name key expired_rows table told = again_of keys reading origin name key expired_rows table task told
+
+-- of another task the lines that it finds are told
+pub led_told : (task : Task) (keys : SenderKeys) (reading : Reading) (origin : Origin) (name : List ℕ) (key : MadeKey) (table : Routes)
+    → ((form : Form) (view : View) → task ≢ tasks.Key form view) → IsLedBy keys reading origin name key table → IsToldOf task keys reading origin name key table
+led_told (tasks.Key form view) keys reading origin name key table other told = absurd (other form view refl)
+led_told (tasks.Show filter summary) keys reading origin name key table other told = told
+led_told (tasks.Lookup pair with_prefix) keys reading origin name key table other told = told
+led_told (tasks.AnySource dst with_prefix) keys reading origin name key table other told = told
+led_told (tasks.Normalise form view body hex) keys reading origin name key table other told = told
+led_told (tasks.Pairs form view filter count) keys reading origin name key table other told = told
+
+pub led_found : (keys : SenderKeys) (reading : Reading) (origin : Origin) (name : List ℕ) (key : Result MadeKey Fault) (table : Routes)
+    → ((form : Form) (view : View) → keys.task ≢ tasks.Key form view) → IfOk key (λ k. IsLedBy keys reading origin name k table)
+    → IfOk key (λ k. IsToldOf keys.task keys reading origin name k table)
+led_found keys reading origin name (Ok key) table other led = led_told keys.task keys reading origin name key table other led
+led_found keys reading origin name (Err fault) table other led = tt

@@ -2,6 +2,7 @@
 use Rattle.std.specs.Prelude.{ℕ, ◌≡◌, ◌≢◌, List, Option, None, Some, IfSome}
 use Rattle.std.specs.Io.KnownBytes.{Appends, Keeps}
 use Rattle.std.specs.Map.{keys_of}
+use Rattle.std.specs.Option.{unwrap_or}
 use Rattle.babel_dump.specs.Begun.{BeginsSo}
 use Rattle.babel_dump.specs.CaptureGiven.{made_in}
 use Rattle.babel_dump.specs.EventsRun.{TellsEvents}
@@ -74,7 +75,7 @@ pub record WroteKeys (keys : SenderKeys) (stream : Option (List ℕ)) (writer : 
       (keys_of senders.tables.entries) made
   pub told : done.senders ≡ made.senders
   pub wrote : Appends writer.old.taken writer.new.taken made.lines.items
-  pub status : done.status ≡ 0
+  pub status : done.status ≡ unwrap_or made.status 0
 
 -- what changed in a capture was told
 pub record ToldEvents (events : Events) (stream : Option (List ℕ)) (writer : Output)

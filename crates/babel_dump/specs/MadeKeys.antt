@@ -1,7 +1,7 @@
 -- `key` without `--from`: the keys of the senders in a capture, all together. It is this project's
 -- own.
-use Rattle.std.specs.Prelude.{ℕ, ◌≡◌, ◌+◌, ◌≤◌, List, [], fold, map, Option, Result, Ok, Err}
-use Rattle.std.specs.Prelude.{MatchResult}
+use Rattle.std.specs.Prelude.{ℕ, ◌≡◌, ◌+◌, ◌≤◌, List, [], fold, map, min, Option, None, Some}
+use Rattle.std.specs.Prelude.{Result, Ok, Err, MatchResult}
 use Rattle.std.specs.List.{AllByRecursion, flat_map}
 use Rattle.babel_capture.specs.Counts.{Made}
 use Rattle.babel_capture.specs.Gathering.{Gathering, name_of}
@@ -35,6 +35,15 @@ abbrev pub rows_of : Result MadeKey InputFault → ℕ
 rows_of (Ok key) = key.rows
 rows_of (Err fault) = 0
 
+-- the least of the statuses, with that of one more
+abbrev pub least : Option ℕ → ℕ → ℕ
+least None status = status
+least (Some before) status = min before status
+
+abbrev pub status_with : Option ℕ → Result MadeKey InputFault → Option ℕ
+status_with before (Ok key) = Some (least before key.status)
+status_with before (Err fault) = before
+
 abbrev pub read_of : Result MadeKey InputFault → Result DumpRead InputFault
 read_of (Ok key) = Ok (record { report = key.report; expired_rows = key.expired_rows })
 read_of (Err fault) = Err fault
@@ -63,6 +72,7 @@ pub record TellsKeys (keys : SenderKeys) (gathering : Gathering) (found : List F
   pub lines : made.lines.items ≡ flat_map (λ one. line_of one.key) found
   pub rows : made.rows ≡ fold (λ sum one. sum + rows_of one.key) 0 found
   pub few : made.rows ≤ keys.limits.entries
+  pub status : made.status ≡ fold (λ before one. status_with before one.key) None found
 
 -- each of these senders has its key or its fault, by what a capture's records made of its packets,
 -- and all of them are told of

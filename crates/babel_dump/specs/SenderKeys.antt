@@ -1,4 +1,4 @@
--- `key` without `--from`: the key of each sender in a capture. It is this project's own.
+-- What is told of each sender in a capture where there is no `--from`. It is this project's own.
 use Rattle.std.specs.Prelude.{◌≡◌, ◌≢◌, ◌⊎◌, ℕ, Bool, true, false, if◌then◌else◌}
 use Rattle.std.specs.Prelude.{List, [], ◌∷◌, ◌++◌, length, fold, codes, Option, None, Some, IfSome}
 use Rattle.std.specs.BTreeMap.{is_at}
@@ -19,7 +19,6 @@ use Rattle.babel_table.specs.DumpFault.{DumpFault, HasNoFault}
 use Rattle.babel_table.specs.Feeding.{HasHeard}
 use Rattle.babel_table.specs.Moments.{dump_of}
 use Rattle.babel_table.specs.Rows.{Routes}
-use Rattle.babel_table.specs.Seen.{seen_rows}
 use Rattle.babel_dump.specs.CaptureGiven.{CaptureInput, GaveCapture, GaveSound, capture_from}
 use Rattle.babel_dump.specs.CaptureGiven.{made_in, moment_in}
 use Rattle.babel_dump.specs.CaptureRun.{CaptureCause, IsNoFault}
@@ -32,17 +31,22 @@ use Rattle.babel_dump.specs.Given.{IsTableRead, capture_limit, expired, usual_re
 use Rattle.babel_dump.specs.InFormat.{in_format}
 use Rattle.babel_dump.specs.KeyText.{file_member, key_in}
 use Rattle.babel_dump.specs.LeftOut.{first_whole_left_out}
-use Rattle.babel_dump.specs.Octets.{AreOctets, HasTooMany}
+use Rattle.babel_dump.specs.Led.{lead_in, led}
+use Rattle.babel_dump.specs.Octets.{AreOctets}
 use Rattle.babel_dump.specs.Packets.{packets_made}
 use Rattle.babel_dump.specs.Spelling.{address_text}
 use Rattle.babel_dump.specs.Strict.{IsNotReadWhole, IsReadWhole}
+use Rattle.babel_dump.specs.Tasks.{TaskFinds, TaskFindsTooMany}
 use Rattle.babel_dump.specs.declared.capture_reading.CaptureReading.{CaptureReading}
 use Rattle.babel_dump.specs.declared.format.Format.{Format}
 use Rattle.babel_dump.specs.declared.input_fault.InputFault.{InputFault}
 use Rattle.babel_dump.specs.declared.input_fault.InputFault.TheVariants as input_faults
 use Rattle.babel_dump.specs.declared.job.Form.{Form}
+use Rattle.babel_dump.specs.declared.job.Task.{Task}
+use Rattle.babel_dump.specs.declared.job.Task.TheVariants as tasks
 use Rattle.babel_dump.specs.declared.key.MadeKey.{MadeKey}
 use Rattle.babel_dump.specs.declared.left_out.LeftOutDatagram.{LeftOutDatagram}
+use Rattle.babel_dump.specs.declared.outcome.Outcome.{Outcome}
 use Rattle.babel_dump.specs.declared.reading.Reading.{Reading}
 use Rattle.babel_dump.specs.declared.sender_keys.SenderKeys.{SenderKeys}
 use Rattle.babel_dump.specs.declared.sender_keys.SendersRead.{SendersRead}
@@ -203,8 +207,30 @@ pub record IsKeyOf (form : Form) (reading : Reading) (view : View) (format : For
   pub octets : List ℕ
   pub are : AreOctets form reading view 1024 table octets
   pub line_is : key.line.items ≡ key_in format octets named
+  pub status_is : key.status ≡ 0
   pub report_is : key.report ≡ table.report
   pub rows_is : key.rows ≡ length table.rows
+
+-- what another task finds of the table of a sender at its place, whose interface has this name: the
+-- lines that it finds of a dump, each led by the sender, and its status
+pub record IsLedBy (keys : SenderKeys) (reading : Reading) (origin : Origin) (name : List ℕ)
+    (key : MadeKey) (table : Routes) : Type 0 where
+  pub text : List ℕ
+  pub outcome : Outcome
+  pub finds :
+      TaskFinds keys.task keys.format keys.quiet (name_of keys.file) reading table text outcome
+  pub line_is : key.line.items ≡ led keys.format (lead_in keys.format origin name) true text
+  pub status_is : key.status ≡ outcome.status
+  pub report_is : key.report ≡ table.report
+  pub rows_is : key.rows ≡ length table.rows
+
+-- what a task tells of it
+abbrev pub IsToldOf :
+    Task → SenderKeys → Reading → Origin → (name : List ℕ) → MadeKey → Routes → Type 0
+IsToldOf (tasks.Key form view) keys reading origin name =
+    IsKeyOf form reading view keys.format
+    (origin_in keys.format (name_of keys.file) origin name)
+IsToldOf task keys reading origin name = IsLedBy keys reading origin name
 
 -- how the dump of a sender is read
 abbrev pub own_reading : SenderKeys → Origin → Reading
@@ -220,16 +246,15 @@ pub record IsOwnTable (keys : SenderKeys) (made : List Made) (moment : Option �
   pub is_table : IsTableRead (expired keys.expiry moment) (own_reading keys origin)
       (own_packets origin made) table
 
--- it has this key, where its interface has this name
+-- this is told of it, where its interface has this name
 pub record IsSenderKey (keys : SenderKeys) (made : List Made) (moment : Option ℕ) (origin : Origin)
     (name : List ℕ) (key : MadeKey) : Type 0 where
   pub table : Routes
   pub is_own : IsOwnTable keys made moment origin table
   pub strict : keys.strict ≡ true → IsReadWhole None table.report
-  pub is_key : IsKeyOf keys.form (own_reading keys origin) keys.view keys.format
-      (origin_in keys.format (name_of keys.file) origin name) key table
+  pub is_told : IsToldOf keys.task keys (own_reading keys origin) origin name key table
 
--- or none: a datagram of it is missed; or its dump is refused, or has no canonical form; or, where
+-- or nothing: a datagram of it is missed; or its dump is refused, or has no canonical form; or, where
 -- it is read strictly, something of it was left unread
 abbrev pub NoSenderKey : SenderKeys → List Made → (moment : Option ℕ) → Origin → InputFault → Type 0
 NoSenderKey keys made moment origin (input_faults.LeftOut datagram) =
@@ -237,6 +262,6 @@ NoSenderKey keys made moment origin (input_faults.LeftOut datagram) =
 NoSenderKey keys made moment origin (input_faults.Dump fault) = fault ≢ faults.Memory
     → DumpFault keys.limits keys.mode origin.sender (dump_of (own_packets origin made)) fault
     ⊎ ((table : Routes) × IsOwnTable keys made moment origin table × (fault ≡ faults.TooManyPairs)
-    × HasTooMany keys.form keys.limits (seen_rows keys.view table.rows))
+    × TaskFindsTooMany keys.task keys.limits table)
 NoSenderKey keys made moment origin fault = (keys.strict ≡ true) × ((table : Routes)
     × IsOwnTable keys made moment origin table × IsNotReadWhole None table.report fault)

@@ -1,7 +1,7 @@
 //! What the program's words ask for.
 use crate::events_job::Events;
 use crate::format::Format;
-use crate::job::{DumpFile, Job, Work};
+use crate::job::{DumpFile, Job, Task, Work};
 use crate::key_text::Named;
 use crate::reading::capture_limit;
 use crate::sender_keys::SenderKeys;
@@ -13,7 +13,7 @@ use babel_table::Limits;
 pub enum Asked {
     /// What is found of dumps, or of a capture.
     Job(Job),
-    /// `key` without `--from`: the keys of the senders in a capture.
+    /// What is found of each sender in a capture, where there is no `--from`.
     SenderKeys(SenderKeys),
     /// `events`: what changed in a capture, and when.
     Events(Events),
@@ -42,8 +42,10 @@ impl Asked {
     pub(crate) fn named(&self) -> Named<'_> {
         match self {
             Asked::Job(job) => job.named(),
-            Asked::SenderKeys(keys) => Named(Some(keys.file.name())),
-            Asked::Events(_) => Named(None),
+            Asked::SenderKeys(keys) if matches!(keys.task, Task::Key { .. }) => {
+                Named(Some(keys.file.name()))
+            }
+            Asked::SenderKeys(_) | Asked::Events(_) => Named(None),
         }
     }
 

@@ -114,8 +114,13 @@ fn write_keys<R: Read + Drop, W: ByteOut>(
     }
     let SendersRead { read, tables } = keys.gather(alloc, seed, &mut begun.into_device())?;
     let done = Done::new(alloc)?;
-    let MadeKeys { senders, lines, .. } = MadeKeys::of(alloc, keys, &read, tables)?;
-    let done = done.of_senders(keys, &read, senders)?;
+    let MadeKeys {
+        senders,
+        lines,
+        status,
+        ..
+    } = MadeKeys::of(alloc, keys, &read, tables)?;
+    let done = done.of_senders(keys, &read, senders, status)?;
     write_text(writer, &lines)?;
     Ok(done)
 }

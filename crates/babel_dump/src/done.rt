@@ -1,5 +1,6 @@
 //! What came of what was asked for, and what is said of that.
 ghost use Rattle.std.specs.Prelude.{◌≡◌, IfOk};
+ghost use Rattle.std.specs.Option.{unwrap_or};
 ghost use Rattle.babel_capture.specs.Gathering.{name_of};
 ghost use Rattle.babel_dump.specs.Trouble.{done_status, read_status};
 
@@ -153,14 +154,16 @@ impl Done {
         Ok(self)
     }
 
-    /// What came of `key` without `--from`, of the senders of what it read, if there are any.
+    /// What came of what was asked for of each sender, with the least of the statuses of those
+    /// that are not refused, if there are any.
     pub fn of_senders(
         mut self,
         keys: &SenderKeys,
         read: &CaptureRead,
         senders: Vec<ToldSender>,
+        status: Option<u8>,
     ) -> Result<Done, Trouble>
-        ensures status { IfOk result (λ done. done.status ≡ self.status) }
+        ensures status { IfOk result (λ done. done.status ≡ unwrap_or status 0) }
         ensures senders { IfOk result (λ done. done.senders ≡ senders) }
     {
         if senders.is_empty() {
@@ -175,6 +178,7 @@ impl Done {
         };
         let interval = keys.interval(&read.gathered);
         self.notes.add_capture(Side::First, capture, interval)?;
+        self.status = status.unwrap_or(0);
         self.senders = senders;
         Ok(self)
     }

@@ -130,7 +130,15 @@ pub(crate) fn find_of_dump<R: ByteIn>(
         return find_answer(alloc, source.reading, pair, with_prefix, format, reader);
     }
     let (table, notes) = read_table(alloc, source.reading, reader)?;
-    let found = found_of(alloc, source, task, format, quiet, table)?;
+    let found = found_of(
+        alloc,
+        source.reading,
+        &source.file,
+        task,
+        format,
+        quiet,
+        table,
+    )?;
     Ok(found.beside(notes, None))
 }
 

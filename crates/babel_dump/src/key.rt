@@ -26,6 +26,8 @@ pub struct MadeKey {
     pub line: Vec<u8>,
     /// The report of the dump's table.
     pub report: Report,
+    /// The status of what was asked for of it.
+    pub status: u8,
     /// How many rows that table has.
     pub rows: usize,
     /// How many of them were not announced again in time, if none was left out for that.
@@ -85,6 +87,7 @@ pub(crate) fn make_key(
     Ok(MadeKey {
         line,
         report,
+        status: 0,
         rows,
         expired_rows: 0,
     })

@@ -1,10 +1,10 @@
 //! The keys of the senders in a capture, one after another.
-ghost use Rattle.std.specs.Prelude.{◌≡◌, ◌+◌, ◌∷◌, ◌++◌, ◌≤◌, List, [], IfOk, OnOk};
+ghost use Rattle.std.specs.Prelude.{◌≡◌, ◌+◌, ◌∷◌, ◌++◌, ◌≤◌, List, [], IfOk, OnOk, Some};
 ghost use Rattle.std.specs.Map.{keys_of};
 ghost use Rattle.babel_capture.specs.Counts.{Made};
 ghost use Rattle.babel_dump.specs.Fed.{AreWhole};
-ghost use Rattle.babel_dump.specs.MadeKeys.{AreKeys, FoundKey, TellsKeys, line_of, read_of};
-ghost use Rattle.babel_dump.specs.MadeKeys.{rows_of};
+ghost use Rattle.babel_dump.specs.MadeKeys.{AreKeys, FoundKey, TellsKeys, least, line_of};
+ghost use Rattle.babel_dump.specs.MadeKeys.{read_of, rows_of, status_with};
 ghost use Rattle.babel_dump.specs.Packets.{packets_made};
 ghost use Rattle.babel_dump.specs.SenderKeys.{AreOwn};
 
@@ -26,6 +26,8 @@ pub struct MadeKeys {
     pub senders: Vec<ToldSender>,
     /// The lines of their keys, one after another.
     pub lines: Vec<u8>,
+    /// The least of their statuses, if one is not refused.
+    pub status: Option<u8>,
     /// How many rows their tables have in all.
     rows: u32,
 }
@@ -49,6 +51,7 @@ impl MadeKeys {
         let mut made = MadeKeys {
             senders: Vec::new(alloc),
             lines: Vec::new(alloc),
+            status: None,
             rows: 0,
         };
         for (origin, table) in tables {
@@ -91,6 +94,8 @@ impl MadeKeys {
         ensures rows { OnOk result (self.new.rows ≡ self.old.rows + rows_of key) }
         ensures few { OnOk result (self.old.rows ≤ keys.now.limits.entries
             → self.new.rows ≤ keys.now.limits.entries) }
+        ensures status { OnOk result
+            (self.new.status ≡ status_with self.old.status key) }
         ensures read { IfOk result (λ read. read ≡ read_of key) }
     {
         match key {
@@ -108,6 +113,8 @@ impl MadeKeys {
             (self.new.lines.items ≡ self.old.lines.items ++ key.line.items) }
         ensures rows { OnOk result (self.new.rows ≡ self.old.rows + key.rows) }
         ensures few { OnOk result (self.new.rows ≤ keys.now.limits.entries) }
+        ensures status { OnOk result
+            (self.new.status ≡ Some (least self.old.status key.status)) }
         ensures read { IfOk result
             (λ read. (read.report ≡ key.report) × (read.expired_rows ≡ key.expired_rows)) }
     {
@@ -115,10 +122,21 @@ impl MadeKeys {
             return Err(Trouble::TooManyRoutes);
         };
         self.rows = rows;
+        self.status = Some(least(self.status, key.status));
         self.lines.extend_from_slice(&key.line)?;
         Ok(DumpRead {
             report: key.report,
             expired_rows: key.expired_rows,
         })
+    }
+}
+
+/// The least of statuses, if there are any, and one more.
+fn least(before: Option<u8>, status: u8) -> u8
+    ensures { result ≡ least before status }
+{
+    match before {
+        Some(before) => before.min(status),
+        None => status,
     }
 }

@@ -1,4 +1,4 @@
-//! `key` without `--from`: the key of each sender in a capture.
+//! What is asked for of each sender in a capture, where there is no `--from`.
 ghost use Rattle.std.specs.Prelude.{◌≡◌, ◌+◌, ◌^◌, ◌<◌, ◌≤◌, ◌-◌, List, IfErr, IfNone, IfOk};
 ghost use Rattle.std.specs.Prelude.{IfSome};
 ghost use Rattle.babel_capture.specs.Counts.{Made};
@@ -6,32 +6,37 @@ ghost use Rattle.babel_capture.specs.Gathering.{name_of};
 ghost use Rattle.babel_dump.specs.Device.{HasRoomToCount};
 ghost use Rattle.babel_dump.specs.Fed.{AreWhole};
 ghost use Rattle.babel_dump.specs.Packets.{packets_made};
-ghost use Rattle.babel_dump.specs.Parts.{Gathered};
+ghost use Rattle.babel_dump.specs.Parts.{FoundTooMany, Gathered};
 ghost use Rattle.babel_dump.specs.Run.{capture_calls};
-ghost use Rattle.babel_dump.specs.SenderKeys.{GaveSenders, IsFedOwn, IsSenderKey, NoSenderKey};
+ghost use Rattle.babel_dump.specs.SenderKeys.{GaveSenders, IsFedOwn, IsLedBy, IsSenderKey};
+ghost use Rattle.babel_dump.specs.SenderKeys.{IsToldOf, NoSenderKey};
 ghost use Rattle.babel_dump.specs.SenderKeys.{SendersCause, capture_read_by, each_from};
 ghost use Rattle.babel_dump.specs.SenderKeys.{first_missed, is_asked, own_packets, read_by};
+ghost use Rattle.babel_dump.specs.Tasks.{TaskFindsTooMany};
 
 use crate::byte_in::ByteIn;
 use crate::capture_input::{CaptureRead, read_capture};
 use crate::capture_reading::CaptureReading;
+use crate::collected::text_of;
 use crate::factor::Factor;
 use crate::format::Format;
 use crate::input::{refuse_unread, what_expired};
 use crate::input_fault::InputFault;
-use crate::job::{DumpFile, Form};
+use crate::job::{DumpFile, Task};
 use crate::key::{MadeKey, make_key};
 use crate::key_name::origin_output;
+use crate::led::{lead_output, push_led};
 use crate::left_out::first_whole_left_out;
 use crate::reading::{Reading, capture_limit};
 use crate::sender_tables::{SenderTable, SenderTables};
+use crate::tasks::found_of;
 use babel_capture::{Gathered as GatheredPackets, Origin, Place, Wanted, Window};
-use babel_table::Limits;
-use babel_tlv::{Mode, View};
+use babel_table::{Limits, Table};
+use babel_tlv::{Fault, Mode};
 use std::alloc::{AllocError, Global};
 use std::collections::BTreeMap;
 
-/// What `key` without `--from` asks for: the key of each sender in a capture.
+/// What is asked for of each sender in a capture.
 #[derive(Drop)]
 pub struct SenderKeys {
     /// How many octets are read at most, and how many rows the senders' tables have at most in all:
@@ -50,9 +55,8 @@ pub struct SenderKeys {
     /// Whether the capture is refused if a datagram that lacks nothing was left out of it, and a
     /// dump if a TLV of it is ignored, or it has no Update: `--strict`.
     pub strict: bool,
-    pub view: View,
-    /// Whether the keys are those of the canonical octets, or of the route octets.
-    pub form: Form,
+    /// What is told of each.
+    pub task: Task,
     pub file: DumpFile,
     pub format: Format,
     pub quiet: bool,
@@ -179,11 +183,63 @@ impl SenderKeys {
         let table = packets.finish(expired)?;
         refuse_unread(self.strict, None, table.report())?;
         let reading = Reading::of(self.limits, self.mode, origin.sender);
-        let (format, file) = (self.format, self.file.name());
         let name = read.gathered.name(origin.place.interface);
-        let named = origin_output(alloc, format, file, origin, name)?;
-        let key = make_key(alloc, reading, self.form, self.view, format, &named, table)?;
+        let key = self.told_of(alloc, reading, origin, name, table)?;
         Ok(key.with_expired_rows(expired_rows))
+    }
+
+    /// What is told of the table of a sender at its place, whose interface has this name.
+    fn told_of(
+        &self,
+        alloc: Global,
+        reading: Reading,
+        origin: Origin,
+        name: &[u8],
+        table: Table,
+    ) -> Result<MadeKey, Fault>
+        ensures ok { IfOk result
+            (λ key. IsToldOf self.now.task self.now reading origin name.now key table) }
+        ensures err { IfErr result
+            (FoundTooMany (TaskFindsTooMany self.now.task reading.limits table)) }
+    {
+        match self.task {
+            Task::Key { form, view } => {
+                let (format, file) = (self.format, self.file.name());
+                let named = origin_output(alloc, format, file, origin, name)?;
+                make_key(alloc, reading, form, view, format, &named, table)
+            }
+            _ => self.led_of(alloc, reading, origin, name, table),
+        }
+    }
+
+    /// What the task finds of the table, each line led by the sender.
+    fn led_of(
+        &self,
+        alloc: Global,
+        reading: Reading,
+        origin: Origin,
+        name: &[u8],
+        table: Table,
+    ) -> Result<MadeKey, Fault>
+        ensures ok { IfOk result (λ key. IsLedBy self.now reading origin name.now key table) }
+        ensures err { IfErr result
+            (FoundTooMany (TaskFindsTooMany self.now.task reading.limits table)) }
+    {
+        let (report, rows) = (*table.report(), table.rows().len());
+        let (format, quiet) = (self.format, self.quiet);
+        let found = found_of(alloc, reading, &self.file, self.task, format, quiet, table)?;
+        let status = found.outcome.status;
+        let lead = lead_output(alloc, format, origin, name)?;
+        let text = text_of(alloc, found)?;
+        let mut line = Vec::new(alloc);
+        push_led(&mut line, format, &lead, &text)?;
+        Ok(MadeKey {
+            line,
+            report,
+            status,
+            rows,
+            expired_rows: 0,
+        })
     }
 
     /// How many rows tables have in all, where some have so many, and one more so many; `None` if

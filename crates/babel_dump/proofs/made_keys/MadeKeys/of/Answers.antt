@@ -6,7 +6,7 @@ pub loop-origin-init : goal.loop-origin-init
 loop-origin-init c =
     let gives = c.into_iter-origin-iterator.ensures.into_iter_gives in
     making_none c.args.keys.now c.args.read.now.moment c.args.read.now.gathered c.args.tables.entries _ _ gives.0 gives.5
-    (tells_none c.args.keys.now c.args.read.now.gathered _ c.new.ensures.items c.new-2.ensures.items refl)
+    (tells_none c.args.keys.now c.args.read.now.gathered _ c.new.ensures.items c.new-2.ensures.items refl refl)
 
 pub loop-origin-preserved : goal.loop-origin-preserved
 loop-origin-preserved c =

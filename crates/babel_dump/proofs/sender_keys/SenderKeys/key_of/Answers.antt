@@ -1,18 +1,15 @@
 -- The key is that of the table of the sender's own packets.
-use Rattle.std.proofs.Common.{◌≡◌, true, List, ℕ, ap, subst, ◌∙◌, inr}
+use Rattle.std.proofs.Common.{◌≡◌, true, List, ℕ, sym, subst, inr}
 use Rattle.std.specs.Prelude.{None}
 use Rattle.std.proofs.lemmas.Result.{err_from_is_err_and}
 use Rattle.babel_capture.specs.Gathering.{name_of as interface_name}
 use Rattle.babel_table.specs.Counts.{Counts}
-use Rattle.babel_table.specs.Seen.{seen_rows}
-use Rattle.babel_dump.specs.Files.{name_of}
-use Rattle.babel_dump.specs.KeyText.{key_in}
-use Rattle.babel_dump.specs.Octets.{AreOctets, HasTooMany}
-use Rattle.babel_dump.specs.SenderKeys.{origin_in}
+use Rattle.babel_dump.specs.SenderKeys.{IsToldOf, own_reading}
 use Rattle.babel_dump.specs.Strict.{IsNotReadWhole, IsReadWhole}
+use Rattle.babel_dump.specs.Tasks.{TaskFindsTooMany}
 use Rattle.babel_dump.specs.declared.key.MadeKey.{MadeKey}
 use Rattle.babel_dump.specs.declared.reading.Reading.{Reading}
-use Rattle.babel_dump.proofs.OwnKeys.{own_fault, own_table, own_unread}
+use Rattle.babel_dump.proofs.OwnKeys.{own_fault, own_table, own_unread, told_again}
 use Rattle.babel_dump.proofs.sender_keys.SenderKeys.key_of.Goals as goal
 
 pub returns-in_err-table-clause-err : goal.returns-in_err-table-clause-err
@@ -39,29 +36,23 @@ returns-in_err-key-clause-err c =
       own_table keys made c.args.read.now.moment c.args.origin c.args.table whole fed c.in_default.is c.what_expired-expired.result c.what_expired-expired.ensures table
           c.in_ok-table.ensures.whole c.in_ok-table.ensures.at,
       found.0,
-      subst (λ (r : Reading). HasTooMany keys.form r.limits (seen_rows keys.view table.rows)) c.of-reading.ensures found.1,
+      subst (λ (r : Reading). TaskFindsTooMany keys.task r.limits table) c.of-reading.ensures found.1,
     ))
 
 pub returns-clause-ok : goal.returns-clause-ok
 returns-clause-ok c =
     let keys = c.args.self.now in
     let table = c.in_ok-table.table in
-    let key = c.in_ok-key.ensures.ok in
-    let gathered = c.args.read.now.gathered in
+    let key = c.in_ok-key.key in
     let origin = c.args.origin in
-    let named : c.deref.result.now ≡ origin_in keys.format (name_of keys.file) origin (interface_name gathered origin.place.interface) =
-    c.deref.ensures.value ∙ c.in_ok-named.ensures ∙ ap (λ (file : List ℕ). origin_in keys.format file origin c.name-name.result.now) c.name-file.ensures
-    ∙ ap (λ (name : List ℕ). origin_in keys.format (name_of keys.file) origin name) c.name-name.ensures in
+    let name = interface_name c.args.read.now.gathered origin.place.interface in
+    let told = subst (λ (r : Reading). IsToldOf keys.task keys r origin c.name-name.result.now key table) c.of-reading.ensures c.in_ok-key.ensures.ok in
+    let named = subst (λ (n : List ℕ). IsToldOf keys.task keys (own_reading keys origin) origin n key table) c.name-name.ensures told in
     λ made whole fed. record {
       table = table;
       is_own = own_table keys made c.args.read.now.moment c.args.origin c.args.table whole fed c.in_default.is c.what_expired-expired.result c.what_expired-expired.ensures table
           c.in_ok-table.ensures.whole c.in_ok-table.ensures.at;
       strict = λ strict. subst (λ (r : Counts). IsReadWhole None r) c.report.ensures (c.in_ok-refuse_unread.ensures.whole strict);
-      is_key = record {
-        octets = key.octets;
-        are = subst (λ (r : Reading). AreOctets keys.form r keys.view 1024 table key.octets) c.of-reading.ensures key.are;
-        line_is = ap (λ (k : MadeKey). k.line.items) c.with_expired_rows.ensures ∙ key.line_is ∙ ap (key_in keys.format key.octets) named;
-        report_is = ap (λ (k : MadeKey). k.report) c.with_expired_rows.ensures ∙ key.report_is;
-        rows_is = ap (λ (k : MadeKey). k.rows) c.with_expired_rows.ensures ∙ key.rows_is;
-      };
+      is_told = subst (λ (k : MadeKey). IsToldOf keys.task keys (own_reading keys origin) origin name k table) (sym c.with_expired_rows.ensures)
+          (told_again keys.task keys (own_reading keys origin) origin name key c.count_expired-expired_rows.result table named);
     }
