@@ -128,6 +128,14 @@ class Differ:
 
 
 @dataclass(frozen=True)
+class Alone:
+    """Of compare without --from: a sender that only one of two captures has."""
+
+    same: Literal[False]
+    only: Literal["left", "right"]
+
+
+@dataclass(frozen=True)
 class Differences:
     """Of compare --count."""
 
@@ -273,8 +281,16 @@ class Returned:
 
 
 @dataclass(frozen=True)
+class Told:
+    """Of a sender at its place, without --from: its members come first."""
+
+    origin: Dict[str, Any]
+    line: Any
+
+
+@dataclass(frozen=True)
 class Note:
-    """Of each command but key; the sender and its place are those of a note of events."""
+    """Of each command but key; of events, and of a sender that is found, with its place."""
 
     note: str
     members: Dict[str, Any]
@@ -282,11 +298,12 @@ class Note:
     other: bool
 
 
-KINDS = Row, Looked, Report, Summary, Counts, Same, Differ, Differences, Stat
+KINDS = Row, Looked, Report, Summary, Counts, Same, Differ, Alone, Differences, Stat
 KINDS += FileKey, SenderKey, Sender, Event, Answered, Requested, Silent, Returned
 
 # What a note has besides.
 NOTES = {
+    "from": {},
     "ignored": {"tlvs": int, "ignored": List[Counted]},
     "left-out": {"reasons": List[Counted]},
     "cooked-1": {},
@@ -359,7 +376,13 @@ def note(found):
 def line(text):
     """A line, as a value."""
     found = json.loads(text)
-    return note(found) if "note" in found else first(KINDS, found)
+    if "note" in found:
+        return note(found)
+    try:
+        return first(KINDS, found)
+    except ValueError:
+        origin = {each: found.pop(each) for each in ORIGIN}
+        return Told(members(ORIGIN, origin), first(KINDS, found))
 
 
 if __name__ == "__main__":

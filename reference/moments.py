@@ -4,7 +4,7 @@ expiry mean, for nothing but to be read.
 
     moments.py show --from A [OPTIONS] CAPTURE
     moments.py lookup --from A --to D --src S [OPTIONS] CAPTURE
-    moments.py events [--from A] [--to D --src S] [OPTIONS] CAPTURE
+    moments.py events [--from A] [--to D [--src S]] [OPTIONS] CAPTURE
 
 The options are `--interface`, `--since`, `--until`, `--expiry`, `--v4-via-v6`, `--accept-cut` and
 `--quiet`; of `show` and `lookup` also `--hold`, of `events` also `--ignore`, `--json` and
@@ -336,18 +336,8 @@ class Event:
         return " ".join(words) + "\n"
 
     def json(self, names):
-        place, *sender = self.origin
-        interface, link, vlans = place
-        front = {
-            "time": reader.time_text(self.time),
-            "sender": reader.text_of(*sender),
-            "interface": interface,
-            "link": link,
-            "vlans": list(vlans),
-            "name": reader.name_text(reader.name_at(place, names)) or None,
-            "event": self.what,
-        }
-        return reader.json_line(front | self.members())
+        front = {"time": reader.time_text(self.time), **sender_json(self.origin, names)}
+        return reader.json_line(front | {"event": self.what} | self.members())
 
     def members(self):
         if self.silence:
@@ -373,6 +363,18 @@ def sender_text(origin, names):
     place, *sender = origin
     where = reader.place_text(place, reader.name_at(place, names))
     return reader.text_of(*sender) + ("" if where == "interface 0" else f" {where}")
+
+
+def sender_json(origin, names):
+    place, *sender = origin
+    interface, link, vlans = place
+    return {
+        "sender": reader.text_of(*sender),
+        "interface": interface,
+        "link": link,
+        "vlans": list(vlans),
+        "name": reader.name_text(reader.name_at(place, names)) or None,
+    }
 
 
 class Timeline:
@@ -491,6 +493,23 @@ class Timeline:
         self.tell_answer(time, origin)
 
 
+class OtherSources(Timeline):
+    """The routes to a destination that are not for every source: those that were held just before
+    the moment from which on it is told, or since."""
+
+    def __init__(self, told):
+        super().__init__(told.factor, told.ignored, None, sys.maxsize)
+        self.asked, self.since, self.held = told.pair, told.since, set()
+
+    def tell(self, time, origin, what, key, route=None, before=None):
+        if not key.source[1] or not contains_both(replace(key, source=(0, 0)), *self.asked):
+            return
+        if route or self.since is None or time >= self.since:
+            self.held.add((origin, key))
+        else:
+            self.held.discard((origin, key))
+
+
 def by_sender(origin):
     return origin[1:], reader.by_place(origin)
 
@@ -510,8 +529,8 @@ def factor_of(word):
 
 
 def pair_of(options):
-    """The texts of the destination and of the source that are asked for."""
-    return options.to, options.src
+    """The texts of the destination and of the source that are asked for: or else of any source."""
+    return options.to, options.src or ("::" if ":" in options.to else "0.0.0.0")
 
 
 def sender_of(origin):
@@ -619,10 +638,27 @@ def events(octets, options):
     status, none = (0, ()) if found.packets else (1, ("no Babel packets",))
     intervals = [reader.interval_of(sent) for sent in found.packets.values()]
     notes = [*reader.notes_of(found), *reader.time_notes(found, intervals)]
+    notes += source_notes(found, window, told, options)
     output = lines_of(told, found, options)
     if options.json and not options.quiet:
         output += "".join(reader.json_line(says) for _, says in notes).encode()
     return Answer(status, output, (*told.notes, *none, *reader.texts_of(notes)))
+
+
+def source_notes(found, window, told, options):
+    """Which senders had routes for other sources than that of an answer for any."""
+    if not told.pair or options.src:
+        return
+    others, source = OtherSources(told), pair_of(options)[1]
+    play(found, others, options)
+    if found.records:
+        others.expire(end_of(found, window))
+    text = f"the answer is for the source {source}; routes to it are source-specific"
+    for origin in sorted({origin for origin, _ in others.held}, key=reader.by_place):
+        is_led = not options.sender or len(found.packets) > 1
+        lead = f"{sender_text(origin, found.names)}: " if is_led else ""
+        whose = sender_json(origin, found.names) if is_led else {}
+        yield lead + text, {"note": "source", **whose, "source": source}
 
 
 def play(found, told, options):

@@ -449,9 +449,10 @@ def check_typed(tally):
     for file in sorted((TOP / "tests").glob("*.txt")):
         found = lines_read(re.findall(r'^\{".*\}$', file.read_text(), re.MULTILINE))
         is_read = isinstance(found, list)
-        kinds |= {type(each) for each in found} if is_read else set()
+        for each in found if is_read else []:
+            kinds |= {type(each), type(each.line if isinstance(each, typed.Told) else each)}
         tally.check(f"examples/typed.py reads the JSON of {file.name}", "" if is_read else found)
-    expect(tally, "the kinds of lines in transcripts", kinds, {*typed.KINDS, typed.Note})
+    expect(tally, "the kinds of lines in transcripts", kinds, {*typed.KINDS, typed.Note, typed.Told})
     text = (TOP / "docs/OUTPUT.md").read_text()
     section = text.partition("\n## JSON\n")[2].partition("\n## ")[0]
     objects = *typed.KINDS, typed.Route, typed.Counted, typed.Family

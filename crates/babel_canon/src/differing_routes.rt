@@ -1,5 +1,5 @@
 //! How the routes of two tables differ.
-ghost use Rattle.std.specs.Prelude.{◌≡◌, IfOk, List, slice_get};
+ghost use Rattle.std.specs.Prelude.{◌≡◌, IfOk, List, take};
 ghost use Rattle.std.specs.Iterator.{YieldsFirst};
 ghost use Rattle.babel_canon.specs.Joined.{differ, differences_left, joined_left};
 ghost use Rattle.babel_canon.specs.Routes.{AreRouteDifferences};
@@ -23,13 +23,16 @@ pub fn route_differences(
     RouteDifferences::of(left, right).collect(alloc)
 }
 
-/// The first of them, if there is one. No list of them is made.
-pub fn first_route_difference(left: &Table, right: &Table) -> Option<Difference>
-    ensures { (list : List Difference) × AreRouteDifferences left.now.rows right.now.rows list
-        × (slice_get list 0 ≡ result) }
+/// The first of them alone, if there is one. The others are not looked for.
+pub fn first_route_difference(
+    alloc: Global,
+    left: &Table,
+    right: &Table,
+) -> Result<Vec<Difference>, AllocError>
+    ensures { IfOk result (λ first. (list : List Difference)
+        × AreRouteDifferences left.now.rows right.now.rows list × (first.items ≡ take 1 list)) }
 {
-    let mut differences = RouteDifferences::of(left, right);
-    differences.next()
+    RouteDifferences::of(left, right).take(1).collect(alloc)
 }
 
 /// The keys that are left for which two tables hold different things, with what they hold.

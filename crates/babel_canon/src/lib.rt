@@ -16,6 +16,12 @@
 //! - The keys for which two tables hold what differs are listed in order, each once, with what both
 //!   hold, in one list, empty exactly where their rows are equal. — `route_differences`,
 //!   `first_route_difference`; `laws::route_differences_are_one` · *one*, *none*
+//! - Pairs have one canonical text for each body size, from 128 to 65,535 octets. —
+//!   `laws::text_is_one`; `Body::new` · *fits*, *value*
+//! - What a view sees of rows answers what it sees of their answers, so tables are the same under
+//!   it exactly where what it sees of them is. The one that keeps all fields gives rows and octets
+//!   as without. — `laws::canonical_octets_tell_answers_under` · *seen*, *rows*, *all*;
+//!   `answers_are_seen`
 #![tactic(auto)]
 
 mod body;

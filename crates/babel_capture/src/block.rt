@@ -9,6 +9,7 @@ ghost use Rattle.babel_capture.specs.Contents.{packet_said, packet_stamp, pcapng
 ghost use Rattle.babel_capture.specs.Contents.{record_said, record_stamp, section_said};
 ghost use Rattle.babel_capture.specs.Contents.{simple_said, typed_said, versioned_said};
 ghost use Rattle.babel_capture.specs.Times.{time_asked, time_in};
+ghost use Rattle.babel_capture.specs.declared.window.Window.TheVariants.{Between};
 ghost use Rattle.babel_capture.specs.Sight.{sight_of};
 
 use crate::clock::{Clock, Resolution, Stamp};
@@ -22,7 +23,7 @@ use crate::options::read_options;
 use crate::order::Order;
 use crate::seen::Seen;
 use crate::time::Time;
-use crate::window::{Window, is_between, is_empty};
+use crate::window::{Moment, Window, is_between, is_empty};
 
 /// Types of blocks: draft-ietf-opsawg-pcapng, 4.2, 4.3, 4.4. The packet block is an old one, which
 /// the enhanced packet block replaced.
@@ -186,18 +187,35 @@ fn read_by<'a>(before: &Context, at: u64, packet: Packet<'a>) -> Result<Block<'a
     ensures err { IfErr result (λ fault. read_by before.now.window before.now.start at (captured_of
         packet.entry) ≡ Err fault) }
 {
-    let Window::Between { since, until } = before.window() else {
-        return Ok(Block::Packet(packet));
-    };
+    match before.window() {
+        Window::Whole => Ok(Block::Packet(packet)),
+        Window::Between { since, until } => read_between(before, at, &since, &until, packet),
+    }
+}
+
+/// A packet that is read if it came between these moments, where they are given, and else skipped.
+#[inline(never)]
+fn read_between<'a>(
+    before: &Context,
+    at: u64,
+    since: &Option<Moment>,
+    until: &Option<Moment>,
+    packet: Packet<'a>,
+) -> Result<Block<'a>, Fault>
+    ensures ok { IfOk result (λ block. read_by (Between since.now until.now) before.now.start at
+        (captured_of packet.entry) ≡ Ok (content_of block)) }
+    ensures err { IfErr result (λ fault. read_by (Between since.now until.now) before.now.start at
+        (captured_of packet.entry) ≡ Err fault) }
+{
     let time = match packet.time_asked(at) {
         Ok(time) => time,
         Err(fault) => return Err(fault),
     };
     let first = before.start().unwrap_or(time);
-    if is_empty(&since, &until, &first) {
+    if is_empty(since, until, &first) {
         return Err(Fault::EmptyWindow { at });
     }
-    if is_between(since, until, first, time) {
+    if is_between(*since, *until, first, time) {
         Ok(Block::Packet(packet))
     } else {
         Ok(Block::Skipped(packet))
@@ -503,7 +521,7 @@ fn read_pcapng<'a>(
 
 /// What a whole block says, which begins at this offset.
 #[tactic(auto, unfolding(crate::specs::Contents::block_said))]
-#[inline(always)]
+#[inline(never)]
 pub fn read_block<'a>(before: &Context, at: u64, block: &'a [u8]) -> Result<Block<'a>, Fault>
     requires { header_len before.now.layout ≤ length block.now }
     ensures ok { IfOk result (λ said. block_said before.now at block.now ≡ Ok (content_of said)) }

@@ -106,12 +106,12 @@ impl Wanted {
     pub fn finding<'a>(&self, seen: &Seen<'a>) -> Finding<'a>
         ensures { Finds self.now (sight_of seen.now) (finding_of result) }
     {
-        match *seen {
+        match seen {
             Seen::Other => Finding::Passed,
             Seen::Short => Finding::Short,
             Seen::Flawed { place, ends, flaw } => {
-                if self.takes(ends.sender, place) {
-                    self.flaw_finding(place, &ends, flaw)
+                if self.takes(ends.sender, *place) {
+                    self.flaw_finding(*place, ends, *flaw)
                 } else {
                     Finding::Passed
                 }
@@ -121,8 +121,8 @@ impl Wanted {
                 ends,
                 payload,
             } => {
-                if self.takes(ends.sender, place) {
-                    payload_finding(place, &ends, payload)
+                if self.takes(ends.sender, *place) {
+                    payload_finding(*place, ends, payload)
                 } else {
                     Finding::Passed
                 }

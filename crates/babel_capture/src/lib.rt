@@ -24,6 +24,11 @@
 //! - Where nobody is named, the packets found of a sender at its place are those that the same
 //!   octets give where it alone is wanted, with number and time; they give nothing then if one is
 //!   missed. — `laws::alone_is_the_same` · *whole*, *missing*
+//! - A datagram is cut by the recorder only where it left octets out; a payload is a UDP datagram's
+//!   in its frame, both ports 6696, to its length, of a link-local sender or one of IPv4. —
+//!   `laws::sight_is_backed`
+//! - After a link header whose EtherType (past up to four tags) or protocol family is not IP's,
+//!   nothing of Babel is seen. — `laws::other_type_is_passed` · *ether_type*, *family*
 #![tactic(auto)]
 
 mod block;

@@ -28,7 +28,15 @@ impl Wanted {
     pub fn takes(&self, from: Addr, at: Place) -> bool
         ensures { IsTrue result ↔ IsWanted self.now from at }
     {
-        from == self.sender.unwrap_or(from) && at == self.place.unwrap_or(at)
+        let is_from = match self.sender {
+            Some(sender) => from == sender,
+            None => true,
+        };
+        is_from
+            && match self.place {
+                Some(place) => at == place,
+                None => true,
+            }
     }
 
     /// Whether this is a datagram of the sender that is named, at whichever place.

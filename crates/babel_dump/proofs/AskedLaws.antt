@@ -1,6 +1,6 @@
 -- What lines ask for, one line more at a time, and that it is one.
-use Rattle.std.proofs.Common.{◌≡◌, refl, suc, Bor, ℕ, ◌+◌, ◌<◌, Bool, false, not, List, [], ◌∷◌, ◌++◌, length, map, take, drop, get_or, ap, sym, subst, ◌∙◌, add-one, append-nil, arith}
-use Rattle.std.specs.List.{AllZip, flat_map, list_any}
+use Rattle.std.proofs.Common.{◌≡◌, refl, suc, Bor, ℕ, ◌+◌, ◌<◌, false, not, List, [], ◌∷◌, ◌++◌, length, map, take, drop, get_or, ap, sym, subst, ◌∙◌, add-one, append-nil, arith}
+use Rattle.std.specs.List.{AllZip, flat_map}
 use Rattle.std.proofs.lemmas.List.{get_or-map, length-map, length-take-le, map-append}
 use Rattle.std.proofs.lemmas.List.Elements.{filter-append}
 use Rattle.std.proofs.Math.Seq.{split_at, take-suc}
@@ -146,16 +146,16 @@ same_texts text_of (w ∷ words) (p ∷ one) (q ∷ two) is is_too =
     let rest = same_texts text_of words one two is.1 is_too.1 in
     rw (same.0, same.1, rest) refl
 
-pub same_tests : (test : Address → Address → Bool) (words : List (List (List ℕ))) (one two : List AddrPair) → AllZip SaysPair words one → AllZip SaysPair words two
-    → list_any (λ pair. test pair.dst pair.src) one ≡ list_any (λ pair. test pair.dst pair.src) two
-same_tests test [] [] [] is is_too = refl
-same_tests test [] [] (q ∷ two) is is_too = absurd is_too
-same_tests test [] (p ∷ one) two is is_too = absurd is
-same_tests test (w ∷ words) [] two is is_too = absurd is
-same_tests test (w ∷ words) (p ∷ one) [] is is_too = absurd is_too
-same_tests test (w ∷ words) (p ∷ one) (q ∷ two) is is_too =
+pub same_statuses : (status : Address → Address → ℕ) (words : List (List (List ℕ))) (one two : List AddrPair) → AllZip SaysPair words one → AllZip SaysPair words two
+    → map (λ pair. status pair.dst pair.src) one ≡ map (λ pair. status pair.dst pair.src) two
+same_statuses status [] [] [] is is_too = refl
+same_statuses status [] [] (q ∷ two) is is_too = absurd is_too
+same_statuses status [] (p ∷ one) two is is_too = absurd is
+same_statuses status (w ∷ words) [] two is is_too = absurd is
+same_statuses status (w ∷ words) (p ∷ one) [] is is_too = absurd is_too
+same_statuses status (w ∷ words) (p ∷ one) (q ∷ two) is is_too =
     let same = same_pair w p q is.0 is_too.0 in
-    let rest = same_tests test words one two is.1 is_too.1 in
+    let rest = same_statuses status words one two is.1 is_too.1 in
     rw (same.0, same.1, rest) refl
 
 asks_first : (line : List ℕ) (after : List (List ℕ)) → is_passed_over (words_of line) ≡ false → asking (line ∷ after) ≡ words_of line ∷ asking after

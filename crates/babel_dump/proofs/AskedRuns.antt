@@ -8,22 +8,27 @@ use Rattle.babel_dump.specs.CaptureGiven.{made_in}
 use Rattle.babel_dump.specs.Device.{InputState}
 use Rattle.babel_dump.specs.EventsRun.{TellsEvents}
 use Rattle.babel_dump.specs.Fed.{AreWhole}
-use Rattle.babel_dump.specs.MadeKeys.{AreKeys}
+use Rattle.babel_dump.specs.PairsMade.{heard_in}
+use Rattle.babel_dump.specs.ToldPairs.{ArePairsTold}
+use Rattle.babel_dump.specs.ToldSenders.{AreTexts}
+use Rattle.babel_dump.specs.declared.each_pair.EachPair.{EachPair}
+use Rattle.babel_dump.specs.declared.told_pairs.ToldPairs.{ToldPairs}
 use Rattle.babel_dump.specs.Packets.{packets_made}
-use Rattle.babel_dump.specs.SenderKeys.{AreOwn, GaveSenders, each_from}
+use Rattle.babel_dump.specs.EachSender.{AreOwn, AsksPairs, GaveSenders, each_from}
 use Rattle.babel_dump.specs.declared.begun.Begins.TheVariants as beginnings
 use Rattle.babel_dump.specs.declared.events_job.Events.{Events}
 use Rattle.babel_dump.specs.declared.events_outcome.EventsOutcome.{EventsOutcome}
-use Rattle.babel_dump.specs.declared.made_keys.MadeKeys.{MadeKeys}
-use Rattle.babel_dump.specs.declared.sender_keys.SenderKeys.{SenderKeys}
-use Rattle.babel_dump.specs.declared.sender_keys.SendersRead.{SendersRead}
-use Rattle.babel_dump.specs.AskedRun.{Beginnings, Did, DidJob, ToldEvents, WroteKeys, misplaced_at}
+use Rattle.babel_dump.specs.declared.told_senders.ToldSenders.{ToldSenders}
+use Rattle.babel_dump.specs.declared.each_sender.EachSender.{EachSender}
+use Rattle.babel_dump.specs.declared.each_sender.SendersRead.{SendersRead}
+use Rattle.babel_dump.specs.AskedRun.{Beginnings, Did, DidJob, GaveOn, ToldEvents, WrotePairs, WroteSenders, misplaced_at}
 use Rattle.babel_dump.specs.Begun.{BeginsSo}
 use Rattle.babel_dump.specs.Files.{reading_of}
 use Rattle.babel_dump.specs.Given.{Reads}
 use Rattle.babel_dump.specs.JobRun.{RanJob, SaysBy}
 use Rattle.babel_dump.specs.Misplaced.{begun_work, misplaced_by}
 use Rattle.babel_dump.specs.Run.{Output}
+use Rattle.babel_dump.specs.RunText.{status_of_all}
 use Rattle.babel_dump.specs.declared.asked.Asked.{Asked}
 use Rattle.babel_dump.specs.declared.begun.Begins.{Begins}
 use Rattle.babel_dump.specs.declared.done.Done.{Done}
@@ -78,7 +83,7 @@ module _ (job : Job) (stream other : Option (List ℕ)) (first second told told_
 
 -- ---- events, and keys
 
-keeps_itself : (stream : Option (List ℕ)) → Keeps stream stream
+pub keeps_itself : (stream : Option (List ℕ)) → Keeps stream stream
 keeps_itself None = tt
 keeps_itself (Some octets) = refl
 
@@ -92,21 +97,58 @@ told_so events stream old new given writer answer done is left tells status = re
   status = status;
 }
 
-pub wrote_so : (keys : SenderKeys) (stream : Option (List ℕ)) (begins told : Begins) (old new : InputState) (writer : Output) (senders : SendersRead) (made : MadeKeys) (text : List ℕ) (done : Done)
-    → BeginsSo stream begins → told ≡ begins → told ≢ beginnings.Dump → Keeps stream old.left → GaveSenders keys (each_from keys old new) senders
-    → ((records : List Made) → AreWhole (packets_made records) → AreOwn keys records senders.tables.entries
-    → AreKeys keys records senders.read.moment senders.read.gathered (keys_of senders.tables.entries) made)
-    → done.senders ≡ made.senders → text ≡ made.lines.items → Appends writer.old.taken writer.new.taken text → done.status ≡ 0 → WroteKeys keys stream writer done
-wrote_so keys stream begins told old new writer senders made text done begun is no_dump keeps gave are same lines wrote status = record {
+pub wrote_so : (each asking : EachSender) (stream other : Option (List ℕ)) (begins told : Begins) (second : Reads) (old new : InputState) (writer : Output) (senders : SendersRead)
+    (made : ToldSenders) (text : List ℕ) (done : Done) → BeginsSo stream begins → told ≡ begins → told ≢ beginnings.Dump → Keeps other second.old.left → AsksPairs each second asking
+    → Keeps stream old.left → GaveSenders asking (each_from asking old new) senders
+    → ((records : List Made) → AreWhole (packets_made records) → AreOwn asking records senders.tables.entries
+    → AreTexts asking records senders.read.moment senders.read.gathered (keys_of senders.tables.entries) made)
+    → done.senders ≡ made.senders → text ≡ made.lines.items → Appends writer.old.taken writer.new.taken text
+    → done.status ≡ status_of_all made.statuses.items → WroteSenders each stream other writer done
+wrote_so each asking stream other begins told second old new writer senders made text done begun is no_dump other_keeps asks keeps gave are same lines wrote status = record {
   begins = begins;
   begun = begun;
   no_dump = λ dump. no_dump (is ∙ dump);
+  second = second;
+  other_keeps = other_keeps;
+  asking = asking;
+  asks = asks;
   reader = record { old = old; new = new };
   keeps = keeps;
   senders = senders;
   gave = gave;
   made = made;
   are_keys = are (made_in gave.gave.given) gave.whole gave.are_own;
+  told = same;
+  wrote = subst (Appends writer.old.taken writer.new.taken) lines wrote;
+  status = status;
+}
+
+-- ---- of two captures
+
+pub gave_so : (each : EachSender) (stream : Option (List ℕ)) (begins told : Begins) (old new : InputState) (senders : SendersRead)
+    → BeginsSo stream begins → told ≡ begins → told ≢ beginnings.Dump → Keeps stream old.left → GaveSenders each (each_from each old new) senders → GaveOn each stream senders
+gave_so each stream begins told old new senders begun is no_dump keeps gave = record {
+  begins = begins;
+  begun = begun;
+  no_dump = λ dump. no_dump (is ∙ dump);
+  reader = record { old = old; new = new };
+  keeps = keeps;
+  gave = gave;
+}
+
+pub wrote_pairs : (pairs : EachPair) (stream other : Option (List ℕ)) (writer : Output) (senders other_senders : SendersRead) (made : ToldPairs) (text : List ℕ) (done : Done)
+    → GaveOn pairs.left stream senders → GaveOn pairs.right other other_senders
+    → ((records others : List Made) → AreWhole (packets_made records) → AreOwn pairs.left records senders.tables.entries → AreWhole (packets_made others)
+    → AreOwn pairs.right others other_senders.tables.entries
+    → ArePairsTold pairs (heard_in senders.read records) (heard_in other_senders.read others) (keys_of senders.tables.entries) (keys_of other_senders.tables.entries) made)
+    → done.senders ≡ made.senders → text ≡ made.lines.items → Appends writer.old.taken writer.new.taken text → done.status ≡ made.status → WrotePairs pairs stream other writer done
+wrote_pairs pairs stream other writer senders other_senders made text done first second are same lines wrote status = record {
+  senders = senders;
+  other_senders = other_senders;
+  first = first;
+  second = second;
+  made = made;
+  are_told = are (made_in first.gave.gave.given) (made_in second.gave.gave.given) first.gave.whole first.gave.are_own second.gave.whole second.gave.are_own;
   told = same;
   wrote = subst (Appends writer.old.taken writer.new.taken) lines wrote;
   status = status;

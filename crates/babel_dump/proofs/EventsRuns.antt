@@ -15,7 +15,9 @@ use Rattle.babel_timeline.specs.Accounts.{Said}
 use Rattle.babel_timeline.specs.Rows.{Rows}
 use Rattle.babel_timeline.specs.Telling.{AreAnswers, AskedFor, IsTold, Tells, TellsEnds, is_of_rows, of_rows}
 use Rattle.babel_timeline.proofs.AccountLaws.{begins}
-use Rattle.babel_timeline.proofs.TellingLaws.{ends_tell, expired_account, tells_then}
+use Rattle.babel_timeline.proofs.AnswerLaws.{no_answers}
+use Rattle.babel_timeline.proofs.MakingLaws.{none_said}
+use Rattle.babel_timeline.proofs.TellingLaws.{ends_tell, expired_account, none_expire, tells_then}
 use Rattle.babel_dump.specs.EventsRun.{AreInOrder, AreSaid, AreTold, AreUpTo, HaveTold, IsSaid, Says, asked_by}
 use Rattle.babel_dump.specs.Speakers.{speaker_cmp, speaker_exact}
 use Rattle.babel_dump.proofs.SpeakerLaws.{speaker_total}
@@ -77,20 +79,13 @@ told_more : (asked : AskedFor) (changes more : List (Change Speaker)) (rows afte
 told_more None changes more rows after before here are is =
     filter-append is_of_rows before here ∙ ap (λ (t : Tellings). of_rows None before ++ t) is ∙ ap (λ (t : Tellings). t ++ map tellings.Change more) are ∙ sym (map-append tellings.Change changes more)
 told_more (Some pair) changes more rows after before here are (answers, is, keeps) =
-    subst (λ (t : Tellings). AreAnswers speaker_cmp pair (before ++ t) after) (sym is) (keeps before are)
+    subst (λ (t : Tellings). AreAnswers speaker_cmp pair (changes ++ more) (before ++ t) after) (sym is) (keeps changes before are)
 
 -- ---- records
 
-not_nil : {A : Type 0} (before after : List A) (one : A) → [] ≡ before ++ one ∷ after → ⊥
-not_nil [] after one is = let bad : [] ≡ one ∷ after = is in cc
-not_nil (first ∷ before) after one is = let bad : [] ≡ first ∷ (before ++ one ∷ after) = is in cc
-
 told_none : (asked : AskedFor) → AreTold asked [] [] []
 told_none None = refl
-told_none (Some pair) = record {
-  last = λ sender key near. refl;
-  anew = λ before after one split. absurd (not_nil before after one split);
-}
+told_none (Some pair) = no_answers speaker_cmp speaker_total speaker_exact pair
 
 module _ (events : Events) where
   -- no records tell nothing
@@ -104,6 +99,7 @@ module _ (events : Events) where
       account = begins speaker_cmp speaker_total speaker_exact events.expiry;
       reached = λ time up bound. omega arith;
     };
+    said_last = λ none. none_said speaker_cmp;
     are_told = told_none (asked_by events);
   }
 
@@ -118,6 +114,7 @@ module _ (events : Events) where
       account = λ order.
           let was = have.account (in_order_front made one order) in
           record { moment = was.moment; account = was.account; reached = λ time up bound. was.reached time (up_to_front time made one up).0 bound };
+      said_last = have.said_last;
       are_told = have.are_told;
     }
 
@@ -137,6 +134,7 @@ module _ (events : Events) where
             account = tells.account have.said was.moment have.changes there was.account;
             reached = λ bound up none. subst (λ (t : Option ℕ). IfSome t (λ c. c ≤ bound)) came (up_to_front bound made one up).1;
           };
+      said_last = λ none. tells.said_last none have.said have.changes (have.said_last none);
       are_told = told_more (asked_by events) have.changes tells.changes rows after before here have.are_told tells.told;
     }
 
@@ -171,6 +169,8 @@ module _ (events : Events) where
         let was = have.account order in
         let is = expired_account speaker_cmp speaker_total speaker_exact events.expiry moment ends.changes rows after ends.ends have.said was.moment have.changes was.account in
         record { moment = is.0; account = is.1; reached = λ bound up last. is.2 bound (was.reached bound up tt) last };
+    said_last = λ none.
+        none_expire speaker_cmp speaker_total speaker_exact events.expiry none moment ends.changes rows after ends.ends have.said have.changes (have.said_last none);
     are_told = told_more (asked_by events) have.changes ends.changes rows after before here have.are_told ends.told;
   }
 
@@ -182,5 +182,6 @@ module _ (events : Events) where
     account = λ order.
         let was = have.account order in
         record { moment = was.moment; account = was.account; reached = λ bound up last. was.reached bound up tt };
+    said_last = have.said_last;
     are_told = have.are_told;
   }

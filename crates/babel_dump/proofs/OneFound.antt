@@ -1,5 +1,5 @@
 -- What is found of tables is one, and not too much.
-use Rattle.std.proofs.Common.{◌≤◌, arith, ◌≡◌, refl, ℕ, Bool, true, false, if◌then◌else◌, List, length, Option, Result, Ok, Err, ap, sym, ◌∙◌}
+use Rattle.std.proofs.Common.{◌≤◌, arith, ◌≡◌, refl, ℕ, Bool, true, false, List, length, Option, Result, Ok, Err, ap, sym, ◌∙◌}
 use Rattle.std.specs.Prelude.{zero, suc}
 use Rattle.babel_canon.proofs.DifferingRows.{route_differences_are_one}
 use Rattle.babel_canon.proofs.OneDifferences.{differences_are_one}
@@ -8,7 +8,7 @@ use Rattle.babel_canon.proofs.OneVerdict.{verdict_is_one}
 use Rattle.babel_canon.specs.declared.every_difference.Difference.{Difference}
 use Rattle.babel_canon.specs.declared.verdict.Verdict.{Verdict}
 use Rattle.babel_dump.proofs.AnySourceLaws.{told_one}
-use Rattle.babel_dump.proofs.AskedLaws.{same_tests, same_texts}
+use Rattle.babel_dump.proofs.AskedLaws.{same_statuses, same_texts}
 use Rattle.babel_dump.proofs.DumpSteps.{AreAskedBy}
 use Rattle.babel_dump.proofs.Steps.{IsOne}
 use Rattle.babel_dump.specs.AnySource.{any_source}
@@ -18,8 +18,7 @@ use Rattle.babel_dump.specs.DiffText.{diff_in, head_lines}
 use Rattle.babel_dump.specs.Filter.{kept_pairs_in}
 use Rattle.babel_dump.specs.InFormat.{answer_line_in, differences_or_count_in, listed_in, verdict_in}
 use Rattle.babel_dump.specs.KeyText.{file_in, key_in}
-use Rattle.babel_dump.specs.RunText.{answer_in, differences_status, form_text, lookup_status, row_in, verdict_status}
-use Rattle.babel_dump.specs.TextParts.{lacks_route}
+use Rattle.babel_dump.specs.RunText.{answer_in, differences_status, form_text, lookup_status, row_in, status_of_all, verdict_status}
 use Rattle.babel_dump.specs.declared.addr_pair.AddrPair.{AddrPair}
 use Rattle.babel_dump.specs.declared.format.Format.{Format}
 use Rattle.babel_dump.specs.declared.job.Comparison.TheVariants as comparisons
@@ -137,9 +136,9 @@ pub each_one : (format : Format) (with_prefix : Bool) (reading : Reading) (text 
     → EachOf format with_prefix reading text table too → it ≡ too
 each_one format with_prefix reading text table it too (asked, are, is) (asked_too, are_too, is_too) =
     let texts = same_texts (λ dst src. answer_line_in format with_prefix dst src (row_in table dst src)) (asking (lines_of text)) asked asked_too are.asked are_too.asked in
-    let tests = same_tests (lacks_route table) (asking (lines_of text)) asked asked_too are.asked are_too.asked in
+    let statuses = same_statuses (λ dst src. lookup_status (answer_in table dst src)) (asking (lines_of text)) asked asked_too are.asked are_too.asked in
     said (is.text_is ∙ texts ∙ sym is_too.text_is)
-    (is.outcome_is ∙ ap (λ (lacks : Bool). record { status = if lacks then 1 else 0; reports = reports.Dump table.report }) tests ∙ sym is_too.outcome_is)
+    (is.outcome_is ∙ ap (λ (all : List ℕ). record { status = status_of_all all; reports = reports.Dump table.report }) statuses ∙ sym is_too.outcome_is)
 
 -- ---- what a comparison finds of two tables
 

@@ -8,10 +8,12 @@ use Rattle.babel_dump.specs.EventsRun.{TellsEvents}
 use Rattle.babel_dump.specs.Files.{reading_of}
 use Rattle.babel_dump.specs.Given.{Reads}
 use Rattle.babel_dump.specs.JobRun.{SaysBy}
-use Rattle.babel_dump.specs.MadeKeys.{AreKeys}
+use Rattle.babel_dump.specs.ToldPairs.{ArePairsTold, Heard}
+use Rattle.babel_dump.specs.ToldSenders.{AreTexts}
 use Rattle.babel_dump.specs.Misplaced.{begun_work, misplaced_by}
 use Rattle.babel_dump.specs.Run.{Output}
-use Rattle.babel_dump.specs.SenderKeys.{GaveSenders, each_from}
+use Rattle.babel_dump.specs.RunText.{status_of_all}
+use Rattle.babel_dump.specs.EachSender.{AsksPairs, GaveSenders, each_from}
 use Rattle.babel_dump.specs.declared.asked.Asked.{Asked}
 use Rattle.babel_dump.specs.declared.asked.Asked.TheVariants as askeds
 use Rattle.babel_dump.specs.declared.begun.Begins.{Begins}
@@ -20,11 +22,13 @@ use Rattle.babel_dump.specs.declared.done.Done.{Done}
 use Rattle.babel_dump.specs.declared.events_job.Events.{Events}
 use Rattle.babel_dump.specs.declared.events_outcome.EventsOutcome.{EventsOutcome}
 use Rattle.babel_dump.specs.declared.job.Job.{Job}
-use Rattle.babel_dump.specs.declared.made_keys.MadeKeys.{MadeKeys}
+use Rattle.babel_dump.specs.declared.told_pairs.ToldPairs.{ToldPairs}
+use Rattle.babel_dump.specs.declared.told_senders.ToldSenders.{ToldSenders}
 use Rattle.babel_dump.specs.declared.outcome.Outcome.{Outcome}
 use Rattle.babel_dump.specs.declared.run_fault.Side.TheVariants as sides
-use Rattle.babel_dump.specs.declared.sender_keys.SenderKeys.{SenderKeys}
-use Rattle.babel_dump.specs.declared.sender_keys.SendersRead.{SendersRead}
+use Rattle.babel_dump.specs.declared.each_pair.EachPair.{EachPair}
+use Rattle.babel_dump.specs.declared.each_sender.EachSender.{EachSender}
+use Rattle.babel_dump.specs.declared.each_sender.SendersRead.{SendersRead}
 use Rattle.babel_dump.specs.declared.trouble.Trouble.{Trouble}
 use Rattle.babel_dump.specs.declared.trouble.Trouble.TheVariants as troubles
 
@@ -58,23 +62,62 @@ pub record DidJob (job : Job) (seed : ℕ) (stream other : Option (List ℕ)) (w
   pub wrote : Appends writer.old.taken writer.new.taken text
   pub status : done.status ≡ outcome.status
 
--- The stream is no dump, but a capture, and the keys of its senders were written: of each that is
--- asked for and has a packet, or a datagram that is missed, its key, or its fault is told.
-pub record WroteKeys (keys : SenderKeys) (stream : Option (List ℕ)) (writer : Output)
+-- The stream is no dump, but a capture, and what is told of its senders was written: of each that is
+-- asked for and has a packet, or a datagram that is missed, its text is written, or its fault told.
+-- The pairs that are looked up in each are those of the other stream.
+pub record WroteSenders (each : EachSender) (stream other : Option (List ℕ)) (writer : Output)
     (done : Done) : Type 0 where
+  pub begins : Begins
+  pub begun : BeginsSo stream begins
+  pub no_dump : begins ≢ beginnings.Dump
+  pub second : Reads
+  pub other_keeps : Keeps other second.old.left
+  pub asking : EachSender
+  pub asks : AsksPairs each second asking
+  pub reader : Reads
+  pub keeps : Keeps stream reader.old.left
+  pub senders : SendersRead
+  pub gave : GaveSenders asking (each_from asking reader.old reader.new) senders
+  pub made : ToldSenders
+  pub are_keys : AreTexts asking (made_in gave.gave.given) senders.read.moment senders.read.gathered
+      (keys_of senders.tables.entries) made
+  pub told : done.senders ≡ made.senders
+  pub wrote : Appends writer.old.taken writer.new.taken made.lines.items
+  pub status : done.status ≡ status_of_all made.statuses.items
+
+-- the stream is no dump, but a capture, and this was read of its senders
+pub record GaveOn (each : EachSender) (stream : Option (List ℕ)) (senders : SendersRead) :
+    Type 0 where
   pub begins : Begins
   pub begun : BeginsSo stream begins
   pub no_dump : begins ≢ beginnings.Dump
   pub reader : Reads
   pub keeps : Keeps stream reader.old.left
+  pub gave : GaveSenders each (each_from each reader.old reader.new) senders
+
+-- what is known of the capture
+abbrev pub heard_of : {each : EachSender} {stream : Option (List ℕ)} → (senders : SendersRead)
+    → GaveOn each stream senders → Heard
+heard_of senders on = record {
+  made = made_in on.gave.gave.given;
+  moment = senders.read.moment;
+  gathering = senders.read.gathered;
+}
+
+-- The streams are such captures, and what is told of each sender with its fellow was written.
+pub record WrotePairs (pairs : EachPair) (stream other : Option (List ℕ)) (writer : Output)
+    (done : Done) : Type 0 where
   pub senders : SendersRead
-  pub gave : GaveSenders keys (each_from keys reader.old reader.new) senders
-  pub made : MadeKeys
-  pub are_keys : AreKeys keys (made_in gave.gave.given) senders.read.moment senders.read.gathered
-      (keys_of senders.tables.entries) made
+  pub other_senders : SendersRead
+  pub first : GaveOn pairs.left stream senders
+  pub second : GaveOn pairs.right other other_senders
+  pub made : ToldPairs
+  pub are_told : ArePairsTold pairs (heard_of senders first)
+      (heard_of other_senders second) (keys_of senders.tables.entries)
+      (keys_of other_senders.tables.entries) made
   pub told : done.senders ≡ made.senders
   pub wrote : Appends writer.old.taken writer.new.taken made.lines.items
-  pub status : done.status ≡ 0
+  pub status : done.status ≡ made.status
 
 -- what changed in a capture was told
 pub record ToldEvents (events : Events) (stream : Option (List ℕ)) (writer : Output)
@@ -89,7 +132,9 @@ pub record ToldEvents (events : Events) (stream : Option (List ℕ)) (writer : O
 abbrev pub Did :
     Asked → (seed : ℕ) → (stream other : Option (List ℕ)) → Output → Done → Type 0
 Did (askeds.Job job) seed stream other = DidJob job seed stream other
-Did (askeds.SenderKeys keys) seed stream other = WroteKeys keys stream
+Did (askeds.Lone lone) seed stream other = DidJob lone.job seed stream other
+Did (askeds.EachSender each) seed stream other = WroteSenders each stream other
+Did (askeds.EachPair pairs) seed stream other = WrotePairs pairs stream other
 Did (askeds.Events events) seed stream other = ToldEvents events stream
 
 -- the option that is told as misplaced
@@ -98,8 +143,12 @@ misplaced_told (troubles.Misplaced option) = Some option.now
 misplaced_told trouble = None
 
 -- only an option that was misplaced is told so
-abbrev pub IsRefused : Asked → (stream other : Option (List ℕ)) → Trouble → Type 0
-IsRefused (askeds.Job job) stream other trouble =
+abbrev pub IsJobRefused : Job → (stream other : Option (List ℕ)) → Trouble → Type 0
+IsJobRefused job stream other trouble =
     IfSome (misplaced_told trouble)
     (λ option. (begun : Beginnings job stream other) × (misplaced_at begun ≡ Some option))
+
+abbrev pub IsRefused : Asked → (stream other : Option (List ℕ)) → Trouble → Type 0
+IsRefused (askeds.Job job) stream other trouble = IsJobRefused job stream other trouble
+IsRefused (askeds.Lone lone) stream other trouble = IsJobRefused lone.job stream other trouble
 IsRefused asked stream other trouble = Unit {0}

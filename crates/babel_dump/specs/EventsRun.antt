@@ -40,13 +40,13 @@ use Rattle.babel_timeline.specs.Accounts.{IsAccount, Said}
 use Rattle.babel_timeline.specs.RequestsTold.{requests_told, unicast}
 use Rattle.babel_timeline.specs.Rows.{AllLast, Rows}
 use Rattle.babel_timeline.specs.SilencesTold.{TellsWhoIsSilent, hellos_heard, watches}
-use Rattle.babel_timeline.specs.Telling.{AreAnswers, AskedFor, answered, of_rows, said_of}
+use Rattle.babel_timeline.specs.Telling.{AreAnswers, AreLastSaid, AskedFor, answered, of_rows, said_of}
 use Rattle.babel_dump.specs.CaptureRun.{IsOutcomeOf}
 use Rattle.babel_dump.specs.CaptureText.{senders_status}
 use Rattle.babel_dump.specs.Device.{GaveOctets, InputState}
 use Rattle.babel_dump.specs.EventText.{event_in, speaker_of}
 use Rattle.babel_dump.specs.Filter.{if_asked, keeps_key}
-use Rattle.babel_dump.specs.LeftOut.{first_left_out}
+use Rattle.babel_dump.specs.LeftOut.{LeavesNoneOut}
 use Rattle.babel_dump.specs.declared.filter.Filter.{Filter}
 use Rattle.std.specs.Str.{bytes_eq}
 use Rattle.babel_timeline.specs.Changes.{held_after, held_before}
@@ -153,11 +153,11 @@ AreInOrder made =
 -- ---- what is told
 
 -- but for who is silent or returns, the tellings are these changes; or, where addresses are asked
--- for, their answers
+-- for, the answers that they made
 abbrev pub AreTold : AskedFor → List (Change Speaker) → Rows Speaker → List (Telling Speaker)
     → Type 0
 AreTold None changes rows told = of_rows None told ≡ map tellings.Change changes
-AreTold (Some pair) changes rows told = AreAnswers speaker_cmp pair told rows
+AreTold (Some pair) changes rows told = AreAnswers speaker_cmp pair changes told rows
 
 -- the changes account for what records said, up to a moment that is no later than they are, or than
 -- this one, if it is given
@@ -170,13 +170,15 @@ pub record IsAccountOf (events : Events) (until : Option ℕ) (made : List Made)
       → moment ≤ time
 
 -- What records told from nothing on, and the rows after them: where their times do not run
--- backwards, the changes account for all that was said.
+-- backwards, the changes account for all that was said. Where nothing expires, whatever the times,
+-- the rows are what the changes say is held, and what was said last.
 pub record HaveTold (events : Events) (until : Option ℕ) (made : List Made)
     (told : List (Telling Speaker)) (rows : Rows Speaker) : Type 0 where
   pub said : List (Said Speaker)
   pub are_said : AreSaid events made said
   pub changes : List (Change Speaker)
   pub account : AreInOrder made → IsAccountOf events until made said changes rows
+  pub said_last : events.expiry ≡ None → AreLastSaid speaker_cmp said changes rows
   pub are_told : AreTold (asked_by events) changes rows told
 
 -- Where rows end and each change is told, and times do not run backwards: the senders that were told
@@ -305,10 +307,11 @@ IsHeardSender events made gathering heard =
     (heard.name.items ≡ name_of gathering heard.origin.place.interface)
     × IsReportOf events made (speaker_at heard.origin) heard.report
 
--- of none of these senders a TLV was ignored, each has an Update, and no datagram was left out
+-- no datagram of the capture was left out; of none of these senders a TLV was ignored, and each has
+-- an Update
 abbrev pub AreReadWhole : Counts → List HeardSender → Type 0
 AreReadWhole counts senders =
-    AllByRecursion (λ heard. IsReadWhole (first_left_out counts) heard.report) senders
+    LeavesNoneOut counts × AllByRecursion (λ heard. IsReadWhole None heard.report) senders
 
 -- ---- what is written
 

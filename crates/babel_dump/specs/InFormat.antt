@@ -103,9 +103,18 @@ abbrev pub rows_or_count_in : Format → View → Bool → List (RouteKey × Hel
 rows_or_count_in format view count rows =
     if count then count_in format (rows_name format) (length rows) else pairs_in format view rows
 
+-- the differences that are listed: the first alone, or all
+abbrev pub listed_of : Listed → List Difference → List Difference
+listed_of listeds.First differences = take 1 differences
+listed_of listed differences = differences
+
+-- what says each of these differences, or how many there are
+abbrev pub listing_in : Format → View → Listed → List Difference → List ℕ
+listing_in format view listeds.Count differences =
+    count_in format (codes "differences") (length differences)
+listing_in format view listed differences = differences_in format view differences
+
 -- what says the first difference, each, or how many there are
 abbrev pub listed_in : Format → View → Listed → List Difference → List ℕ
-listed_in format view listeds.First differences = differences_in format view (take 1 differences)
-listed_in format view listeds.All differences = differences_in format view differences
-listed_in format view listeds.Count differences =
-    count_in format (codes "differences") (length differences)
+listed_in format view listed differences =
+    listing_in format view listed (listed_of listed differences)

@@ -52,8 +52,8 @@ abbrev pub no_updates : DumpCounts → Option Note
 no_updates counts = if counts.updates == 0 then Some notes.NoUpdates else None
 
 -- of the dump of a sender: what was ignored, if anything; how many rows of its table were not
--- announced again in time; that it has no Update
-abbrev pub about_sender : Option IgnoredNote → DumpCounts → ℕ → List (Option Note)
-about_sender ignored counts expired_rows =
+-- announced again in time; that it has no Update; and this note, if there is one
+abbrev pub about_sender : Option IgnoredNote → DumpCounts → ℕ → Option Note → List (Option Note)
+about_sender ignored counts expired_rows source =
     option_map notes.Ignored ignored ∷ above expired_rows 0 (notes.Expired expired_rows)
-    ∷ no_updates counts ∷ []
+    ∷ no_updates counts ∷ source ∷ []

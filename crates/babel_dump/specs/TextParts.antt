@@ -1,20 +1,17 @@
 -- Parts of texts that functions inside make: this project's own.
-use Rattle.std.specs.Prelude.{ℕ, Bool, not, ◌==◌, List, [], ◌∷◌, ◌++◌, codes}
+use Rattle.std.specs.Prelude.{ℕ, not, ◌==◌, List, [], ◌∷◌, ◌++◌, codes}
 use Rattle.std.specs.List.{filter, flat_map}
 use Rattle.hex.specs.Hex.{encode_lower}
-use Rattle.babel_prefix.specs.Address.{Address}
 use Rattle.babel_capture.specs.declared.tallies.Origin.{Origin}
 use Rattle.babel_capture.specs.declared.tallies.Tally.{Tally}
 use Rattle.babel_tlv.specs.declared.reason.Reason.{Reason}
 use Rattle.babel_table.specs.Counts.{Counts}
-use Rattle.babel_table.specs.Rows.{Routes}
 use Rattle.babel_dump.specs.CaptureText.{sender_end, sender_end_json, sender_front}
 use Rattle.babel_dump.specs.CaptureText.{sender_front_json}
 use Rattle.babel_dump.specs.Ignored.{ignored_for}
 use Rattle.babel_dump.specs.InFormat.{in_format}
 use Rattle.babel_dump.specs.JsonText.{same_json}
-use Rattle.babel_dump.specs.RunText.{answer_in, ignored_line, lookup_status}
-use Rattle.babel_dump.specs.RunText.{newline, same_text}
+use Rattle.babel_dump.specs.RunText.{ignored_line, newline, same_text}
 use Rattle.babel_dump.specs.declared.format.Format.{Format}
 use Rattle.babel_dump.specs.declared.format.Format.TheVariants as formats
 
@@ -25,10 +22,6 @@ hex_digits octets = encode_lower octets
 -- the octets in hexadecimal, on a line
 abbrev pub hex_text : List ℕ → List ℕ
 hex_text octets = hex_digits octets ++ newline
-
--- there is no route for these addresses
-abbrev pub lacks_route : Routes → Address → Address → Bool
-lacks_route table dst src = lookup_status (answer_in table dst src) == 1
 
 -- a line for each of these reasons that occurred
 abbrev pub ignored_lines : Counts → List Reason → List ℕ

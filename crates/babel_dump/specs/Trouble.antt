@@ -29,6 +29,8 @@ unwritten_status None = 4
 abbrev pub trouble_status : (unwritten : Option Error) → Trouble → ℕ
 trouble_status unwritten (troubles.Misplaced option) = 2
 trouble_status unwritten troubles.NoSender = 2
+trouble_status unwritten (troubles.NotOneSender senders) = 2
+trouble_status unwritten troubles.ReadOnce = 2
 trouble_status unwritten (troubles.Backwards since until) = 2
 trouble_status unwritten troubles.TooManyRoutes = 3
 trouble_status unwritten (troubles.Fault run_faults.Write) = unwritten_status unwritten

@@ -38,11 +38,11 @@ pub(crate) fn found_any_source(
         with_prefix,
     };
     let text = lookup_output(alloc, format, answered)?;
-    Found::text(alloc, text, outcome)
+    Ok(Found::text(text, outcome))
 }
 
 /// The source of an answer that is for any source.
-fn any_source(family: Family) -> Addr
+pub(crate) fn any_source(family: Family) -> Addr
     ensures { result ≡ any_source family }
 {
     Prefix::whole(family).addr()
@@ -63,7 +63,7 @@ fn source_to_tell(table: &Table, dst: &Addr) -> Option<Addr>
 }
 
 /// Whether a key is for the destination, and not for every source.
-fn is_source_specific(key: Key, dst: &Addr) -> bool
+pub(crate) fn is_source_specific(key: Key, dst: &Addr) -> bool
     ensures { IsTrue result ↔ IsSourceSpecific dst.now key }
 {
     key.dst().contains(dst) && key.src().len() > 0

@@ -1,10 +1,12 @@
 //! What the program's words ask for.
+use crate::each_pair::EachPair;
+use crate::each_sender::EachSender;
 use crate::events_job::Events;
 use crate::format::Format;
 use crate::job::{DumpFile, Job, Work};
 use crate::key_text::Named;
+use crate::lone_sender::{Lone, LoneSender};
 use crate::reading::capture_limit;
-use crate::sender_keys::SenderKeys;
 use crate::spelling::Spelling;
 use babel_table::Limits;
 
@@ -13,8 +15,13 @@ use babel_table::Limits;
 pub enum Asked {
     /// What is found of dumps, or of a capture.
     Job(Job),
-    /// `key` without `--from`: the keys of the senders in a capture.
-    SenderKeys(SenderKeys),
+    /// What is found of each sender in a capture, where there is no `--from`.
+    EachSender(EachSender),
+    /// What is found of the sender that alone announces in a capture, where there is no `--from`.
+    Lone(Lone),
+    /// What is found of the senders in two captures, of each with its fellow, where there is no
+    /// `--from`.
+    EachPair(EachPair),
     /// `events`: what changed in a capture, and when.
     Events(Events),
 }
@@ -23,8 +30,9 @@ impl Asked {
     /// Where the input is read from, or the first of two.
     pub fn file(&self) -> &DumpFile {
         match self {
-            Asked::Job(job) => job.file(),
-            Asked::SenderKeys(keys) => &keys.file,
+            Asked::Job(job) | Asked::Lone(Lone { job, .. }) => job.file(),
+            Asked::EachSender(each) => &each.file,
+            Asked::EachPair(pairs) => &pairs.left.file,
             Asked::Events(events) => &events.file,
         }
     }
@@ -33,7 +41,9 @@ impl Asked {
     pub fn other(&self) -> Option<&DumpFile> {
         match self {
             Asked::Job(job) => job.other(),
-            Asked::SenderKeys(_) | Asked::Events(_) => None,
+            Asked::EachSender(each) => each.pairs(),
+            Asked::EachPair(pairs) => Some(&pairs.right.file),
+            Asked::Lone(_) | Asked::Events(_) => None,
         }
     }
 
@@ -42,8 +52,10 @@ impl Asked {
     pub(crate) fn named(&self) -> Named<'_> {
         match self {
             Asked::Job(job) => job.named(),
-            Asked::SenderKeys(keys) => Named(Some(keys.file.name())),
-            Asked::Events(_) => Named(None),
+            Asked::EachSender(each) if each.has_keys() => Named(Some(each.file.name())),
+            Asked::EachSender(_) | Asked::Lone(_) | Asked::EachPair(_) | Asked::Events(_) => {
+                Named(None)
+            }
         }
     }
 
@@ -51,24 +63,34 @@ impl Asked {
     pub(crate) fn compares(&self) -> bool {
         match self {
             Asked::Job(job) => matches!(job.work, Work::Two { .. }),
-            Asked::SenderKeys(_) | Asked::Events(_) => false,
+            Asked::EachPair(_) => true,
+            Asked::EachSender(_) | Asked::Lone(_) | Asked::Events(_) => false,
         }
     }
 
     /// Whether the sender is named, so that what is said of it does not name it again.
     pub(crate) fn names_sender(&self) -> bool {
         match self {
-            Asked::Job(_) => true,
-            Asked::SenderKeys(_) => false,
+            Asked::Job(_) | Asked::Lone(_) => true,
+            Asked::EachSender(_) | Asked::EachPair(_) => false,
             Asked::Events(events) => events.sender.is_some(),
+        }
+    }
+
+    /// The sender that alone announces, if it was found.
+    pub(crate) fn lone_sender(&self) -> Option<&LoneSender> {
+        match self {
+            Asked::Lone(lone) => lone.sender.as_ref(),
+            _ => None,
         }
     }
 
     /// Whether no note comes after the output.
     pub(crate) fn is_quiet(&self) -> bool {
         match self {
-            Asked::Job(job) => job.quiet,
-            Asked::SenderKeys(keys) => keys.quiet,
+            Asked::Job(job) | Asked::Lone(Lone { job, .. }) => job.quiet,
+            Asked::EachSender(each) => each.quiet,
+            Asked::EachPair(pairs) => pairs.left.quiet,
             Asked::Events(events) => events.quiet,
         }
     }
@@ -77,8 +99,9 @@ impl Asked {
     /// `key` has none.
     pub(crate) fn json_notes(&self) -> Option<Spelling> {
         let format = match self {
-            Asked::Job(job) => job.format,
-            Asked::SenderKeys(keys) => keys.format,
+            Asked::Job(job) | Asked::Lone(Lone { job, .. }) => job.format,
+            Asked::EachSender(each) => each.format,
+            Asked::EachPair(pairs) => pairs.left.format,
             Asked::Events(events) => events.format,
         };
         let is_key = self.named().0.is_some();
@@ -91,22 +114,27 @@ impl Asked {
     /// The limits of the dumps that it reads; `None` where it reads none.
     pub(crate) fn limits(&self) -> Option<Limits> {
         match self {
-            Asked::Job(job) => match job.reading() {
+            Asked::Job(job) | Asked::Lone(Lone { job, .. }) => match job.reading() {
                 Some(reading) => Some(reading.limits),
                 None => None,
             },
-            Asked::SenderKeys(keys) => Some(keys.limits),
+            Asked::EachSender(each) => Some(each.limits),
+            Asked::EachPair(pairs) => Some(pairs.left.limits),
             Asked::Events(events) => Some(events.limits),
         }
     }
 
     /// How many octets of a capture are read at most.
     pub(crate) fn most_octets_of_capture(&self) -> Option<u32> {
-        if let Asked::Job(job) = self {
-            if let Work::Capture { reading, .. } = &job.work {
-                return Some(reading.limit);
-            }
+        match self {
+            Asked::Job(
+                Job {
+                    work: Work::Capture { reading, .. },
+                    ..
+                },
+            )
+            | Asked::Lone(Lone { reading, .. }) => Some(reading.limit),
+            _ => Some(capture_limit(self.limits()?.bytes())),
         }
-        Some(capture_limit(self.limits()?.bytes()))
     }
 }

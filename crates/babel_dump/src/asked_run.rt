@@ -4,24 +4,29 @@ ghost use Rattle.std.specs.Io.KnownBytes.{Keeps};
 ghost use Rattle.babel_dump.specs.Begun.{BeginsSo};
 ghost use Rattle.babel_dump.specs.Device.{HasRoomToWrite};
 ghost use Rattle.babel_dump.specs.Run.{output};
-ghost use Rattle.babel_dump.specs.AskedRun.{Did, DidJob, IsRefused, ToldEvents, WroteKeys};
+ghost use Rattle.babel_dump.specs.AskedRun.{Did, DidJob, GaveOn, IsJobRefused, IsRefused};
+ghost use Rattle.babel_dump.specs.AskedRun.{ToldEvents, WrotePairs, WroteSenders};
 ghost use Rattle.babel_dump.specs.Files.{reading_of};
-ghost use Rattle.babel_dump.specs.declared.asked.Asked.TheVariants as askeds;
 ghost use Rattle.babel_dump.specs.declared.run_fault.Side.TheVariants as sides;
 
+use crate::absence::Absence;
 use crate::asked::Asked;
 use crate::begun::{Begins, Begun, Whole};
 use crate::byte_in::FromReader;
 use crate::byte_out::ByteOut;
 use crate::done::Done;
+use crate::each_pair::EachPair;
+use crate::each_sender::{EachSender, SendersRead};
 use crate::events::run_events;
 use crate::events_job::Events;
+use crate::input_fault::InputFault;
 use crate::job::Job;
 use crate::job_run::run_job;
-use crate::made_keys::MadeKeys;
-use crate::run_fault::RunFault;
+use crate::run_fault::{RunFault, Side};
 use crate::says::Says;
-use crate::sender_keys::{SenderKeys, SendersRead};
+use crate::statuses::status_of_all;
+use crate::told_pairs::ToldPairs;
+use crate::told_senders::ToldSenders;
 use crate::trouble::Trouble;
 use crate::write::write_text;
 use std::alloc::Global;
@@ -50,7 +55,9 @@ pub fn run_asked<R: Read + Drop, S: Read + Drop, W: ByteOut, T: Says>(
 {
     match asked {
         Asked::Job(job) => do_job(alloc, seed, job, reader, other, writer),
-        Asked::SenderKeys(keys) => write_keys(alloc, seed, keys, reader, writer),
+        Asked::Lone(lone) => do_job(alloc, seed, &mut lone.job, reader, other, writer),
+        Asked::EachSender(each) => tell_senders(alloc, seed, each, reader, other, writer),
+        Asked::EachPair(pairs) => tell_pairs(alloc, seed, pairs, reader, other, writer),
         Asked::Events(events) => tell_events(alloc, events, reader, writer, says),
     }
 }
@@ -68,7 +75,7 @@ fn do_job<R: Read + Drop, S: Read + Drop, W: ByteOut>(
     ensures done { IfOk result (DidJob job.old seed (R.remaining reader) (S.remaining other)
         (output (W.state writer.old) (W.state writer.new))) }
     ensures refused { IfErr result
-        (IsRefused (askeds.Job job.old) (R.remaining reader) (S.remaining other)) }
+        (IsJobRefused job.old (R.remaining reader) (S.remaining other)) }
 {
     let first = Begun::new(reader);
     let second = begun_other(job, other);
@@ -96,28 +103,101 @@ fn begun_other<S: Read + Drop>(job: &Job, other: S) -> Begun<S>
     }
 }
 
-/// Reads a capture, and writes the keys of its senders.
-fn write_keys<R: Read + Drop, W: ByteOut>(
+/// Reads a capture, after the pairs that are looked up in it, and writes what is told of its senders.
+fn tell_senders<R: Read + Drop, S: Read + Drop, W: ByteOut>(
     alloc: Global,
     seed: u128,
-    keys: &SenderKeys,
+    each: &mut EachSender,
     reader: R,
+    other: S,
     writer: &mut W,
 ) -> Result<Done, Trouble>
     requires { HasRoomToWrite (W.state writer.old) }
-    ensures { IfOk result (WroteKeys keys.now (R.remaining reader)
+    ensures { IfOk result (WroteSenders each.old (R.remaining reader) (S.remaining other)
         (output (W.state writer.old) (W.state writer.new))) }
 {
     let begun = Begun::new(reader);
     if let Begins::Dump = begun.begins() {
         return Err(Trouble::NoSender);
     }
-    let SendersRead { read, tables } = keys.gather(alloc, seed, &mut begun.into_device())?;
+    let mut pairs = FromReader::new(other);
+    each.ask(alloc, &mut pairs)?;
+    let SendersRead { read, tables } = each.gather(alloc, seed, &mut begun.into_device())?;
     let done = Done::new(alloc)?;
-    let MadeKeys { senders, lines, .. } = MadeKeys::of(alloc, keys, &read, tables)?;
-    let done = done.of_senders(keys, &read, senders)?;
+    let ToldSenders {
+        senders,
+        lines,
+        statuses,
+        ..
+    } = ToldSenders::of(alloc, each, &read, tables)?;
+    let done = done.of_senders(each, &read, senders, status_of_all(&statuses))?;
     write_text(writer, &lines)?;
     Ok(done)
+}
+
+/// Reads two captures, the first to its end before the other, and writes what is told of their
+/// senders.
+fn tell_pairs<R: Read + Drop, S: Read + Drop, W: ByteOut>(
+    alloc: Global,
+    seed: u128,
+    pairs: &EachPair,
+    reader: R,
+    other: S,
+    writer: &mut W,
+) -> Result<Done, Trouble>
+    requires { HasRoomToWrite (W.state writer.old) }
+    ensures { IfOk result (WrotePairs pairs.now (R.remaining reader) (S.remaining other)
+        (output (W.state writer.old) (W.state writer.new))) }
+{
+    let (first, second) = (
+        pairs.moment_options(Side::First),
+        pairs.moment_options(Side::Other),
+    );
+    let left = gather_on(alloc, seed, &pairs.left, Side::First, first, reader)?;
+    let right = gather_on(alloc, seed, &pairs.right, Side::Other, second, other)?;
+    let done = Done::new(alloc)?;
+    let SendersRead { read, tables } = left;
+    let SendersRead {
+        read: other_read,
+        tables: other_tables,
+    } = right;
+    let ToldPairs {
+        senders,
+        lines,
+        status,
+        ..
+    } = ToldPairs::of(alloc, pairs, &read, &other_read, tables, other_tables)?;
+    let done = done.of_pairs(pairs, &read, &other_read, senders, status)?;
+    write_text(writer, &lines)?;
+    Ok(done)
+}
+
+/// Reads the capture on a side, which is to have a sender that is asked for; these options have it
+/// read from a moment and up to one.
+fn gather_on<R: Read + Drop>(
+    alloc: Global,
+    seed: u128,
+    each: &EachSender,
+    side: Side,
+    options: (&'static str, &'static str),
+    reader: R,
+) -> Result<SendersRead, Trouble>
+    ensures { IfOk result (GaveOn each.now (R.remaining reader)) }
+{
+    let begun = Begun::new(reader);
+    if let Begins::Dump = begun.begins() {
+        return Err(Trouble::NoSender);
+    }
+    match each.gather(alloc, seed, &mut begun.into_device()) {
+        Ok(read) => {
+            if read.tables.is_empty() {
+                let absent = InputFault::NoPackets(Absence::at(each.place));
+                return Err(Trouble::of_input(side, absent, options));
+            }
+            Ok(read)
+        }
+        Err(fault) => Err(Trouble::of_input(side, fault, options)),
+    }
 }
 
 /// Tells what changed in a capture, as it is read.

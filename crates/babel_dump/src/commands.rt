@@ -176,8 +176,8 @@ pub(crate) const OF_CAPTURES: [&str; 3] = ["senders", "extract", "events"];
 
 pub(crate) const OF_OCTETS: [&str; 2] = ["senders", "extract"];
 
-/// Those that need the sender of one input, and those that may need its place.
-pub(crate) const OF_SENDER: [&str; 5] = ["show", "lookup", "normalise", "pairs", "extract"];
+/// Those that are of one sender, and those that may need its place.
+pub(crate) const OF_SENDER: [&str; 2] = ["normalise", "extract"];
 
 pub(crate) const AT_PLACE: [&str; 6] = ["show", "lookup", "normalise", "key", "pairs", "extract"];
 

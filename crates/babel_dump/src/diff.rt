@@ -53,12 +53,12 @@ pub(crate) fn found_diff(
             let spelling = style.spelling;
             let heads = head_lines(alloc, spelling, file, other_file, reading, other_reading)?;
             let (lines, after) = diff_rows(alloc, view, style, heads, rows, list)?;
-            Ok(Found::rows(alloc, Format::Text(spelling), lines, after, outcome)?)
+            Ok(Found::rows(Format::Text(spelling), lines, after, outcome))
         }
         Format::Json(_) => {
             let after = stat_after(alloc, format, style.stat, rows, &list)?;
             let lines = Rows::Differences(view, list);
-            Ok(Found::rows(alloc, format, lines, after, outcome)?)
+            Ok(Found::rows(format, lines, after, outcome))
         }
     }
 }
@@ -89,7 +89,7 @@ fn diff_rows(
 }
 
 /// The lines that name the two dumps.
-fn head_lines(
+pub(crate) fn head_lines(
     alloc: Global,
     spelling: Spelling,
     file: &str,
@@ -143,7 +143,7 @@ pub(crate) fn push_place(buffer: &mut Vec<u8>, place: Option<Place>)
 
 /// How many rows are gone, new, changed, and alike, where the first dump has so many, if that is
 /// asked for.
-fn stat_after(
+pub(crate) fn stat_after(
     alloc: Global,
     format: Format,
     stat: bool,

@@ -8,20 +8,25 @@ use crate::asked::Asked;
 use crate::byte_out::FromWriter;
 use crate::capture_input::CaptureRead;
 use crate::capture_notes::CaptureNotes;
+use crate::each_pair::EachPair;
+use crate::each_sender::EachSender;
 use crate::events_job::Events;
 use crate::events_outcome::{EventsOutcome, HeardSender};
 use crate::hint::Hint;
 use crate::input_fault::InputFault;
 use crate::job::Job;
 use crate::job_run::Ran;
+use crate::lone_sender::LoneSender;
 use crate::note::Note;
 use crate::notes::Notes;
+use crate::other_sources::source_note;
 use crate::outcome::Reports;
 use crate::place_word::NamedOrigin;
 use crate::run_fault::{RunFault, Side};
 use crate::says::Says;
-use crate::sender_keys::SenderKeys;
+use crate::spelling::Spelling;
 use crate::trouble::{Trouble, say_hint};
+use crate::write::write_text;
 use babel_capture::{Gathered, Origin};
 use babel_table::Report;
 use babel_tlv::Reason;
@@ -53,6 +58,8 @@ pub struct ToldSender {
     pub name: Vec<u8>,
     /// What was read of it, or why its dump is refused.
     pub read: Result<DumpRead, InputFault>,
+    /// The capture that has it, of two.
+    pub side: Side,
 }
 
 /// What was read of the dump of a sender.
@@ -61,6 +68,8 @@ pub struct DumpRead {
     pub report: Report,
     /// How many rows of its table were not announced again in time, if none was left out for that.
     pub expired_rows: usize,
+    /// That it has routes for other sources than that of its answers.
+    pub source: Option<Note>,
 }
 
 impl ToldSender {
@@ -78,8 +87,21 @@ impl ToldSender {
     {
         let mut name = Vec::new(alloc);
         name.extend_from_slice(gathered.name(origin.place.interface))?;
-        let origin = *origin;
-        Ok(ToldSender { origin, name, read })
+        Ok(ToldSender {
+            origin: *origin,
+            name,
+            read,
+            side: Side::First,
+        })
+    }
+
+    /// The same in the capture on this side.
+    pub(crate) fn on(self, side: Side) -> ToldSender
+        ensures { result ≡ record self { side = side } }
+    {
+        let mut sender = self;
+        sender.side = side;
+        sender
     }
 
     /// The exit status by it.
@@ -136,47 +158,99 @@ impl Done {
             self.absence = Some(Absence::at(None));
         }
         self.notes.gather_followed(events, &answer)?;
-        if answer.named_report(events).is_none() {
-            for heard in answer.senders {
-                let HeardSender {
-                    origin,
-                    name,
-                    report,
-                } = heard;
-                let read = Ok(DumpRead {
-                    report,
-                    expired_rows: 0,
-                });
-                self.senders.push(ToldSender { origin, name, read })?;
-            }
+        if answer.named(events).is_none() {
+            self.add_heard(events.format.spelling(), answer)?;
         }
         Ok(self)
     }
 
-    /// What came of `key` without `--from`, of the senders of what it read, if there are any.
+    /// Adds what was heard of each sender.
+    fn add_heard(&mut self, spelling: Spelling, answer: EventsOutcome) -> Result<(), AllocError>
+        ensures { self.new.status ≡ self.old.status }
+    {
+        let EventsOutcome {
+            senders,
+            other_sources,
+            ..
+        } = answer;
+        for heard in senders {
+            let HeardSender {
+                origin,
+                name,
+                report,
+            } = heard;
+            let read = Ok(DumpRead {
+                report,
+                expired_rows: 0,
+                source: source_note(&other_sources, spelling, &origin),
+            });
+            self.senders.push(ToldSender {
+                origin,
+                name,
+                read,
+                side: Side::First,
+            })?;
+        }
+        Ok(())
+    }
+
+    /// What came of what was asked for of each sender, with the status by those that are not
+    /// refused.
     pub fn of_senders(
         mut self,
-        keys: &SenderKeys,
+        each: &EachSender,
         read: &CaptureRead,
         senders: Vec<ToldSender>,
+        status: u8,
     ) -> Result<Done, Trouble>
-        ensures status { IfOk result (λ done. done.status ≡ self.status) }
+        ensures status { IfOk result (λ done. done.status ≡ status) }
         ensures senders { IfOk result (λ done. done.senders ≡ senders) }
     {
         if senders.is_empty() {
-            let absence = Absence::at(keys.place);
+            let absence = Absence::at(each.place);
             return Err(Trouble::from(InputFault::NoPackets(absence)));
         }
+        self.add_capture(Side::First, each, read)?;
+        self.status = status;
+        self.senders = senders;
+        Ok(self)
+    }
+
+    /// What came of what was asked for of the senders in two captures and their fellows, with this
+    /// status.
+    pub fn of_pairs(
+        mut self,
+        pairs: &EachPair,
+        read: &CaptureRead,
+        other_read: &CaptureRead,
+        senders: Vec<ToldSender>,
+        status: u8,
+    ) -> Result<Done, Trouble>
+        ensures status { IfOk result (λ done. done.status ≡ status) }
+        ensures senders { IfOk result (λ done. done.senders ≡ senders) }
+    {
+        self.add_capture(Side::First, &pairs.left, read)?;
+        self.add_capture(Side::Other, &pairs.right, other_read)?;
+        self.status = status;
+        self.senders = senders;
+        Ok(self)
+    }
+
+    /// Adds what there is to know of a capture, of which each sender is told by itself.
+    fn add_capture(
+        &mut self,
+        side: Side,
+        each: &EachSender,
+        read: &CaptureRead,
+    ) -> Result<(), AllocError> {
         let capture = CaptureNotes {
             report: read.gathered.report(),
             cut: read.cut,
             are_apart: true,
             expired_rows: 0,
         };
-        let interval = keys.interval(&read.gathered);
-        self.notes.add_capture(Side::First, capture, interval)?;
-        self.senders = senders;
-        Ok(self)
+        self.notes
+            .add_capture(side, capture, each.interval(&read.gathered))
     }
 
     /// The exit status: the greatest of that of the run and those of the senders.
@@ -199,6 +273,9 @@ impl Done {
         let Some(spelling) = asked.json_notes() else {
             return Ok(());
         };
+        if let Some(lone) = asked.lone_sender() {
+            write_text(&mut FromWriter::new(&mut writer), &lone.note)?;
+        }
         self.notes.write_json(&mut FromWriter::new(&mut writer))?;
         for sender in &self.senders {
             if let Ok(read) = sender.read {
@@ -227,6 +304,10 @@ pub fn say_done<S: Says>(says: &mut S, asked: &Asked, done: &mut Done) {
 /// Says what there is to know of the inputs.
 fn say_notes<S: Says>(says: &mut S, asked: &Asked, done: &Done) {
     let file = asked.named();
+    if let Some(LoneSender { origin, name, .. }) = asked.lone_sender() {
+        let (origin, name) = (*origin, name.as_slice());
+        says.say(&format_args!("note: from {}", NamedOrigin { origin, name }));
+    }
     if let Some(report) = &done.shown {
         say_reasons(says, asked, Side::First, report);
     }
@@ -238,7 +319,7 @@ fn say_notes<S: Says>(says: &mut S, asked: &Asked, done: &Done) {
 
 /// Says the notes of a sender, or why its dump is refused.
 fn say_sender<S: Says>(says: &mut S, asked: &Asked, told: &ToldSender, notes: &mut Notes) {
-    let file = asked.named();
+    let (file, side) = (asked.named(), told.side);
     let sender = NamedOrigin {
         origin: told.origin,
         name: &told.name,
@@ -249,13 +330,13 @@ fn say_sender<S: Says>(says: &mut S, asked: &Asked, told: &ToldSender, notes: &m
                 return;
             }
             for note in notes.list() {
-                says.say(&format_args!("{file}note: {sender}: {}", note.note));
-                say_note_hints(says, asked, note.side, &note.note);
+                says.say(&format_args!("{file}note: {side}{sender}: {}", note.note));
+                say_note_hints(says, asked, side, &note.note);
             }
         }
         Err(fault) => {
-            says.say(&format_args!("{file}{sender}: {fault}"));
-            say_hint(says, &Hint::of(asked, Side::First, fault, &[]));
+            says.say(&format_args!("{file}{side}{sender}: {fault}"));
+            say_hint(says, &Hint::of(asked, side, fault, &[]));
         }
     }
 }

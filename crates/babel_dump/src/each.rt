@@ -1,4 +1,4 @@
-ghost use Rattle.std.specs.Prelude.{◌≡◌, IfOk};
+ghost use Rattle.std.specs.Prelude.{◌≡◌, IfOk, map};
 ghost use Rattle.std.specs.List.{flat_map};
 ghost use Rattle.babel_dump.specs.Device.{HasRoomToCount};
 ghost use Rattle.babel_dump.specs.Each.{GavePairsOf, LooksUpEach, RefusesPairs};
@@ -6,7 +6,7 @@ ghost use Rattle.babel_dump.specs.Given.{read_from};
 ghost use Rattle.babel_dump.specs.InFormat.{each_in};
 ghost use Rattle.babel_dump.specs.Parts.{Gathered, Says};
 ghost use Rattle.babel_dump.specs.Run.{stream_calls};
-ghost use Rattle.babel_dump.specs.RunText.{each_status};
+ghost use Rattle.babel_dump.specs.RunText.{pair_status};
 ghost use Rattle.babel_dump.specs.SlicedRows.{answered_in};
 ghost use Rattle.babel_dump.specs.declared.format.Format.{Format};
 
@@ -21,6 +21,7 @@ use crate::output::Answered;
 use crate::reading::Reading;
 use crate::run_fault::RunFault;
 use crate::slices::{Found, Rows};
+use crate::statuses::status_of_all;
 use babel_table::Table;
 use std::alloc::{AllocError, Global};
 
@@ -39,46 +40,49 @@ pub(crate) fn read_pairs<S: ByteIn>(
     asked_pairs(alloc, &text)
 }
 
-/// The lines of what a table answers for each of these pairs.
+/// The lines of what a table answers for each of these pairs, and the status of each.
 pub(crate) fn found_answers(
     alloc: Global,
     with_prefix: bool,
     format: Format,
     asked: &[AddrPair],
     table: &Table,
-) -> Result<Found, AllocError>
-    ensures { IfOk result (Says (LooksUpEach format with_prefix asked.now table.now)) }
+) -> Result<(Found, Vec<u8>), AllocError>
+    ensures found { IfOk result
+        (λ found. Says (LooksUpEach format with_prefix asked.now table.now) found.0) }
+    ensures statuses { IfOk result
+        (λ found. found.1.items ≡ map (pair_status table.now) asked.now) }
 {
-    let (answers, status) = answers(alloc, with_prefix, table, asked)?;
-    let outcome = Outcome::of_dump(status, *table.report());
+    let (answers, statuses) = answers(alloc, with_prefix, table, asked)?;
+    let outcome = Outcome::of_dump(status_of_all(&statuses), *table.report());
     let rows = Rows::Answers(answers);
-    Found::rows(alloc, format, rows, Vec::new(alloc), outcome)
+    let found = Found::rows(format, rows, Vec::new(alloc), outcome);
+    Ok((found, statuses))
 }
 
-/// What a table answers for each of these pairs, and the status that these make.
+/// What a table answers for each of these pairs, and the status of each.
 fn answers(
     alloc: Global,
     with_prefix: bool,
     table: &Table,
     asked: &[AddrPair],
-) -> Result<(Vec<Answered>, u8), AllocError>
+) -> Result<(Vec<Answered>, Vec<u8>), AllocError>
     ensures answers { IfOk result (λ answers. (format : Format)
         → flat_map (answered_in format) answers.0.items
         ≡ each_in format with_prefix table.now asked.now) }
-    ensures status { IfOk result (λ answers. answers.1 ≡ each_status table.now asked.now) }
+    ensures statuses { IfOk result
+        (λ answers. answers.1.items ≡ map (pair_status table.now) asked.now) }
 {
     let mut answers = Vec::with_capacity(alloc, asked.len())?;
-    let mut status = 0;
+    let mut statuses = Vec::with_capacity(alloc, asked.len())?;
     for pair in asked {
         let row = table.best(&pair.dst, &pair.src);
-        if lookup_status(&row) == 1 {
-            status = 1;
-        }
+        statuses.push(lookup_status(&row))?;
         answers.push(Answered {
             pair: *pair,
             row,
             with_prefix,
         })?;
     }
-    Ok((answers, status))
+    Ok((answers, statuses))
 }

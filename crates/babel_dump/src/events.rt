@@ -18,18 +18,19 @@ ghost use Rattle.babel_dump.specs.declared.speaker.Speaker.{Speaker as SpeakerSa
 use crate::absence::Absence;
 use crate::byte_in::ByteIn;
 use crate::byte_out::ByteOut;
+use crate::capture_input::refuse_left_out;
 use crate::event_line::write_event;
 use crate::events_job::Events;
 use crate::events_outcome::{EventsOutcome, HeardSender};
 use crate::follower::Follower;
 use crate::input::refuse_unread;
 use crate::input_fault::InputFault;
-use crate::left_out::first_left_out;
 use crate::moment_words::{moment_from, moments_of};
+use crate::other_sources::OtherSources;
 use crate::outcome::{Outcome, Reports};
 use crate::push_event::speaker_of;
 use crate::says::Says;
-use crate::slice_buffer::SliceBuffer;
+use crate::slice_buffer::slice_buffer;
 use crate::speaker::Speaker;
 use crate::told_filter::keeps_told;
 use crate::trouble::Trouble;
@@ -86,7 +87,7 @@ impl<'a> Followed<'a> {
         ensures empty { IfOk result (λ followed. followed.buffer.items ≡ []) }
         ensures room { IfOk result (λ followed. 512 ≤ vec_capacity followed.buffer) }
     {
-        let buffer = SliceBuffer::new(alloc)?.into_octets();
+        let buffer = slice_buffer(alloc)?;
         let (sender, place) = (events.sender, events.place);
         let wanted = Wanted { sender, place };
         let capture = Capture::within(alloc, MOST, events.window, events.accept_cut, wanted);
@@ -262,11 +263,25 @@ impl<'a> Followed<'a> {
         self.write(events, writer)?;
         let report = self.capture.gathered().report();
         refuse_senders(events.strict, &report, &senders)?;
+        let other_sources = self.other_sources()?;
         let outcome = Outcome {
             status,
             reports: Reports::Capture { report, cut },
         };
-        Ok(EventsOutcome { outcome, senders })
+        Ok(EventsOutcome {
+            outcome,
+            senders,
+            other_sources,
+        })
+    }
+
+    /// Where the answers are for any source, the routes for others, up to the moment that the
+    /// capture was read to.
+    fn other_sources(&mut self) -> Result<Option<OtherSources>, AllocError> {
+        if let Some(moment) = self.capture.moment() {
+            self.follower.expire_others(moment)?;
+        }
+        Ok(self.follower.other_sources.take())
     }
 
     /// What was heard of each sender, by place, then by address.
@@ -403,14 +418,14 @@ fn write_kept<W: ByteOut>(
     Ok(())
 }
 
-/// Refuses a capture that is read strictly where of a sender something was not read, or it has no
-/// Update: the first of these senders.
+/// Refuses a capture that is read strictly where a datagram was left out, or of a sender a TLV was
+/// ignored, or it has no Update: the first of these senders.
 fn refuse_senders(strict: bool, report: &Report, senders: &[HeardSender]) -> Result<(), Trouble>
     ensures { OnOk result (strict ≡ true → AreReadWhole report.now senders.now) }
 {
-    let left_out = first_left_out(report);
+    refuse_left_out(strict, report)?;
     for heard in senders {
-        if let Err(fault) = refuse_unread(strict, left_out, &heard.report) {
+        if let Err(fault) = refuse_unread(strict, None, &heard.report) {
             return Err(Trouble::of_sender(heard.origin, fault));
         }
     }

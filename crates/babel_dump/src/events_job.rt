@@ -30,8 +30,11 @@ pub struct Events {
     pub limits: Limits,
     /// Which fields of what is announced count: those that `--ignore` does not name.
     pub view: View,
-    /// The addresses of which the answer is told in place of the rows: `--to`, `--src`.
+    /// The addresses of which the answer is told in place of the rows: `--to`, and `--src`, or else
+    /// 0.0.0.0 or ::.
     pub pair: Option<AddrPair>,
+    /// Whether `--src` is left out, so that it is noted who has routes for other sources.
+    pub is_any_source: bool,
     /// Which changes are told: those for a key that it keeps, from or to the router-id that it asks
     /// for: `--within`, `--match`, `--source`, `--id`.
     pub filter: Filter,

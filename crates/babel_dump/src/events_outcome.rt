@@ -1,4 +1,5 @@
 use crate::events_job::Events;
+use crate::other_sources::OtherSources;
 use crate::outcome::Outcome;
 use babel_capture::Origin;
 use babel_table::Report;
@@ -10,6 +11,8 @@ pub struct EventsOutcome {
     /// What was heard of each sender at each place of which packets are read: by place, then by
     /// address.
     pub senders: Vec<HeardSender>,
+    /// Where the answers are for any source, the routes for others.
+    pub(crate) other_sources: Option<OtherSources>,
 }
 
 /// What was heard of a sender.
@@ -23,11 +26,11 @@ pub struct HeardSender {
 }
 
 impl EventsOutcome {
-    /// The report of the sender that is named, where it has packets at one place.
-    pub(crate) fn named_report(&self, events: &Events) -> Option<Report> {
+    /// What was heard of the sender that is named, where it has packets at one place.
+    pub(crate) fn named(&self, events: &Events) -> Option<&HeardSender> {
         events.sender?;
         match self.senders.as_slice() {
-            [heard] => Some(heard.report),
+            [heard] => Some(heard),
             _ => None,
         }
     }

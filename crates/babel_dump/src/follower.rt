@@ -10,6 +10,7 @@ ghost use Rattle.babel_dump.specs.Followed.{RefusesTold};
 use crate::events_job::Events;
 use crate::hearing::{Hearing, Unheard};
 use crate::left_out::LeftOutDatagram;
+use crate::other_sources::OtherSources;
 use crate::remarks::Remarks;
 use crate::says::Says;
 use crate::speaker::Speaker;
@@ -30,6 +31,8 @@ pub(crate) struct Follower<'a> {
     pub hearing: Hearing,
     /// What was told and is not written yet.
     pub told: Vec<Telling<Speaker>>,
+    /// Where the answers are for any source, the routes for others.
+    pub other_sources: Option<OtherSources>,
     /// What there is to say of what was not read.
     remarks: Remarks,
     /// Why no more is heard.
@@ -49,6 +52,7 @@ impl<'a> Follower<'a> {
             events,
             hearing: Hearing::new(alloc, events),
             told: Vec::new(alloc),
+            other_sources: other_sources(alloc, events),
             remarks: Remarks::new(alloc, events),
             fault: None,
         }
@@ -61,6 +65,45 @@ impl<'a> Follower<'a> {
         match self.fault {
             None => Ok(()),
             Some(fault) => Err(Trouble::from(fault)),
+        }
+    }
+
+    /// Hears a record, and the routes for other sources, if they are asked for.
+    fn hear_all(&mut self, told: &Record<'_>) -> Result<(), Stop>
+        ensures same { (self.new.events.now ≡ self.old.events.now)
+            × (self.new.fault ≡ self.old.fault) }
+        ensures heard { OnOk result
+            (HearsTold self.old.events.now told.now self.old self.new) }
+    {
+        self.hear(told)?;
+        Ok(self.hear_others(told)?)
+    }
+
+    /// Hears the routes for other sources, if they are asked for.
+    fn hear_others(&mut self, told: &Record<'_>) -> Result<(), Unheard>
+        ensures { (self.new.events ≡ self.old.events) × (self.new.hearing ≡ self.old.hearing)
+            × (self.new.told ≡ self.old.told) × (self.new.fault ≡ self.old.fault) }
+    {
+        let Some(others) = &mut self.other_sources else {
+            return Ok(());
+        };
+        match (told.time, &told.said) {
+            (Some(time), Said::Packet(packet)) => {
+                let (events, since) = (self.events, self.hearing.since());
+                others.hear(events, time.nanoseconds(), packet, since)
+            }
+            _ => Ok(()),
+        }
+    }
+
+    /// Takes what has expired by this moment of the routes for other sources.
+    pub(crate) fn expire_others(&mut self, until: u128) -> Result<(), AllocError>
+        ensures { (self.new.events ≡ self.old.events) × (self.new.hearing ≡ self.old.hearing)
+            × (self.new.told ≡ self.old.told) × (self.new.fault ≡ self.old.fault) }
+    {
+        match &mut self.other_sources {
+            Some(others) => others.expire(until, self.hearing.since()),
+            None => Ok(()),
         }
     }
 
@@ -212,6 +255,14 @@ impl<'a> Follower<'a> {
     }
 }
 
+/// No routes, where answers are for any source.
+fn other_sources(alloc: Global, events: &Events) -> Option<OtherSources> {
+    if !events.is_any_source {
+        return None;
+    }
+    Some(OtherSources::new(alloc, events, events.pair?))
+}
+
 /// A sender at a place, as one who speaks.
 fn speaker_at(origin: &Origin) -> Speaker
     ensures { result ≡ speaker_at origin.now }
@@ -245,7 +296,7 @@ impl Sink for Follower<'_> {
 
     fn take(&mut self, told: &Record<'_>) {
         if self.fault.is_none() {
-            if let Err(fault) = self.hear(told) {
+            if let Err(fault) = self.hear_all(told) {
                 self.fault = Some(fault);
             }
         }

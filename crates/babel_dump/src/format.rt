@@ -1,3 +1,6 @@
+ghost use Rattle.std.specs.Prelude.{◌≡◌};
+ghost use Rattle.babel_dump.specs.LoneSender.{spelling_of};
+
 use crate::spelling::Spelling;
 
 /// How a run writes what it found.
@@ -11,7 +14,9 @@ pub enum Format {
 
 impl Format {
     /// How it writes addresses.
-    pub fn spelling(self) -> Spelling {
+    pub fn spelling(self) -> Spelling
+        ensures { result ≡ spelling_of self }
+    {
         match self {
             Format::Text(spelling) | Format::Json(spelling) => spelling,
         }

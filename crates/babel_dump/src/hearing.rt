@@ -100,6 +100,11 @@ impl Hearing {
         self.teller.report(speaker)
     }
 
+    /// From which moment on it is told.
+    pub(crate) fn since(&self) -> &Since {
+        &self.since
+    }
+
     /// Hears a record of a capture; adds what is told of it, also where its packet has a fault.
     pub(crate) fn hear_record(
         &mut self,
@@ -322,7 +327,7 @@ fn nanoseconds(time: Option<Time>) -> Option<u128>
 }
 
 /// The ten-millionths of a factor, if there is one.
-fn factor(expiry: Option<Factor>) -> Option<u64>
+pub(crate) fn factor(expiry: Option<Factor>) -> Option<u64>
     ensures { result ≡ expiry }
 {
     match expiry {

@@ -3,6 +3,7 @@ ghost use Rattle.std.specs.Option.{option_copied};
 ghost use Rattle.babel_dump.specs.Files.{first_file, name_of, other_file, reading_of};
 ghost use Rattle.babel_dump.specs.Misplaced.{begun_work, misplaced_by, misplaced_in};
 ghost use Rattle.babel_dump.specs.Misplaced.{source_begun, work_begun};
+ghost use Rattle.babel_dump.specs.LoneSender.{source_with, task_with, with_sender};
 ghost use Rattle.babel_dump.specs.declared.run_fault.Side.TheVariants as sides;
 
 use crate::addr_pair::AddrPair;
@@ -17,7 +18,7 @@ use crate::reading::Reading;
 use crate::run_fault::Side;
 use crate::spelling::Spelling;
 use babel_canon::Body;
-use babel_capture::Place;
+use babel_capture::{Origin, Place, Window};
 use babel_prefix::Addr;
 use babel_tlv::View;
 use std::alloc::AllocError;
@@ -163,6 +164,18 @@ pub enum CaptureTask {
     },
 }
 
+impl CaptureTask {
+    /// Has what it writes be of this sender at its place.
+    fn send(&mut self, origin: Origin)
+        ensures { self.new ≡ task_with origin self.old }
+    {
+        if let CaptureTask::Extract { sender, place, .. } = self {
+            *sender = origin.sender;
+            *place = Some(origin.place);
+        }
+    }
+}
+
 /// How what `diff` writes looks.
 #[derive(Clone, Copy)]
 pub struct DiffStyle {
@@ -300,7 +313,7 @@ impl Job {
     pub(crate) fn moment_options(&self, side: Side) -> (&'static str, &'static str) {
         match (&self.work, side) {
             (Work::Two { first, other, .. }, Side::Other) => {
-                other_moment_options(&first.reading, &other.reading)
+                other_moment_options(&first.reading.window, &other.reading.window)
             }
             _ => ("--since", "--until"),
         }
@@ -340,7 +353,37 @@ impl Work {
     }
 }
 
+impl Work {
+    /// Has the one dump that it reads, or writes, be that of this sender at its place.
+    pub(crate) fn send(&mut self, origin: Origin)
+        ensures { self.new ≡ with_sender origin self.old }
+    {
+        match self {
+            Work::Dump { source, .. } => source.send(origin),
+            Work::Capture { task, .. } => task.send(origin),
+            Work::Each { .. } | Work::Two { .. } => {}
+        }
+    }
+
+    /// How its input is read, or the first of two, where that is a capture.
+    pub(crate) fn capture_reading(&self) -> CaptureReading {
+        match self {
+            Work::Dump { source, .. } | Work::Each { source, .. } => source.reading.of_capture(),
+            Work::Two { first, .. } => first.reading.of_capture(),
+            Work::Capture { reading, .. } => *reading,
+        }
+    }
+}
+
 impl DumpSource {
+    /// Has it be that of this sender at its place.
+    fn send(&mut self, origin: Origin)
+        ensures { self.new ≡ source_with origin self.old }
+    {
+        self.reading.sender = origin.sender;
+        self.reading.place = Some(origin.place);
+    }
+
     /// Has it be read of a capture, or not, with keys found by this seed.
     fn begin(&mut self, is_capture: bool, seed: u128)
         ensures { self.new ≡ source_begun is_capture seed self.old }
@@ -360,8 +403,6 @@ pub enum Refusal {
     /// As `Usage`: this word is taken for an option, and the command has none such. It may be a
     /// file.
     NoOption { text: String, word: String },
-    /// As `Usage`: the sender is missing of what is in this file.
-    NoSender { text: String, file: String },
     /// The words ask for help: for standard output, status 0.
     Help(String),
     /// An allocation was refused: `out of memory` on standard error, status 5.
@@ -375,9 +416,9 @@ impl From<AllocError> for Refusal {
 }
 
 /// The options that say from when and up to when packets are read of the other of two inputs.
-fn other_moment_options(first: &Reading, other: &Reading) -> (&'static str, &'static str) {
-    let (since, until) = moments_of(&first.window);
-    let (other_since, other_until) = moments_of(&other.window);
+pub(crate) fn other_moment_options(first: &Window, other: &Window) -> (&'static str, &'static str) {
+    let (since, until) = moments_of(first);
+    let (other_since, other_until) = moments_of(other);
     (
         if other_since == since {
             "--since"

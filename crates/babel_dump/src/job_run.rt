@@ -67,7 +67,7 @@ pub fn run_job<R: ByteIn, S: ByteIn, W: ByteOut>(
 {
     let found = find(alloc, job, reader, other);
     let aside = aside_of(&found);
-    let outcome = finish(writer, found)?;
+    let outcome = finish(alloc, writer, found)?;
     Ok(Ran { outcome, aside })
 }
 
@@ -130,7 +130,15 @@ pub(crate) fn find_of_dump<R: ByteIn>(
         return find_answer(alloc, source.reading, pair, with_prefix, format, reader);
     }
     let (table, notes) = read_table(alloc, source.reading, reader)?;
-    let found = found_of(alloc, source, task, format, quiet, table)?;
+    let found = found_of(
+        alloc,
+        source.reading,
+        &source.file,
+        task,
+        format,
+        quiet,
+        table,
+    )?;
     Ok(found.beside(notes, None))
 }
 
@@ -193,7 +201,7 @@ fn find_answers<R: ByteIn>(
         (Says (SaysOf dump (LooksUpEach format with_prefix asked.now))) result }
 {
     let (table, notes) = read_table(alloc, reading, reader)?;
-    let found = found_answers(alloc, with_prefix, format, asked, &table)?;
+    let (found, _) = found_answers(alloc, with_prefix, format, asked, &table)?;
     Ok(found.beside(notes, None))
 }
 
@@ -221,7 +229,9 @@ pub(crate) fn find_of_two<R: ByteIn, S: ByteIn>(
         (dump_of (reads (S.state other.old) (S.state other.new)) second.now.reading)) result }
 {
     let (seen, notes) = read_both(alloc, first.reading, second.reading, view, reader, other)?;
-    let found = found_of_both(alloc, first, second, view, task, format, seen)?;
+    let (one, two) = (first.reading, second.reading);
+    let (file, other_file) = (first.file.name(), second.file.name());
+    let found = found_of_both(alloc, one, two, view, task, format, file, other_file, seen)?;
     Ok(found.beside(notes.0, notes.1))
 }
 

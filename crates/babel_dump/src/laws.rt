@@ -1,5 +1,6 @@
 //! Laws of the definitions.
 ghost use Rattle.babel_dump.specs.ExtractLaws.{ExtractedIsFramed};
+ghost use Rattle.babel_dump.specs.Fellows.{FellowsAreMutual};
 ghost use Rattle.babel_dump.specs.FirstIgnored.{FirstIsFirst, NoneIsNone, OffsetsOfDumpsRise};
 ghost use Rattle.babel_dump.specs.FirstLeftOut.{NoneIsLeftOut, RefusedIsFirst};
 ghost use Rattle.babel_dump.specs.OneOutcome.{FaultIsOfAll, FaultIsOne, NamedIsNotSeveral};
@@ -52,4 +53,9 @@ pub fn ignored_is_first()
 pub fn left_out_is_first()
     ensures none { NoneIsLeftOut }
     ensures first { RefusedIsFirst }
+{}
+
+/// The fellow that a sender of one capture has in another has it as its own: so each is in one pair.
+pub fn fellows_are_mutual()
+    ensures { FellowsAreMutual }
 {}

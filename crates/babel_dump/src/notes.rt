@@ -23,6 +23,7 @@ use crate::job::Job;
 use crate::job_run::Ran;
 use crate::left_out::LeftOutNote;
 use crate::note::{Note, SideNote};
+use crate::other_sources::source_note;
 use crate::outcome::Reports;
 use crate::push_note::push_note_json;
 use crate::run_fault::{RunFault, Side};
@@ -30,7 +31,6 @@ use crate::sender_notes::write_sender_notes;
 use crate::spelling::Spelling;
 use crate::write::{WriteFailed, write_all, write_text};
 use babel_capture::{Report as CaptureReport, Timing};
-use babel_prefix::Addr;
 use babel_table::Report;
 use std::alloc::{AllocError, Global};
 
@@ -73,10 +73,10 @@ impl Notes {
                 self.add_read(Side::First, report, capture)
             }
             Reports::Dump(report) => self.add_dump(Side::First, report, capture),
-            Reports::AnySource(report, source) => {
+            Reports::AnySource(report, _) => {
                 self.add_dump(Side::First, report, capture)?;
-                let spelling = job.format.spelling();
-                self.add(Side::First, source_note(spelling, source))
+                let note = ran.outcome.source_note(job.format.spelling());
+                self.add(Side::First, note)
             }
             Reports::Dumps(report, other) => {
                 self.add_dump(Side::First, report, capture)?;
@@ -116,8 +116,12 @@ impl Notes {
             are_apart: false,
             expired_rows: 0,
         };
-        match answer.named_report(events) {
-            Some(heard) => self.add_dump(Side::First, heard, Some(capture)),
+        match answer.named(events) {
+            Some(heard) => {
+                self.add_dump(Side::First, heard.report, Some(capture))?;
+                let (spelling, others) = (events.format.spelling(), &answer.other_sources);
+                self.add(Side::First, source_note(others, spelling, &heard.origin))
+            }
             None => self.add_capture(Side::First, capture, report.interval()),
         }
     }
@@ -125,13 +129,11 @@ impl Notes {
     /// What there is to know of the dump of a sender in a capture, in place of what was.
     pub(crate) fn gather_sender(&mut self, read: DumpRead) -> Result<(), AllocError>
         ensures { OnOk result ((ignored : Option IgnoredNote) × (self.new.list.items
-            ≡ flat_map (told sides.First) (about_sender ignored read.report read.expired_rows))) }
+            ≡ flat_map (told sides.First)
+            (about_sender ignored read.report read.expired_rows read.source))) }
     {
         self.list.clear();
-        self.add_all(
-            Side::First,
-            &about_sender(read.report, read.expired_rows as u64),
-        )
+        self.add_all(Side::First, &about_sender(&read))
     }
 
     /// Adds a note, if there is one.
@@ -273,17 +275,16 @@ fn above(count: u64, most: u64, note: Note) -> Option<Note>
     if count > most { Some(note) } else { None }
 }
 
-/// That a lookup was for this source, if routes to its destination are source-specific.
-fn source_note(spelling: Spelling, source: Option<Addr>) -> Option<Note> {
-    Some(Note::Source(spelling, source?))
-}
-
 /// What was ignored of the dump of a sender in a capture, how many rows of its table were not
-/// announced again in time, and that it has no Update, as far as there is each.
-fn about_sender(report: Report, expired_rows: u64) -> [Option<Note>; 3]
-    ensures { (ignored : Option IgnoredNote) × (result ≡ about_sender ignored report expired_rows) }
+/// announced again in time, that it has no Update, and routes for other sources, as far as there is
+/// each.
+fn about_sender(read: &DumpRead) -> [Option<Note>; 4]
+    ensures { (ignored : Option IgnoredNote) × (result
+        ≡ about_sender ignored read.now.report read.now.expired_rows read.now.source) }
 {
-    [ignored(report), expired(expired_rows), no_updates(report)]
+    let report = read.report;
+    let expired = expired(read.expired_rows as u64);
+    [ignored(report), expired, no_updates(report), read.source]
 }
 
 /// How many rows were not announced again in time, if any.

@@ -77,7 +77,8 @@ const FLAG: OptionRow = OptionRow {
 const FROM: OptionRow = OptionRow {
     id: "from",
     takes: Takes::Word("ADDRESS"),
-    help: "The source address of the packets",
+    help: "The source address of the packets; if omitted, that of the one sender that announces in \
+           a capture",
     commands: &OF_SENDER,
     ..FLAG
 };
@@ -217,8 +218,16 @@ const FILE: OptionRow = OptionRow {
 /// Whose packets are read, and where. A command has its options in the order of this list and of
 /// those below.
 pub(crate) static SENT: &[OptionRow] = &[
+    FROM,
     OptionRow {
-        is_required: true,
+        help: "The source address of the packets; if omitted, that of the one sender that \
+               announces in a capture, or, with --count, each sender is reported",
+        commands: &["pairs"],
+        ..FROM
+    },
+    OptionRow {
+        help: "The source address of the packets; if omitted, each sender in a capture is reported",
+        commands: &["show", "lookup"],
         ..FROM
     },
     OptionRow {
@@ -227,9 +236,9 @@ pub(crate) static SENT: &[OptionRow] = &[
         ..FROM
     },
     OptionRow {
-        help: "The address that the packets of FILE were sent from",
+        help: "The address that the packets of FILE were sent from; if omitted, the senders of \
+               two captures are compared",
         commands: &OF_TWO,
-        is_required: true,
         ..FROM
     },
     OptionRow {
@@ -241,6 +250,7 @@ pub(crate) static SENT: &[OptionRow] = &[
         id: "other-from",
         help: "The address that the packets of OTHER were sent from [default: that of --from]",
         commands: &OF_TWO,
+        needs: Some("from"),
         ..FROM
     },
     INTERFACE,
@@ -304,11 +314,10 @@ pub(crate) static READ: &[OptionRow] = &[
     OptionRow {
         help: "Report changes of the answer for this destination, instead of route changes",
         commands: &["events"],
-        needs: Some("src"),
         ..TO
     },
     OptionRow {
-        help: "The source of that answer, of the destination's family",
+        help: "The source of that answer, of the destination's family [default: 0.0.0.0 or ::]",
         commands: &["events"],
         needs: Some("to"),
         ..SRC

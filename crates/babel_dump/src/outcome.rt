@@ -4,7 +4,9 @@ ghost use Rattle.babel_dump.specs.CaptureText.{senders_status};
 ghost use Rattle.babel_dump.specs.Command.{IsOutcome};
 ghost use Rattle.babel_dump.specs.Run.{run_status};
 
+use crate::note::Note;
 use crate::run_fault::RunFault;
+use crate::spelling::Spelling;
 use babel_capture::{Gathered, Report as CaptureReport};
 use babel_prefix::Addr;
 use babel_table::Report;
@@ -45,6 +47,14 @@ impl Outcome {
     {
         let reports = Reports::Dump(report);
         Outcome { status, reports }
+    }
+
+    /// That a lookup was for any source, if routes to its destination are source-specific.
+    pub(crate) fn source_note(&self, spelling: Spelling) -> Option<Note> {
+        match self.reports {
+            Reports::AnySource(_, source) => Some(Note::Source(spelling, source?)),
+            _ => None,
+        }
     }
 
     /// That of a capture of which this was gathered, and which is cut short there: the status is 1

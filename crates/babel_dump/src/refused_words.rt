@@ -10,9 +10,6 @@ use clap::error::ErrorKind;
 use std::alloc::{AllocError, Global};
 use std::fmt;
 
-/// How the text of `clap` names a required address of the sender that was not given.
-const NO_SENDER: &str = "\n  --from <ADDRESS>\n";
-
 /// How the line begins that tells of an option which the command has not.
 const UNEXPECTED: &str = "error: unexpected argument '";
 
@@ -35,11 +32,6 @@ pub(crate) fn refusal(alloc: Global, words: &[&str], error: &Error) -> Result<Re
         if let Some(word) = words.first() {
             let word = String::from_str(alloc, word)?;
             return Ok(Refusal::NoCommand { text, word });
-        }
-    }
-    if said.contains(NO_SENDER) {
-        if let Some(file) = file_without_sender(alloc, words)? {
-            return Ok(Refusal::NoSender { text, file });
         }
     }
     if let Some(word) = word_taken(words, said.as_str()) {
@@ -143,42 +135,5 @@ impl fmt::Display for CommandsWith<'_> {
             }
         }
         Ok(())
-    }
-}
-
-/// The file that words name which lack a sender, or, of `lookup`, a destination too, and nothing
-/// else.
-fn file_without_sender(alloc: Global, words: &[&str]) -> Result<Option<String>, AllocError> {
-    match file_with(alloc, words, &["--from", "::"])? {
-        Some(file) => Ok(Some(file)),
-        None => file_with(alloc, words, &["--from", "::", "--to", "::"]),
-    }
-}
-
-/// The file that words name, if they are right with these after the first.
-fn file_with(alloc: Global, words: &[&str], more: &[&str]) -> Result<Option<String>, AllocError> {
-    let Some((command_name, rest)) = words.split_first() else {
-        return Ok(None);
-    };
-    let mut all = Vec::new(alloc);
-    all.push(*command_name)?;
-    all.extend_from_slice(more)?;
-    all.extend_from_slice(rest)?;
-    let matches = match command(alloc)?.try_get_matches_from(all.as_slice()) {
-        Ok(matches) => matches,
-        Err(error) if error.kind() == ErrorKind::OutOfMemory => return Err(AllocError),
-        Err(_) => return Ok(None),
-    };
-    match matches.subcommand() {
-        Some((_, inner)) => named_file(alloc, inner.get_str("file")),
-        None => Ok(None),
-    }
-}
-
-/// The name of a file, if it is not standard input.
-fn named_file(alloc: Global, name: Option<&str>) -> Result<Option<String>, AllocError> {
-    match name {
-        None | Some("-") => Ok(None),
-        Some(name) => Ok(Some(String::from_str(alloc, name)?)),
     }
 }

@@ -1,8 +1,10 @@
 //! The routes of dumps: the rows of their tables, as a view sees them.
-ghost use Rattle.std.specs.Prelude.{◌≡◌, ◌++◌, IfErr, IfOk};
+ghost use Rattle.std.specs.Prelude.{◌≡◌, ◌++◌, IfErr, IfOk, List};
+ghost use Rattle.babel_canon.specs.Routes.{AreRouteDifferences};
+ghost use Rattle.babel_canon.specs.declared.every_difference.Difference.{Difference};
 ghost use Rattle.babel_dump.specs.Command.{IsOfMemory, Tells, TellsRoutes};
 ghost use Rattle.babel_dump.specs.Filter.{kept_rows};
-ghost use Rattle.babel_dump.specs.InFormat.{listed_in, rows_or_count_in};
+ghost use Rattle.babel_dump.specs.InFormat.{listed_in, listed_of, listing_in, rows_or_count_in};
 ghost use Rattle.babel_dump.specs.Parts.{Says};
 ghost use Rattle.babel_dump.specs.SlicedRows.{lines_of};
 
@@ -15,7 +17,7 @@ use crate::outcome::Outcome;
 use crate::output::{count_output, rows_name};
 use crate::run_fault::RunFault;
 use crate::slices::{Found, Rows};
-use babel_canon::{Difference, route_differences};
+use babel_canon::{Difference, first_route_difference, route_differences};
 use babel_table::Table;
 use babel_tlv::View;
 use std::alloc::{AllocError, Global};
@@ -35,10 +37,10 @@ pub(crate) fn found_routes(
     let outcome = Outcome::of_dump(0, *table.report());
     if count {
         let text = count_output(alloc, format, rows_name(format), filter.count(&table))?;
-        return Found::text(alloc, text, outcome);
+        return Ok(Found::text(text, outcome));
     }
     let rows = Rows::Table(filter, view, table);
-    Found::rows(alloc, format, rows, Vec::new(alloc), outcome)
+    Ok(Found::rows(format, rows, Vec::new(alloc), outcome))
 }
 
 /// The lines of the keys for which two tables hold what differs. Out of memory is the first
@@ -55,13 +57,29 @@ pub(crate) fn found_route_differences(
         seen.now.left seen.now.right)) }
     ensures err { IfErr result IsOfMemory }
 {
-    let list = route_differences(alloc, &seen.left, &seen.right)?;
+    let list = listed_differences(alloc, listed, seen)?;
     let outcome = seen.outcome(differences_status(list.len()));
     let (rows, after) = listed_rows(alloc, view, listed, format, list)?;
-    Ok(Found::rows(alloc, format, rows, after, outcome)?)
+    Ok(Found::rows(format, rows, after, outcome))
 }
 
-/// The lines of the first difference, or of each, or no line, and the line of how many there are.
+/// The differences that are listed: the first alone, or all.
+fn listed_differences(
+    alloc: Global,
+    listed: Listed,
+    seen: &SeenTables,
+) -> Result<Vec<Difference>, AllocError>
+    ensures { IfOk result (λ list. (differences : List Difference)
+        × AreRouteDifferences seen.now.left.rows seen.now.right.rows differences
+        × (list.items ≡ listed_of listed differences)) }
+{
+    match listed {
+        Listed::First => first_route_difference(alloc, &seen.left, &seen.right),
+        Listed::All | Listed::Count => route_differences(alloc, &seen.left, &seen.right),
+    }
+}
+
+/// The lines of these differences, or no line, and the line of how many there are.
 fn listed_rows(
     alloc: Global,
     view: View,
@@ -70,15 +88,10 @@ fn listed_rows(
     list: Vec<Difference>,
 ) -> Result<(Rows, Vec<u8>), AllocError>
     ensures { IfOk result (λ found.
-        lines_of format found.0 ++ found.1.items ≡ listed_in format view listed list.items) }
+        lines_of format found.0 ++ found.1.items ≡ listing_in format view listed list.items) }
 {
     match listed {
-        Listed::First => {
-            let mut list = list;
-            list.truncate(1);
-            difference_rows(alloc, view, format, list)
-        }
-        Listed::All => difference_rows(alloc, view, format, list),
+        Listed::First | Listed::All => difference_rows(alloc, view, format, list),
         Listed::Count => {
             let text = count_output(alloc, format, "differences", list.len())?;
             Ok((Rows::Empty, text))

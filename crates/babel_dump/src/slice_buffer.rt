@@ -11,23 +11,9 @@ const SLICE: usize = 65_536;
 pub(crate) const LONGEST_LINE: usize = 512;
 
 /// An empty buffer that has room for a slice of a text, and so for a line.
-#[derive(Drop)]
-pub(crate) struct SliceBuffer {
-    octets: Vec<u8>,
-    ghost empty: { octets.items ≡ [] },
-    ghost room: { 512 ≤ vec_capacity octets },
-}
-
-impl SliceBuffer {
-    pub fn new(alloc: Global) -> Result<SliceBuffer, AllocError> {
-        let octets = Vec::with_capacity(alloc, SLICE)?;
-        Ok(SliceBuffer { octets })
-    }
-
-    pub fn into_octets(self) -> Vec<u8>
-        ensures empty { result.items ≡ [] }
-        ensures room { 512 ≤ vec_capacity result }
-    {
-        self.octets
-    }
+pub(crate) fn slice_buffer(alloc: Global) -> Result<Vec<u8>, AllocError>
+    ensures empty { IfOk result (λ buffer. buffer.items ≡ []) }
+    ensures room { IfOk result (λ buffer. 512 ≤ vec_capacity buffer) }
+{
+    Ok(Vec::with_capacity(alloc, SLICE)?)
 }

@@ -13,11 +13,12 @@ use crate::compare::found_verdict;
 use crate::diff::found_diff;
 use crate::differences::found_differences;
 use crate::format::Format;
-use crate::job::{Comparison, DumpSource, Form, Listed, Task};
+use crate::job::{Comparison, DumpFile, Form, Listed, Task};
 use crate::key::found_key;
 use crate::lookup::found_answer;
 use crate::normalise::found_octets;
 use crate::pairs::found_pairs;
+use crate::reading::Reading;
 use crate::routes::{found_route_differences, found_routes};
 use crate::run_fault::RunFault;
 use crate::show::found_rows;
@@ -29,18 +30,18 @@ use std::alloc::Global;
 /// What a task finds of the table of a dump.
 pub(crate) fn found_of(
     alloc: Global,
-    source: &DumpSource,
+    reading: Reading,
+    file: &DumpFile,
     task: Task,
     format: Format,
     quiet: bool,
     table: Table,
 ) -> Result<Found, Fault>
-    ensures ok { IfOk result (Says (TaskFinds task format quiet (name_of source.now.file)
-        source.now.reading table)) }
-    ensures err { IfErr result
-        (FoundTooMany (TaskFindsTooMany task source.now.reading.limits table)) }
+    ensures ok { IfOk result (Says (TaskFinds task format quiet (name_of file.now)
+        reading table)) }
+    ensures err { IfErr result (FoundTooMany (TaskFindsTooMany task reading.limits table)) }
 {
-    let (reading, name) = (source.reading, source.file.name());
+    let name = file.name();
     match task {
         Task::Show { filter, summary } => {
             Ok(found_rows(alloc, filter, summary, quiet, format, table)?)
@@ -79,19 +80,20 @@ pub(crate) fn found_of(
 /// What a comparison finds of the tables of two dumps. Its faults are the first dump's.
 pub(crate) fn found_of_both(
     alloc: Global,
-    first: &DumpSource,
-    second: &DumpSource,
+    one: Reading,
+    two: Reading,
     view: View,
     task: Comparison,
     format: Format,
+    file: &str,
+    other_file: &str,
     seen: SeenTables,
 ) -> Result<Found, RunFault>
-    ensures ok { IfOk result (Says (ComparisonFinds task format view (name_of first.now.file)
-        (name_of second.now.file) first.now.reading second.now.reading seen.left seen.right)) }
+    ensures ok { IfOk result (Says (ComparisonFinds task format view file.now other_file.now one two
+        seen.left seen.right)) }
     ensures err { IfErr result (ComparedTooMany
-        (ComparisonFindsTooMany task first.now.reading.limits seen.left seen.right)) }
+        (ComparisonFindsTooMany task one.limits seen.left seen.right)) }
 {
-    let (one, two) = (first.reading, second.reading);
     match task {
         Comparison::Compare { form, listed } => match form {
             Form::Answers => match listed {
@@ -101,12 +103,9 @@ pub(crate) fn found_of_both(
             },
             Form::Routes => found_route_differences(alloc, view, listed, format, &seen),
         },
-        Comparison::Diff(style) => {
-            let (file, other_file) = (first.file.name(), second.file.name());
-            found_diff(
-                alloc, one, two, view, style, format, file, other_file, &seen,
-            )
-        }
+        Comparison::Diff(style) => found_diff(
+            alloc, one, two, view, style, format, file, other_file, &seen,
+        ),
     }
 }
 

@@ -29,6 +29,10 @@ pub enum Trouble {
     Misplaced(&'static str),
     /// What has no `--from` is a dump.
     NoSender,
+    /// What has no `--from` is a capture in which not one sender alone announces, but so many do.
+    NotOneSender(usize),
+    /// What has no `--from` can't be read twice, to find the sender first.
+    ReadOnce,
     /// By the capture's first packet the moment of one option is later than that of the other.
     Backwards {
         since: &'static str,
@@ -127,7 +131,11 @@ impl Trouble {
 
     /// That of a fault of the input on this side, which these options have read from a moment and
     /// up to one.
-    fn of_input(side: Side, fault: InputFault, options: (&'static str, &'static str)) -> Trouble
+    pub(crate) fn of_input(
+        side: Side,
+        fault: InputFault,
+        options: (&'static str, &'static str),
+    ) -> Trouble
         ensures status { trouble_status None result ≡ refused_status fault }
         ensures placed { misplaced_told result ≡ None }
     {
@@ -145,7 +153,11 @@ impl Trouble {
         ensures { result ≡ trouble_status None self.now }
     {
         match self {
-            Trouble::Misplaced(_) | Trouble::NoSender | Trouble::Backwards { .. } => 2,
+            Trouble::Misplaced(_)
+            | Trouble::NoSender
+            | Trouble::NotOneSender(_)
+            | Trouble::ReadOnce
+            | Trouble::Backwards { .. } => 2,
             Trouble::TooManyRoutes => 3,
             Trouble::Fault(fault) => fault.status(),
             Trouble::Sender { fault, .. } => fault.status(),
@@ -205,6 +217,7 @@ pub fn say_trouble<S: Says, R: Watched>(
             say_hint(says, &Hint::of_offset_in(*origin, fault));
         }
         Trouble::TooManyRoutes => say_hint(says, &Hint::of_routes(asked)),
+        Trouble::NotOneSender(_) => say_senders(says, asked.file()),
         _ => {}
     }
     trouble.status()
@@ -226,6 +239,12 @@ pub fn say_unwritten<S: Says>(says: &mut S, error: Option<&io::Error>) -> u8
     }
 }
 
+/// Says how to find the senders in a file.
+fn say_senders<S: Says>(says: &mut S, file: &DumpFile) {
+    let name = Escaped(file.name());
+    says.say(&format_args!("hint: babel-dump senders {name} lists the senders"));
+}
+
 /// Says the line of a trouble.
 fn say_line<S: Says>(says: &mut S, asked: &Asked, trouble: &Trouble) {
     let file = asked.named();
@@ -234,6 +253,11 @@ fn say_line<S: Says>(says: &mut S, asked: &Asked, trouble: &Trouble) {
             says.say(&format_args!("{file}{option} is for captures, and this is a dump"));
         }
         Trouble::NoSender => says.say(&format_args!("{file}a dump needs --from")),
+        Trouble::NotOneSender(0) => says.say(&"--from is needed: no sender announces here"),
+        Trouble::NotOneSender(senders) => {
+            says.say(&format_args!("--from is needed: {senders} senders announce here"));
+        }
+        Trouble::ReadOnce => says.say(&"--from is needed: only a named file is read twice"),
         Trouble::Backwards { since, until } => {
             says.say(&format_args!("{file}{since} is later than {until}"));
         }

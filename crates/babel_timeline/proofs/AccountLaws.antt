@@ -52,7 +52,7 @@ expired_later factor moment later when le ended = record { time = ended.time; en
 
 -- ---- what is left
 
-abbrev word_of : Option Row → Option Word
+abbrev pub word_of : Option Row → Option Word
 word_of row = option_map (λ (r : Row). word r.when (helds.Route r.ann)) row
 
 module _ (factor : Option ℕ) where
@@ -82,11 +82,11 @@ module _ (factor : Option ℕ) where
 -- ---- what a change says
 
 -- a change, or none, tells what was held and what is held
-abbrev Tells : {S : Type 0} → ℕ → Subject S → Option Announcement → Option Announcement → Option (Change S) → Type 0
+abbrev pub Tells : {S : Type 0} → ℕ → Subject S → Option Announcement → Option Announcement → Option (Change S) → Type 0
 Tells time subject old new None = old ≡ new
 Tells time subject old new (Some told) = (told.time ≡ time) × (told.subject ≡ subject) × (held_after told.kind ≡ new) × (old ≢ new) × (held_before told.kind ≡ old)
 
-tells_announcement : {S : Type 0} (time : ℕ) (subject : Subject S) (old : Option Row) (ann : Announcement) (told : Option (Change S)) → TellsAnnouncement time subject old ann told
+pub tells_announcement : {S : Type 0} (time : ℕ) (subject : Subject S) (old : Option Row) (ann : Announcement) (told : Option (Change S)) → TellsAnnouncement time subject old ann told
     → Tells time subject (ann_of old) (Some ann) told
 tells_announcement time subject None ann None e = absurd cc
 tells_announcement {S} time subject None ann (Some told) e =
@@ -101,7 +101,7 @@ tells_announcement {S} time subject (Some row) ann (Some told) e = (
   ap (λ (t : Change S). held_before t.kind) e.1,
 )
 
-tells_ending : {S : Type 0} (kind : Announcement → ChangeKind) → ((ann : Announcement) → held_after (kind ann) ≡ None) → ((ann : Announcement) → held_before (kind ann) ≡ Some ann)
+pub tells_ending : {S : Type 0} (kind : Announcement → ChangeKind) → ((ann : Announcement) → held_after (kind ann) ≡ None) → ((ann : Announcement) → held_before (kind ann) ≡ Some ann)
     → (time : ℕ) (subject : Subject S) (old : Option Row) → Tells time subject (ann_of old) None (ending kind time subject old)
 tells_ending kind after before time subject None = refl
 tells_ending kind after before time subject (Some row) = (refl, refl, after row.ann, λ bad. absurd cc, before row.ann)
@@ -123,7 +123,7 @@ module _ {S : Type 0} (cmp : S → S → Ordering) (total : IsTotalOrder cmp) (e
   told_by_more changes told subject =
       fold-append (λ (held : Option Announcement) (t : Change S). cond (is_at (subject_cmp cmp subject) t.subject) (held_after t.kind) held) None changes (told ∷ [])
 
-  says_step : (changes : List (Change S)) (rows after : Rows S) (subject : Subject S) (new : Option Row) (time : ℕ) (told : Option (Change S)) → Becomes cmp rows subject new after
+  pub says_step : (changes : List (Change S)) (rows after : Rows S) (subject : Subject S) (new : Option Row) (time : ℕ) (told : Option (Change S)) → Becomes cmp rows subject new after
       → SaysRows cmp changes rows → Tells time subject (ann_of (row_at cmp rows subject)) (ann_of new) told → SaysRows cmp (changes ++ option_to_list told) after
   says_step changes rows after subject new time None becomes was tells other =
       ap (λ (cs : List (Change S)). told_by cmp cs other) (append-nil changes) ∙ was other ∙ (elim (becomes_cases cmp exact rows subject new after becomes other) [

@@ -3,6 +3,7 @@ pub mod WordLaws
 pub mod HeldLaws
 pub mod MadeLaws
 pub mod AccountLaws
+pub mod MakingLaws
 pub mod KeptLaws
 pub mod EdgeLaws
 pub mod TellingLaws
@@ -17,3 +18,4 @@ pub mod WatchLaws
 pub mod CountLaws
 pub mod SilenceTold
 pub mod WatchTold
+pub mod RefusedLaws

@@ -49,10 +49,10 @@ module _ {S : Type 0} (cmp : S → S → Ordering) where
     ends_of_rows until rows after old new ends =
         record { changes = ends.changes; ends = ends.ends; told = told_of_rows asked ends.changes rows after old new ends.told }
 
-    tells_of_rows : (more : List (Said S)) (time : ℕ) (rows after : Rows S) (old new : List (Telling S)) → Tells cmp factor asked more time rows after old new
+    pub tells_of_rows : (more : List (Said S)) (time : ℕ) (rows after : Rows S) (old new : List (Telling S)) → Tells cmp factor asked more time rows after old new
         → Tells cmp factor asked more time rows after (of_rows asked old) (of_rows asked new)
     tells_of_rows more time rows after old new tells =
-        record { changes = tells.changes; account = tells.account; told = told_of_rows asked tells.changes rows after old new tells.told }
+        record { changes = tells.changes; account = tells.account; said_last = tells.said_last; told = told_of_rows asked tells.changes rows after old new tells.told }
 
   all_end-then : (factor : Option ℕ) (earlier until : ℕ) → earlier ≤ until → (rows mid after : Rows S) (changes later : List (Change S)) → AllEnd cmp factor earlier rows changes mid
       → AllEnd cmp factor until mid later after → AllEnd cmp factor until rows (changes ++ later) after

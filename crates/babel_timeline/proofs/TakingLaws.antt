@@ -4,7 +4,8 @@ use Rattle.std.proofs.Common.{refl, sym, ap, subst, ◌∙◌, append_assoc, ari
 use Rattle.std.specs.Prelude.{IfNone, IfSome, OnOk, if◌then◌else◌, option_to_list}
 use Rattle.std.specs.declared.cmp.Ordering.{Ordering}
 use Rattle.std.specs.Cmp.{IsTotalOrder}
-use Rattle.std.specs.BTreeMap.{insert_entry}
+use Rattle.std.specs.BTreeMap.{insert_entry, is_at}
+use Rattle.std.specs.List.{AllByRecursion}
 use Rattle.std.proofs.lemmas.List.{append-nil}
 use Rattle.std.proofs.lemmas.Map.Lookups.{CmpEqualImpliesEq}
 use Rattle.babel_tlv.specs.declared.event.Event.{Event}
@@ -31,14 +32,16 @@ use Rattle.babel_timeline.specs.Accounts.{IsAccount, IsLeft, Said, said, word_on
 use Rattle.babel_timeline.specs.Changes.{TellsAnnouncement, change, ending}
 use Rattle.babel_timeline.specs.Laws.{without}
 use Rattle.babel_timeline.specs.Rows.{AllLast, HasNone, IsFirstOf, Rows, row_at, subject_cmp}
-use Rattle.babel_timeline.specs.Taking.{OthersStay, Takes, TellsAnswer, changes_told}
-use Rattle.babel_timeline.specs.Telling.{AskedFor, IsAnswer, IsTold, Tells, TellsEnds, counts, said_of, seen_event}
-use Rattle.babel_timeline.proofs.AccountLaws.{announcing, each, leaving, left, retracting, silence}
-use Rattle.babel_timeline.proofs.AnswerLaws.{told_anew}
-use Rattle.babel_timeline.proofs.HeldLaws.{all_other, each_other}
+use Rattle.babel_timeline.specs.Taking.{OthersStay, Passes, Takes, TellsAnswer, changes_told}
+use Rattle.babel_timeline.specs.Telling.{AreRowsBy, AskedFor, IsAnswer, IsChangeOf, IsTold, KeepsRows, Tells, TellsEnds, answered, counts, said_of, seen_event}
+use Rattle.babel_timeline.proofs.AccountLaws.{announcing, each, leaving, left, retracting, silence, tells_announcement, tells_ending}
+use Rattle.babel_timeline.proofs.AccountLaws.{Tells as Turning}
+use Rattle.babel_timeline.proofs.AnswerLaws.{answers_stay, told_anew}
+use Rattle.babel_timeline.proofs.HeldLaws.{all_other, ann_of, each_other}
 use Rattle.babel_timeline.proofs.MadeLaws.{made_other}
-use Rattle.babel_timeline.proofs.TellingLaws.{changes_then, ends_tell, others_inserted, others_without, tells_then, told_no}
-use Rattle.babel_timeline.proofs.WordLaws.{word_more}
+use Rattle.babel_timeline.proofs.MakingLaws.{all_last, inserted_keeps, inserted_last, keeps_said, own_change, removed_keeps, removed_last, same_keeps, same_words}
+use Rattle.babel_timeline.proofs.TellingLaws.{absent_remains, changes_then, ends_tell, others_inserted, others_without, tells_then, told_no}
+use Rattle.babel_timeline.proofs.WordLaws.{all_more, word_more}
 
 -- of a sender, of whom all is retracted, some rows went so far
 pub record LeavesTo {S : Type 0} (cmp : S → S → Ordering) (factor : Option ℕ) (asked : AskedFor) (sender : S) (when : Stamp) (rows now : Rows S) (old new : List (Telling S)) : Type 0 where
@@ -47,6 +50,8 @@ pub record LeavesTo {S : Type 0} (cmp : S → S → Ordering) (factor : Option �
       → IsAccount cmp factor (Some sender) (all ++ said sender when events.RetractAll ∷ []) when.time (before ++ changes) now
   pub told : new ≡ old ++ changes_told asked changes
   pub others : OthersStay cmp sender rows now
+  pub becomes : KeepsRows cmp rows changes now
+  pub own : AllByRecursion (IsChangeOf when.time sender) changes
 
 -- what the TLVs that are left tell, after what was told so far, is what all tell
 pub record TlvsTo {S : Type 0} (cmp : S → S → Ordering) (factor : Option ℕ) (asked : AskedFor) (view : View) (sender : S) (time : ℕ) (start : Start) (all : List TlvAt) (rows : Rows S)
@@ -74,6 +79,11 @@ module _ {S : Type 0} (cmp : S → S → Ordering) (total : IsTotalOrder cmp) (e
     account = λ all moment before le account. announcing cmp total exact factor all moment before rows subject row told account (le, last) tells;
     told = is;
     others = others_inserted cmp total exact rows subject row;
+    becomes = inserted_keeps cmp total exact rows subject row told (tells_announcement row.when.time subject (row_at cmp rows subject) row.ann told tells);
+    said_last = keeps_said cmp total exact (said subject.sender row.when (events.Announce subject.key row.ann) ∷ []) rows (option_to_list told) (insert_entry (subject_cmp cmp) rows subject row)
+        (inserted_keeps cmp total exact rows subject row told (tells_announcement row.when.time subject (row_at cmp rows subject) row.ann told tells))
+        (λ all rising last. inserted_last cmp total exact rows subject row all last);
+    own = own_change row.when.time subject (ann_of (row_at cmp rows subject)) (Some row.ann) told (tells_announcement row.when.time subject (row_at cmp rows subject) row.ann told tells);
   }
 
   -- an announcement that counts, and one that does not
@@ -90,6 +100,9 @@ module _ {S : Type 0} (cmp : S → S → Ordering) (total : IsTotalOrder cmp) (e
       (subst (λ (r : Rows S). Takes cmp factor asked subject.sender (said subject.sender row.when (events.Announce subject.key seen) ∷ []) row.when.time rows r old new) (sym inserted)
       (announced_takes rows subject (record { ann = seen; when = row.when }) told old new last tells is))
 
+  goes : (time : ℕ) (subject : Subject S) (old : Option Row) → Turning time subject (ann_of old) None (ending kinds.Retracted time subject old)
+  goes time subject old = tells_ending kinds.Retracted (λ ann. refl) (λ ann. refl) time subject old
+
   pub retracted_takes : (rows after : Rows S) (subject : Subject S) (when : Stamp) (time : ℕ) (told : Option (Change S)) (old new : List (Telling S)) → AllLast cmp factor when.time rows → time ≡ when.time
       → after ≡ without cmp subject rows → told ≡ ending kinds.Retracted time subject (row_at cmp rows subject) → new ≡ old ++ changes_told asked (option_to_list told)
       → Takes cmp factor asked subject.sender (said subject.sender when (events.Retract subject.key) ∷ []) when.time rows after old new
@@ -100,6 +113,12 @@ module _ {S : Type 0} (cmp : S → S → Ordering) (total : IsTotalOrder cmp) (e
         told = is ∙ ap (λ (t : Option (Change S)). old ++ changes_told asked (option_to_list t))
             (tells ∙ ap (λ (n : ℕ). ending kinds.Retracted n subject (row_at cmp rows subject)) timely);
         others = others_without cmp total exact rows subject;
+        becomes = removed_keeps cmp total exact rows subject when.time (ending kinds.Retracted when.time subject (row_at cmp rows subject)) (goes when.time subject (row_at cmp rows subject));
+        said_last = keeps_said cmp total exact (said subject.sender when (events.Retract subject.key) ∷ []) rows (option_to_list (ending kinds.Retracted when.time subject (row_at cmp rows subject)))
+            (without cmp subject rows)
+            (removed_keeps cmp total exact rows subject when.time (ending kinds.Retracted when.time subject (row_at cmp rows subject)) (goes when.time subject (row_at cmp rows subject)))
+            (removed_last cmp total exact rows subject when);
+        own = own_change when.time subject (ann_of (row_at cmp rows subject)) None (ending kinds.Retracted when.time subject (row_at cmp rows subject)) (goes when.time subject (row_at cmp rows subject));
       })
 
   -- what speaks of no key
@@ -112,6 +131,9 @@ module _ {S : Type 0} (cmp : S → S → Ordering) (total : IsTotalOrder cmp) (e
         (silence cmp total exact factor all moment before rows sender when event account (le, last) quiet);
     told = told_no cmp total exact factor asked old asked;
     others = λ other apart. refl;
+    becomes = same_keeps cmp rows;
+    said_last = keeps_said cmp total exact (said sender when event ∷ []) rows [] rows (same_keeps cmp rows) (λ all rising was other. was other ∙ sym (same_words cmp total exact all sender when event quiet other));
+    own = tt;
   }
 
   pub not_counted_takes : (view : View) (rows : Rows S) (subject : Subject S) (row : Row) (old : List (Telling S)) → counts asked subject.key ≡ false → AllLast cmp factor row.when.time rows
@@ -121,6 +143,22 @@ module _ {S : Type 0} (cmp : S → S → Ordering) (total : IsTotalOrder cmp) (e
       subst (λ (e : Event). Takes cmp factor asked subject.sender (said subject.sender row.when e ∷ []) row.when.time rows rows old old)
       (sym (ap (λ (b : Bool). if b then events.Announce subject.key at else events.Nothing) miss))
       (silent_takes rows subject.sender row.when events.Nothing old last (λ key word. refl))
+
+  -- ---- what changes no row
+
+  pub missed_passes : (view : View) (subject : Subject S) (rows : Rows S) (ann : Announcement) → counts asked subject.key ≡ false → Passes cmp factor asked view subject.sender (events.Announce subject.key ann) rows
+  missed_passes view subject rows ann miss when told last = not_counted_takes view rows subject (record { ann = ann; when = when }) told miss last
+
+  pub unheld_passes : (view : View) (subject : Subject S) (rows : Rows S) → row_at cmp rows subject ≡ None → Passes cmp factor asked view subject.sender (events.Retract subject.key) rows
+  unheld_passes view subject rows none when told last =
+      retracted_takes rows rows subject when when.time None told told last refl (absent_remains (is_at (subject_cmp cmp subject)) rows none) (sym (ap (ending kinds.Retracted when.time subject) none))
+      (told_no cmp total exact factor asked told asked)
+
+  pub nothing_passes : (view : View) (sender : S) (rows : Rows S) → Passes cmp factor asked view sender events.Nothing rows
+  nothing_passes view sender rows when told last = silent_takes rows sender when events.Nothing told last (λ key word. refl)
+
+  pub ignored_passes : (view : View) (sender : S) (rows : Rows S) (reason : Reason) → Passes cmp factor asked view sender (events.Ignored reason) rows
+  ignored_passes view sender rows reason when told last = silent_takes rows sender when (events.Ignored reason) told last (λ key word. refl)
 
   -- ---- what retracts all
 
@@ -132,6 +170,8 @@ module _ {S : Type 0} (cmp : S → S → Ordering) (total : IsTotalOrder cmp) (e
         (leaving cmp total exact factor all moment before rows sender when account (le, last));
     told = told_no cmp total exact factor asked old asked;
     others = λ other apart. refl;
+    becomes = same_keeps cmp rows;
+    own = tt;
   }
 
   pub leaves-next : (sender : S) (when : Stamp) (rows now after : Rows S) (subject : Subject S) (one : Change S) (old mid new : List (Telling S)) → LeavesTo cmp factor asked sender when rows now old mid → IsFirstOf cmp sender now subject
@@ -151,7 +191,15 @@ module _ {S : Type 0} (cmp : S → S → Ordering) (total : IsTotalOrder cmp) (e
             ∙ ap (λ (t : List (Telling S)). old ++ t) (sym (changes_then cmp total exact factor asked asked leaves.changes (one ∷ [])));
         others = λ other apart.
             ap (λ (r : Rows S). row_at cmp r other) gone ∙ others_without cmp total exact now subject other (λ same. apart (same ∙ first.own)) ∙ leaves.others other apart;
+        becomes = λ before were.
+            subst (λ (r : Rows S). AreRowsBy cmp (before ++ (leaves.changes ++ one ∷ [])) r) (sym gone)
+            (subst (λ (cs : List (Change S)). AreRowsBy cmp cs (without cmp subject now)) (append_assoc before leaves.changes (one ∷ []))
+            (removed_keeps cmp total exact now subject when.time (Some one) turning (before ++ leaves.changes) (leaves.becomes before were)));
+        own = all_more (IsChangeOf when.time sender) leaves.changes one leaves.own (turning.0, ap (λ (s : Subject S). s.sender) turning.1 ∙ first.own);
       }
+    where
+      turning : Turning when.time subject (ann_of (row_at cmp now subject)) None (Some one)
+      turning = subst (λ (t : Option (Change S)). Turning when.time subject (ann_of (row_at cmp now subject)) None t) (sym is) (goes when.time subject (row_at cmp now subject))
 
   pub leaves-end : (sender : S) (when : Stamp) (rows now : Rows S) (old new : List (Telling S)) → HasNone cmp sender now → LeavesTo cmp factor asked sender when rows now old new
       → Takes cmp factor asked sender (said sender when events.RetractAll ∷ []) when.time rows now old new
@@ -161,6 +209,10 @@ module _ {S : Type 0} (cmp : S → S → Ordering) (total : IsTotalOrder cmp) (e
         left cmp total exact factor (all ++ said sender when events.RetractAll ∷ []) when.time (before ++ leaves.changes) now sender (leaves.account all moment before le account) none;
     told = leaves.told;
     others = leaves.others;
+    becomes = leaves.becomes;
+    said_last = keeps_said cmp total exact (said sender when events.RetractAll ∷ []) rows leaves.changes now leaves.becomes
+        (λ all rising last. all_last cmp total exact rows now sender when all leaves.others none last);
+    own = leaves.own;
   }
 
   -- ---- what a TLV tells
@@ -187,6 +239,11 @@ module _ {S : Type 0} (cmp : S → S → Ordering) (total : IsTotalOrder cmp) (e
         };
     told = takes.told;
     others = takes.others;
+    becomes = takes.becomes;
+    said_last = λ all before were.
+        let here = takes.said_last all before were in
+        record { are_rows = here.are_rows; last = λ other. here.last other ∙ sym (same all other) };
+    own = takes.own;
   }
     where
       same : (all : List (Said S)) (other : Subject S) → word_on cmp (all ++ said sender when events.Nothing ∷ []) other ≡ word_on cmp (all ++ said sender when (events.Ignored reason) ∷ []) other
@@ -219,6 +276,43 @@ module _ {S : Type 0} (cmp : S → S → Ordering) (total : IsTotalOrder cmp) (e
       (subst (λ (w : Stamp). Takes cmp factor asked sender (said sender w (seen_event asked view event) ∷ []) w.time rows after old new) timed
       (subst (λ (f : Option ℕ). Takes cmp f asked sender (said sender when (seen_event asked view event) ∷ []) when.time rows after old new) same takes))
 
+  -- where what passes was said, nothing is told but what has expired
+  same_tells : (sender : S) (more : List (Said S)) (time : ℕ) (rows : Rows S) (old : List (Telling S)) → Takes cmp factor asked sender more time rows rows old old → Tells cmp factor asked more time rows rows old old
+  same_tells sender more time rows old takes =
+      record { changes = takes.changes; account = takes.account; said_last = λ none. takes.said_last; told = by asked takes.told }
+    where
+      by : (a : AskedFor) → old ≡ old ++ changes_told a takes.changes → IsTold cmp a takes.changes rows rows old old
+      by None is = is
+      by (Some pair) is = (
+        [],
+        is,
+        λ earlier told are.
+            let answer : Option BestMatch = answered cmp told sender in
+            let last = are.stand.last sender in
+            answers_stay cmp total exact pair rows rows sender takes.others time earlier takes.changes takes.becomes takes.own answer answer last last told are refl,
+      )
+
+  pub passed_tells : (view : View) (sender : S) (time : ℕ) (its_factor : Option ℕ) (context : Context) (tlv : TlvAt) (event : Event) (rows mid : Rows S) (old ended : List (Telling S)) → its_factor ≡ factor
+      → TellsEnds cmp factor asked time rows mid old ended → AllLast cmp factor time mid → Ok event ≡ says.said context tlv → Passes cmp its_factor asked view sender event mid
+      → Tells cmp factor asked (said_of asked view sender (told_at time context tlv ∷ [])) time rows mid old ended
+  passed_tells view sender time its_factor context tlv event rows mid old ended same ends last is passes =
+      let more : List (Said S) = said_of asked view sender (told_at time context tlv ∷ []) in
+      let when : Stamp = (told_at time context tlv).when in
+      tells_then cmp total exact factor asked [] more time rows mid mid old ended ended (ends_tell cmp total exact factor asked time rows mid old ended ends)
+      (same_tells sender more time mid ended
+      (tlv_takes view sender time its_factor when context tlv event mid mid ended ended same refl is (passes when ended (subst (λ (f : Option ℕ). AllLast cmp f time mid) (sym same) last))))
+
+  -- where no addresses are asked for, what was taken is told as it is
+  pub unasked_tells : (sender : S) (more : List (Said S)) (time : ℕ) (rows mid after : Rows S) (old ended new : List (Telling S)) → asked ≡ None → TellsEnds cmp factor asked time rows mid old ended
+      → Takes cmp factor asked sender more time mid after ended new → Tells cmp factor asked more time rows after old new
+  unasked_tells sender more time rows mid after old ended new none ends takes =
+      tells_then cmp total exact factor asked [] more time rows mid after old ended new (ends_tell cmp total exact factor asked time rows mid old ended ends)
+      (record { changes = takes.changes; account = takes.account; said_last = λ none. takes.said_last; told = by asked none takes.told })
+    where
+      by : (a : AskedFor) → a ≡ None → new ≡ ended ++ changes_told a takes.changes → IsTold cmp a takes.changes mid after ended new
+      by None is told = told
+      by (Some pair) is told = absurd cc
+
   -- what was taken is told, once what has expired was
   pub taken_tells : (sender : S) (more : List (Said S)) (time : ℕ) (rows mid after : Rows S) (before : Option BestMatch) (old ended changed new : List (Telling S))
       → TellsEnds cmp factor asked time rows mid old ended → IfNone asked (before ≡ None) → IfSome asked (λ pair. IsAnswer cmp pair mid sender before)
@@ -227,7 +321,8 @@ module _ {S : Type 0} (cmp : S → S → Ordering) (total : IsTotalOrder cmp) (e
       tells_then cmp total exact factor asked [] more time rows mid after old ended new (ends_tell cmp total exact factor asked time rows mid old ended ends) (record {
         changes = takes.changes;
         account = takes.account;
-        told = told_anew cmp total exact asked takes.changes mid after time sender before ended changed new none was takes.told takes.others tells;
+        said_last = λ none. takes.said_last;
+        told = told_anew cmp total exact asked takes.changes mid after time sender before ended changed new none was takes.told takes.others takes.becomes takes.own tells;
       })
 
   -- what is held for a subject ends, and is told
@@ -240,7 +335,12 @@ module _ {S : Type 0} (cmp : S → S → Ordering) (total : IsTotalOrder cmp) (e
       let both : Some one ≡ Some goes = ends ∙ ap (λ (s : Subject S). ending kinds.Expired time s (row_at cmp rows s)) (sym same) ∙ ap (ending kinds.Expired time subject) held in
       subst (λ (t : Change S). IsTold cmp asked (t ∷ []) rows after old new) (let here : goes ≡ one = cc in here)
       (told_anew cmp total exact asked (goes ∷ []) rows after time subject.sender before old mid new none was is
-      (λ other apart. ap (λ (r : Rows S). row_at cmp r other) gone ∙ others_without cmp total exact rows subject other apart) tells)
+      (λ other apart. ap (λ (r : Rows S). row_at cmp r other) gone ∙ others_without cmp total exact rows subject other apart)
+      (subst (λ (r : Rows S). KeepsRows cmp rows (goes ∷ []) r) (sym gone) (removed_keeps cmp total exact rows subject time (Some goes) turning)) ((refl, refl), tt) tells)
+    where
+      turning : Turning time subject (ann_of (row_at cmp rows subject)) None (Some (change time subject (kinds.Expired row.ann)))
+      turning = subst (λ (r : Option Row). Turning time subject (ann_of r) None (Some (change time subject (kinds.Expired row.ann)))) (sym held)
+          (tells_ending kinds.Expired (λ ann. refl) (λ ann. refl) time subject (Some row))
 
   -- ---- the TLVs of a body
 

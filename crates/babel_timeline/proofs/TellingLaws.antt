@@ -19,9 +19,9 @@ use Rattle.babel_timeline.specs.declared.telling.Telling.TheVariants as tellings
 use Rattle.babel_timeline.specs.Accounts.{IsAccount, Said, word_on}
 use Rattle.babel_timeline.specs.Changes.{change, ending}
 use Rattle.babel_timeline.specs.Laws.{without}
-use Rattle.babel_timeline.specs.Rows.{AllLast, EndsFirst, IsFirstOf, Rows, row_at, subject_cmp}
+use Rattle.babel_timeline.specs.Rows.{AllLast, EndsFirst, IsFirstOf, Rows, end_of, row_at, subject_cmp}
 use Rattle.babel_timeline.specs.Taking.{OthersStay, changes_told}
-use Rattle.babel_timeline.specs.Telling.{AllEnd, AreAnswers, AskedFor, IsTold, KeepsAccount, Tells, TellsEnds}
+use Rattle.babel_timeline.specs.Telling.{AllEnd, AreAnswers, AreLastSaid, AskedFor, IsTold, KeepsAccount, Tells, TellsEnds}
 use Rattle.babel_timeline.proofs.AccountLaws.{each_by, expiring, left_later}
 use Rattle.babel_timeline.proofs.HeldLaws.{all_later}
 use Rattle.babel_timeline.proofs.Subjects.{becomes_cases, becomes_inserted, same_or, subject_exact}
@@ -37,6 +37,14 @@ stays {X = X} test gone apart (e ∷ es) = by (stays test gone apart es) (gone e
     by again true is_b true is_c = absurd (let miss = apart e.0 is_c in cc)
     by again true is_b false is_c = refl
     by again false is_b c is_c = ap (λ (b : Bool). cond b (Some e.1) (lookup test (remove_entry gone es))) is_c ∙ ap (λ (o : Option X). cond c (Some e.1) o) again
+
+pub absent_remains : {K X : Type 0} (test : K → Bool) (es : List (K × X)) → lookup test es ≡ None → es ≡ remove_entry test es
+absent_remains test [] none = refl
+absent_remains {K} {X} test (e ∷ es) none = by (absent_remains test es) (test e.0) none
+  where
+    by : (lookup test es ≡ None → es ≡ remove_entry test es) → (b : Bool) → cond b (Some e.1) (lookup test es) ≡ None → (e ∷ es) ≡ cond b es (e ∷ remove_entry test es)
+    by again true none = absurd cc
+    by again false none = ap (λ (l : List (K × X)). e ∷ l) (again none)
 
 fewer : {K X : Type 0} (test : K → Bool) (es : List (K × X)) → IsSome (lookup test es) → length (remove_entry test es) < length es
 fewer test [] held = absurd cc
@@ -135,6 +143,14 @@ module _ {S : Type 0} (cmp : S → S → Ordering) (total : IsTotalOrder cmp) (e
       | inr le ↦ (until, ended until changes rows after ends all moment before le account, λ bound a b. b)
     ]
 
+    -- without a factor nothing expires
+    pub none_expire : factor ≡ None → (until : ℕ) (changes : List (Change S)) (rows after : Rows S) → AllEnd cmp factor until rows changes after → (all : List (Said S)) (before : List (Change S))
+        → AreLastSaid cmp all before rows → AreLastSaid cmp all (before ++ changes) after
+    none_expire none until [] rows after ends all before were =
+        subst (λ (cs : List (Change S)). AreLastSaid cmp all cs after) (sym (append-nil before)) (subst (λ (r : Rows S). AreLastSaid cmp all before r) ends.0 were)
+    none_expire none until (told ∷ later) rows after ends all before were =
+        absurd (let end : end_of None ends.0.ends.row.when ≡ Some told.time = ap (λ (f : Option ℕ). end_of f ends.0.ends.row.when) (sym none) ∙ ends.0.ends.end in let bad : None ≡ Some told.time = end in cc)
+
     -- one after the other
     pub keeps_then : (first second : List (Said S)) (time : ℕ) (rows mid after : Rows S) (a b : List (Change S)) → KeepsAccount cmp factor first time rows a mid → KeepsAccount cmp factor second time mid b after
         → KeepsAccount cmp factor (first ++ second) time rows (a ++ b) after
@@ -157,7 +173,12 @@ module _ {S : Type 0} (cmp : S → S → Ordering) (total : IsTotalOrder cmp) (e
 
       pub is_told-no : (a : AskedFor) (rows : Rows S) (old : List (Telling S)) → IsTold cmp a [] rows rows old old
       is_told-no None rows old = sym (append-nil old)
-      is_told-no (Some pair) rows old = ([], sym (append-nil old), λ before are. subst (λ (t : List (Telling S)). AreAnswers cmp pair t rows) (sym (append-nil before)) are)
+      is_told-no (Some pair) rows old = (
+        [],
+        sym (append-nil old),
+        λ earlier before are. subst (λ (cs : List (Change S)). AreAnswers cmp pair cs (before ++ []) rows) (sym (append-nil earlier))
+            (subst (λ (t : List (Telling S)). AreAnswers cmp pair earlier t rows) (sym (append-nil before)) are),
+      )
 
       pub is_told-then : (q : AskedFor) (rows mid after : Rows S) (first second : List (Change S)) (a b c : List (Telling S)) → IsTold cmp q first rows mid a b → IsTold cmp q second mid after b c
           → IsTold cmp q (first ++ second) rows after a c
@@ -167,7 +188,9 @@ module _ {S : Type 0} (cmp : S → S → Ordering) (total : IsTotalOrder cmp) (e
       is_told-then (Some pair) rows mid after first second a b c one two = (
         one.0 ++ two.0,
         two.1 ∙ ap (λ (t : List (Telling S)). t ++ two.0) one.1 ∙ append_assoc a one.0 two.0,
-        λ before are. subst (λ (t : List (Telling S)). AreAnswers cmp pair t after) (append_assoc before one.0 two.0) (two.2 (before ++ one.0) (one.2 before are)),
+        λ earlier before are. subst (λ (cs : List (Change S)). AreAnswers cmp pair cs (before ++ (one.0 ++ two.0)) after) (append_assoc earlier first second)
+            (subst (λ (t : List (Telling S)). AreAnswers cmp pair ((earlier ++ first) ++ second) t after) (append_assoc before one.0 two.0)
+            (two.2 (earlier ++ first) (before ++ one.0) (one.2 earlier before are))),
       )
 
       pub tells_then : (first second : List (Said S)) (time : ℕ) (rows mid after : Rows S) (a b c : List (Telling S)) → Tells cmp factor asked first time rows mid a b
@@ -175,11 +198,21 @@ module _ {S : Type 0} (cmp : S → S → Ordering) (total : IsTotalOrder cmp) (e
       tells_then first second time rows mid after a b c one two = record {
         changes = one.changes ++ two.changes;
         account = keeps_then first second time rows mid after one.changes two.changes one.account two.account;
+        said_last = λ none all before were.
+            subst (λ (s : List (Said S)). AreLastSaid cmp s (before ++ (one.changes ++ two.changes)) after) (append_assoc all first second)
+            (subst (λ (cs : List (Change S)). AreLastSaid cmp ((all ++ first) ++ second) cs after) (append_assoc before one.changes two.changes)
+            (two.said_last none (all ++ first) (before ++ one.changes) (one.said_last none all before were)));
         told = is_told-then asked rows mid after one.changes two.changes a b c one.told two.told;
       }
 
       pub ends_tell : (until : ℕ) (rows after : Rows S) (old new : List (Telling S)) → TellsEnds cmp factor asked until rows after old new → Tells cmp factor asked [] until rows after old new
-      ends_tell until rows after old new ends = record { changes = ends.changes; account = ends_keep until ends.changes rows after ends.ends; told = ends.told }
+      ends_tell until rows after old new ends = record {
+        changes = ends.changes;
+        account = ends_keep until ends.changes rows after ends.ends;
+        said_last = λ none all before were.
+            subst (λ (s : List (Said S)). AreLastSaid cmp s (before ++ ends.changes) after) (sym (append-nil all)) (none_expire none until ends.changes rows after ends.ends all before were);
+        told = ends.told;
+      }
 
       -- ---- all that ends, one by one
 

@@ -7,6 +7,7 @@ pub mod Laws
 pub mod Telling
 pub mod BestAnswers
 pub mod Taking
+pub mod Refusing
 pub mod Hearing
 pub mod RequestsTold
 pub mod Silence

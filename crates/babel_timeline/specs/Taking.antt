@@ -1,14 +1,19 @@
 -- The steps by which a packet's TLVs are taken and told: this project's own.
 use Rattle.std.specs.Prelude.{◌≡◌, ◌≢◌, ℕ, List, [], ◌∷◌, ◌++◌, ◌⊎◌, map, Option, Some, None}
+use Rattle.std.specs.List.{AllByRecursion}
 use Rattle.std.specs.declared.cmp.Ordering.{Ordering}
 use Rattle.babel_timeline.specs.declared.best_match.BestMatch.{BestMatch}
 use Rattle.babel_timeline.specs.declared.change.Change.{Change}
 use Rattle.babel_timeline.specs.declared.subject.Subject.{Subject}
 use Rattle.babel_timeline.specs.declared.telling.Telling.{Telling}
 use Rattle.babel_timeline.specs.declared.telling.Telling.TheVariants as tellings
-use Rattle.babel_timeline.specs.Accounts.{Said}
-use Rattle.babel_timeline.specs.Rows.{Held, Rows, row_at}
-use Rattle.babel_timeline.specs.Telling.{AskedFor, IsAnswer, KeepsAccount}
+use Rattle.babel_tlv.specs.declared.event.Event.{Event}
+use Rattle.babel_tlv.specs.declared.view.View.{View}
+use Rattle.babel_table.specs.Moments.{Stamp}
+use Rattle.babel_timeline.specs.Accounts.{Said, said}
+use Rattle.babel_timeline.specs.Rows.{AllLast, Held, Rows, row_at}
+use Rattle.babel_timeline.specs.Telling.{AskedFor, IsAnswer, IsChangeOf, KeepsAccount, KeepsRows}
+use Rattle.babel_timeline.specs.Telling.{KeepsSaid, seen_event}
 
 -- only the rows change
 abbrev pub KeepsBounds : {S : Type 0} → Held S → Held S → Type 0
@@ -41,3 +46,13 @@ module _ {S : Type 0} (cmp : S → S → Ordering) where
     pub account : KeepsAccount cmp factor more time rows changes after
     pub told : new ≡ old ++ changes_told asked changes
     pub others : OthersStay sender rows after
+    pub becomes : KeepsRows cmp rows changes after
+    pub said_last : KeepsSaid cmp more rows changes after
+    pub own : AllByRecursion (IsChangeOf time sender) changes
+
+  -- what a sender says changes no row and tells nothing, whenever it is said
+  abbrev pub Passes : Option ℕ → AskedFor → View → S → Event → Rows S → Type 0
+  Passes factor asked view sender event rows =
+      (when : Stamp) (told : List (Telling S)) → AllLast cmp factor when.time rows
+      → Takes factor asked sender (said sender when (seen_event asked view event) ∷ []) when.time
+      rows rows told told

@@ -3,29 +3,35 @@ use Rattle.std.specs.Prelude.{◌≡◌, ◌≢◌, ℕ, ◌+◌, ◌≤◌, ◌
 use Rattle.std.specs.Prelude.{[], ◌∷◌, ◌++◌, map, fold, Option, Some, None}
 use Rattle.std.specs.declared.cmp.Ordering.{Ordering}
 use Rattle.std.specs.BTreeMap.{is_at}
-use Rattle.std.specs.List.{filter}
+use Rattle.std.specs.List.{AllByRecursion, filter, flat_map}
+use Rattle.std.specs.List.Sorted.{IsStrictlySortedBy}
+use Rattle.std.specs.Map.{keys_of}
+use Rattle.std.specs.Option.{option_map}
 use Rattle.babel_prefix.specs.Address.{Address, AddressPrefix, prefix_at}
 use Rattle.babel_prefix.specs.Block.{leading_bits}
 use Rattle.babel_prefix.specs.Width.{same_family, width_of}
 use Rattle.babel_tlv.specs.declared.event.Event.{Event}
 use Rattle.babel_tlv.specs.declared.event.Event.TheVariants as events
+use Rattle.babel_tlv.specs.declared.held.Held.TheVariants as helds
 use Rattle.babel_tlv.specs.declared.start.Start.{Start}
 use Rattle.babel_tlv.specs.declared.view.View.{View}
 use Rattle.babel_tlv.specs.Context.{first_context}
 use Rattle.babel_tlv.specs.Framing.{ArePlaced, TlvAt, packet_octets}
 use Rattle.babel_tlv.specs.Route.{RouteKey}
 use Rattle.babel_tlv.specs.Views.{seen_announcement}
-use Rattle.babel_table.specs.Moments.{Told, told_from}
+use Rattle.babel_table.specs.Moments.{Told, told_from, word}
 use Rattle.babel_timeline.specs.declared.best_match.BestMatch.{BestMatch}
 use Rattle.babel_timeline.specs.declared.change.Change.{Change}
 use Rattle.babel_timeline.specs.declared.change.ChangeKind.TheVariants as kinds
 use Rattle.babel_timeline.specs.declared.row.Row.{Row}
+use Rattle.babel_timeline.specs.declared.subject.Subject.{Subject}
 use Rattle.babel_timeline.specs.declared.telling.Telling.{Telling}
 use Rattle.babel_timeline.specs.declared.telling.Telling.TheVariants as tellings
-use Rattle.babel_timeline.specs.Accounts.{IsAccount, Said, said}
-use Rattle.babel_timeline.specs.Changes.{ending}
+use Rattle.babel_timeline.specs.Accounts.{IsAccount, Said, said, word_on}
+use Rattle.babel_timeline.specs.Changes.{ending, told_by}
 use Rattle.babel_timeline.specs.Laws.{without}
 use Rattle.babel_timeline.specs.Rows.{AllLast, EndsFirst, HasNoneUpTo, IsLastUpTo, Rows, row_at}
+use Rattle.babel_timeline.specs.Rows.{subject_cmp}
 
 -- ---- what is said
 
@@ -75,6 +81,31 @@ of_rows (Some pair) told = told
 
 -- ---- answers
 
+-- changes, and the answers that they made
+abbrev pub Making : Type 0 → Type 0
+Making S = List (Change S) × List (Telling S)
+
+abbrev pub changes_in : {S : Type 0} → List (Making S) → List (Change S)
+changes_in makings = flat_map (λ making. making.0) makings
+
+abbrev pub answers_in : {S : Type 0} → List (Making S) → List (Telling S)
+answers_in makings = flat_map (λ making. making.1) makings
+
+-- it is of this time and this sender
+abbrev pub IsChangeOf : {S : Type 0} → ℕ → S → Change S → Type 0
+IsChangeOf time sender told = (told.time ≡ time) × (told.subject.sender ≡ sender)
+
+abbrev pub IsAnswerOf : {S : Type 0} → ℕ → S → Telling S → Type 0
+IsAnswerOf time sender told = (answer : Option BestMatch) × (before : Option BestMatch)
+    × (told ≡ tellings.Answer time sender answer before)
+
+-- the changes are of one time and one sender, and so are the answers
+pub record IsOfOne {S : Type 0} (making : Making S) : Type 0 where
+  pub time : ℕ
+  pub sender : S
+  pub changes : AllByRecursion (IsChangeOf time sender) making.0
+  pub answers : AllByRecursion (IsAnswerOf time sender) making.1
+
 -- the key of the two addresses alone
 abbrev pub key_alone : Address × Address → RouteKey
 key_alone pair = record {
@@ -112,25 +143,74 @@ module _ {S : Type 0} (cmp : S → S → Ordering) where
   AnswersAnew earlier (tellings.Silent time sender since routes) = ⊥
   AnswersAnew earlier (tellings.Returns time sender) = ⊥
 
-  -- the tellings are answers, the last of each sender is what it answers, and each tells that
-  -- before it, and another one
-  pub record AreAnswers (pair : Address × Address) (told : List (Telling S)) (rows : Rows S)
+  -- ---- what makes answers
+
+  -- the rows are what the changes say is held
+  pub record AreRowsBy (changes : List (Change S)) (rows : Rows S) : Type 0 where
+    pub rising : IsStrictlySortedBy (subject_cmp cmp) (keys_of rows)
+    pub told : (subject : Subject S)
+        → told_by cmp changes subject ≡ option_map (λ row. row.ann) (row_at cmp rows subject)
+
+  -- with these changes, the rows become those after
+  abbrev pub KeepsRows : Rows S → List (Change S) → Rows S → Type 0
+  KeepsRows rows changes after =
+      (before : List (Change S)) → AreRowsBy before rows → AreRowsBy (before ++ changes) after
+
+  -- the rows are what was said last, whenever that was
+  abbrev pub AreLastWords : List (Said S) → Rows S → Type 0
+  AreLastWords all rows = (subject : Subject S)
+      → option_map (λ row. word row.when (helds.Route row.ann)) (row_at cmp rows subject)
+      ≡ word_on cmp all subject
+
+  -- the rows are what the changes say is held, and what was said last
+  pub record AreLastSaid (all : List (Said S)) (changes : List (Change S)) (rows : Rows S)
       : Type 0 where
+    pub are_rows : AreRowsBy changes rows
+    pub last : AreLastWords all rows
+
+  -- with what is said, and these changes, the rows become those after
+  abbrev pub KeepsSaid : List (Said S) → Rows S → List (Change S) → Rows S → Type 0
+  KeepsSaid more rows changes after = (all : List (Said S)) (before : List (Change S))
+      → AreLastSaid all before rows → AreLastSaid (all ++ more) (before ++ changes) after
+
+  -- by these changes, the last answer of each sender is what it answers
+  pub record Stand (pair : Address × Address) (changes : List (Change S))
+      (told : List (Telling S)) (rows : Rows S) : Type 0 where
+    pub are_rows : AreRowsBy changes rows
     pub last : (sender : S) → IsAnswer pair rows sender (answered told sender)
+
+  -- The answers are made by the changes: in order, some changes of one sender at one time, and its
+  -- answer then, if that is another one. After each of these, and at first, what each sender answered
+  -- last is what it answers by the changes so far.
+  pub record AreMadeBy (pair : Address × Address) (changes : List (Change S))
+      (told : List (Telling S)) : Type 0 where
+    pub makings : List (Making S)
+    pub changes_are : changes ≡ changes_in makings
+    pub told_are : told ≡ answers_in makings
+    pub own : AllByRecursion IsOfOne makings
+    pub each : (front back : List (Making S)) → makings ≡ front ++ back
+        → (rows : Rows S) × Stand pair (changes_in front) (answers_in front) rows
+
+  -- the tellings are answers, each with that before it, and another one; changes made them; and the
+  -- last of each sender is what it answers
+  pub record AreAnswers (pair : Address × Address) (changes : List (Change S))
+      (told : List (Telling S)) (rows : Rows S) : Type 0 where
+    pub stand : Stand pair changes told rows
     pub anew : (before after : List (Telling S)) (one : Telling S)
         → told ≡ before ++ one ∷ after → AnswersAnew before one
+    pub made : AreMadeBy pair changes told
 
   -- ---- what is told
 
-  -- each change; or, where addresses are asked for, answers: if there were answers before, there
-  -- are after
+  -- each change; or, where addresses are asked for, the answers that these make
   abbrev pub IsTold : AskedFor → List (Change S) → Rows S → Rows S → List (Telling S)
       → List (Telling S) → Type 0
   IsTold None changes rows after old new = new ≡ old ++ map tellings.Change changes
   IsTold (Some pair) changes rows after old new =
       (answers : List (Telling S)) × (new ≡ old ++ answers)
-      × ((before : List (Telling S)) → AreAnswers pair before rows
-      → AreAnswers pair (before ++ answers) after)
+      × ((earlier : List (Change S)) (before : List (Telling S))
+      → AreAnswers pair earlier before rows
+      → AreAnswers pair (earlier ++ changes) (before ++ answers) after)
 
   module _ (factor : Option ℕ) where
     -- what ends until this time, in order, and nothing else
@@ -156,11 +236,13 @@ module _ {S : Type 0} (cmp : S → S → Ordering) where
         pub ends : AllEnd until rows changes after
         pub told : IsTold asked changes rows after old new
 
-      -- what changes by what is said until this time is told
+      -- what changes by what is said until this time is told; where nothing expires, whatever the
+      -- times of what was said before
       pub record Tells (more : List (Said S)) (time : ℕ) (rows after : Rows S)
           (old new : List (Telling S)) : Type 0 where
         pub changes : List (Change S)
         pub account : KeepsAccount more time rows changes after
+        pub said_last : factor ≡ None → KeepsSaid more rows changes after
         pub told : IsTold asked changes rows after old new
 
       -- the packet, which lies at this offset and came at this time, is TLVs, and what changes by

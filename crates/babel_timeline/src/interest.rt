@@ -1,11 +1,12 @@
 //! What is told of what senders hold.
 ghost use Rattle.std.specs.Prelude.{◌≡◌, ◌+◌, ◌<◌, ◌^◌, ◌∷◌, ◌++◌, [], List, Some, length};
-ghost use Rattle.std.specs.Prelude.{IfNone, IfOk, IfSome, IsSome, None, Ok, OnOk, slice_index};
+ghost use Rattle.std.specs.Prelude.{◌≢◌, ◌⊎◌, IfErr, IfNone, IfOk, IfSome, IsSome, IsTrue, None, Ok};
+ghost use Rattle.std.specs.Prelude.{OnOk, slice_index};
 ghost use Rattle.babel_tlv.specs.declared.event.Event.TheVariants as events;
 ghost use Rattle.babel_tlv.specs.declared.start.Start.{Start as StartValue};
 ghost use Rattle.babel_tlv.specs.Context.{context_after, first_context};
 ghost use Rattle.babel_tlv.specs.EventKinds.{event_of};
-ghost use Rattle.babel_tlv.specs.FrameFaults.{AreTlvs};
+ghost use Rattle.babel_tlv.specs.FrameFaults.{AreTlvs, TlvPastEndAt};
 ghost use Rattle.babel_tlv.specs.Frames.{tlv_value};
 ghost use Rattle.babel_tlv.specs.Framing.{TlvAt, tlvs_of};
 ghost use Rattle.babel_tlv.specs.Says.{said as said_at, sayings_after};
@@ -18,8 +19,9 @@ ghost use Rattle.babel_timeline.specs.Changes.{ending};
 ghost use Rattle.babel_timeline.specs.Hearing.{CountsMore};
 ghost use Rattle.babel_timeline.specs.Kept.{expiring};
 ghost use Rattle.babel_timeline.specs.Laws.{without};
+ghost use Rattle.babel_timeline.specs.Refusing.{RefusesEvent, RefusesTlv, RefusesTlvs};
 ghost use Rattle.babel_timeline.specs.Rows.{AllLast, row_at};
-ghost use Rattle.babel_timeline.specs.Taking.{KeepsBounds, Takes, TellsAnswer, changes_told};
+ghost use Rattle.babel_timeline.specs.Taking.{KeepsBounds, Passes, Takes, TellsAnswer, changes_told};
 ghost use Rattle.babel_timeline.specs.Telling.{IsAnswer, IsTold, Tells, TellsEnds, counts};
 ghost use Rattle.babel_timeline.specs.Telling.{said_of, seen_event};
 
@@ -178,6 +180,9 @@ impl Interest {
             timeline.old.rows timeline.new.rows told.old.items told.new.items) }
         ensures last { OnOk result (AllLast S.cmp timeline.old.factor until timeline.new.rows) }
     {
+        if timeline.is_quiet(until) {
+            return Ok(());
+        }
         while let Some(first) = timeline.first_end(until)? {
             self.end(timeline, &first, told)?;
         }
@@ -199,6 +204,10 @@ impl Interest {
             (said subject.now.sender row.now.when (seen_event self.now.asked self.now.view
             (events.Announce subject.now.key row.now.ann)) ∷ [])
             row.now.when.time timeline.old.rows timeline.new.rows told.old.items told.new.items) }
+        ensures refused { IfErr result (λ fault. fault ≢ Fault.Memory
+            → RefusesEvent S.cmp timeline.old.limit self.now.asked subject.now.sender timeline.old
+            timeline.new told.old.items told.new.items at
+            (events.Announce subject.now.key row.now.ann) fault) }
     {
         if !self.counts(&subject.key) {
             return Ok(());
@@ -271,6 +280,9 @@ impl Interest {
             (said sender when
             (seen_event self.now.asked self.now.view (event_of kind route.now)) ∷ [])
             when.time timeline.old.rows timeline.new.rows told.old.items told.new.items) }
+        ensures refused { IfErr result (λ fault. fault ≢ Fault.Memory
+            → RefusesEvent S.cmp timeline.old.limit self.now.asked sender timeline.old timeline.new
+            told.old.items told.new.items at (event_of kind route.now) fault) }
     {
         let key = route.key;
         let subject = Subject { sender, key };
@@ -283,6 +295,29 @@ impl Interest {
             EventKind::RetractAll => Ok(self.retract_all(timeline, sender, when, told)?),
             EventKind::Nothing => Ok(()),
             EventKind::Ignored(_) => Ok(()),
+        }
+    }
+
+    /// Whether it is known that no row changes by what a TLV says of a route, and no answer.
+    fn passes<S: Sender>(
+        &self,
+        timeline: &Timeline<S>,
+        sender: S,
+        kind: EventKind,
+        route: &Route,
+    ) -> bool
+        ensures { IsTrue result → Passes S.cmp timeline.now.factor self.now.asked self.now.view
+            sender (event_of kind route.now) timeline.now.rows }
+    {
+        let key = route.key;
+        match kind {
+            EventKind::Announce => !self.counts(&key),
+            EventKind::Retract => {
+                !self.counts(&key) && timeline.row(&Subject { sender, key }).is_none()
+            }
+            EventKind::RetractAll => false,
+            EventKind::Nothing => true,
+            EventKind::Ignored(_) => true,
         }
     }
 
@@ -309,10 +344,22 @@ impl Interest {
         ensures state { OnOk result ((start : StartValue) (earlier : List TlvAt)
             → state.old ≡ context_after start earlier
             → state.new ≡ context_after start (tlv_value tlv.now ∷ earlier)) }
+        ensures refused { IfErr result (λ fault. fault ≢ Fault.Memory
+            → Tells S.cmp timeline.old.factor self.now.asked [] time timeline.old.rows
+            timeline.new.rows told.old.items told.new.items
+            × RefusesTlv S.cmp timeline.old.limit self.now.asked sender timeline.new.rows
+            (tlv_value tlv.now).at (said_at state.old (tlv_value tlv.now)) fault) }
     {
         self.expire(timeline, time, told)?;
         let kind = state.step_into(tlv, route)?;
+        if self.passes(timeline, sender, kind, route) {
+            return Ok(kind);
+        }
         let when = Stamp::new(time, interval(tlv.body));
+        if self.asked.is_none() {
+            self.take(timeline, sender, when, kind, route, tlv.at, told)?;
+            return Ok(kind);
+        }
         let before = self.answer(timeline, sender);
         self.take(timeline, sender, when, kind, route, tlv.at, told)?;
         self.tell_answer(timeline, time, sender, before, told)?;
@@ -344,6 +391,12 @@ impl Interest {
             (said_of self.now.asked self.now.view sender
             (told_from time (first_context start.now) (tlvs_of at body.now))) time
             timeline.old.rows timeline.new.rows told.old.items told.new.items) }
+        ensures refused { IfErr result (λ fault. fault ≢ Fault.Memory
+            → ((timeline.new ≡ timeline.old) × (told.new.items ≡ told.old.items)
+            × TlvPastEndAt at body.now fault)
+            ⊎ RefusesTlvs S.cmp timeline.old.limit self.now.asked sender timeline.old.factor
+            self.now.view start.now time (tlvs_of at body.now) timeline.old.rows timeline.new.rows
+            told.old.items told.new.items fault) }
     {
         check_body(body, at)?;
         let mut state = State::at(*start);

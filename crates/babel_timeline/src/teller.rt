@@ -1,9 +1,11 @@
 //! What senders hold as their packets come, and what is told of it.
-ghost use Rattle.std.specs.Prelude.{◌≡◌, ◌+◌, ◌<◌, ◌^◌, ◌∷◌, [], length, true, IfOk, IfSome, IsTrue, None, OnOk};
-ghost use Rattle.babel_tlv.specs.FrameFaults.{BeginsPacket};
+ghost use Rattle.std.specs.Prelude.{◌≡◌, ◌≢◌, ◌+◌, ◌<◌, ◌^◌, ◌∷◌, [], length, true, IfErr, IfOk};
+ghost use Rattle.std.specs.Prelude.{IfSome, IsTrue, None, OnOk};
+ghost use Rattle.babel_tlv.specs.FrameFaults.{BeginsPacket, PacketFault};
 ghost use Rattle.babel_tlv.specs.Frames.{tlv_value};
 ghost use Rattle.babel_timeline.specs.Hearing.{CountsAt, CountsPacket, octets_heard};
 ghost use Rattle.babel_timeline.specs.Hearing.{report_of};
+ghost use Rattle.babel_timeline.specs.Refusing.{RefusesPacket};
 ghost use Rattle.babel_timeline.specs.Rows.{AllLast};
 ghost use Rattle.babel_timeline.specs.SilencesTold.{TellsReturns, TellsSilences, hellos_among};
 ghost use Rattle.babel_timeline.specs.SilencesTold.{hellos_heard, scheduled, watches};
@@ -39,6 +41,7 @@ pub struct Teller<S: Sender> {
 fn body_of(packet: &[u8], at: u64) -> Result<&[u8], Fault>
     requires { at + length packet.now < 2 ^ 64 }
     ensures ok { IfOk result (λ body. BeginsPacket packet.now body.now) }
+    ensures err { IfErr result (PacketFault at packet.now) }
 {
     match frame(packet, at) {
         Frame::Whole { body, .. } => Ok(body),
@@ -58,14 +61,19 @@ fn take<S: Sender>(
     heard: &mut Heard,
     told: &mut Vec<Telling<S>>,
 ) -> Result<(), Fault>
-    requires { time < 2 ^ 96 }
-    ensures same { timeline.new.factor ≡ timeline.old.factor }
+    requires in_time { time < 2 ^ 96 }
+    requires last { AllLast S.cmp timeline.old.factor time timeline.old.rows }
+    ensures same { KeepsBounds timeline.old timeline.new }
     ensures ok { OnOk result (Hears S.cmp timeline.old.factor interest.now.asked
         interest.now.view sender start.now time heard.old.octets packet.now
         timeline.old.rows timeline.new.rows told.old.items told.new.items) }
     ensures octets { OnOk result (heard.new.octets ≡ heard.old.octets + length packet.now) }
     ensures counts { OnOk result
         (CountsAt heard.old.octets start.now packet.now heard.old.report heard.new.report) }
+    ensures refused { IfErr result (λ fault. fault ≢ Fault.Memory
+        → RefusesPacket S.cmp timeline.old.limit interest.now.asked sender timeline.old.factor
+        interest.now.view start.now time heard.old.octets heard.old.report.tlvs packet.now
+        timeline.old.rows timeline.new.rows told.old.items told.new.items fault) }
 {
     let at = heard.octets;
     let Some(octets) = at.checked_add(packet.len() as u64) else {
@@ -201,6 +209,7 @@ impl<S: Sender> Teller<S> {
     pub fn expire(&mut self, until: u128, told: &mut Vec<Telling<S>>) -> Result<(), AllocError>
         ensures same { (self.new.timeline.factor ≡ self.old.timeline.factor)
             × (self.new.interest ≡ self.old.interest) }
+        ensures limit { self.new.timeline.limit ≡ self.old.timeline.limit }
         ensures ok { OnOk result (TellsEnds S.cmp self.old.timeline.factor
             self.old.interest.asked until self.old.timeline.rows self.new.timeline.rows
             (of_rows self.old.interest.asked told.old.items)
@@ -285,6 +294,7 @@ impl<S: Sender> Teller<S> {
         requires { time < 2 ^ 96 }
         ensures same { (self.new.timeline.factor ≡ self.old.timeline.factor)
             × (self.new.interest ≡ self.old.interest) }
+        ensures limit { self.new.timeline.limit ≡ self.old.timeline.limit }
         ensures ok { OnOk result (Hears S.cmp self.old.timeline.factor self.old.interest.asked
             self.old.interest.view sender start time
             (octets_heard S.cmp self.old.heard.entries sender) packet.now
@@ -296,6 +306,15 @@ impl<S: Sender> Teller<S> {
         ensures silences { watches self.old.timeline.factor self.old.interest.asked ≡ true
             → OnOk result (TellsSilences S.cmp (hellos_heard sender time packet.now) time
             told.old.items told.new.items self.old.watch self.new.watch) }
+        // What changes by the TLVs before a fault is told, too.
+        ensures refused { IfErr result (λ fault. fault ≢ Fault.Memory
+            → RefusesPacket S.cmp self.old.timeline.limit self.old.interest.asked sender
+            self.old.timeline.factor self.old.interest.view start time
+            (octets_heard S.cmp self.old.heard.entries sender)
+            (report_of S.cmp self.old.heard.entries sender).tlvs packet.now
+            self.old.timeline.rows self.new.timeline.rows
+            (of_rows self.old.interest.asked told.old.items)
+            (of_rows self.old.interest.asked told.new.items) fault) }
     {
         self.expire(time, told)?;
         self.hear_hellos(sender, time, packet, told)?;
@@ -311,15 +330,23 @@ impl<S: Sender> Teller<S> {
         packet: &[u8],
         told: &mut Vec<Telling<S>>,
     ) -> Result<(), Fault>
-        requires { time < 2 ^ 96 }
+        requires in_time { time < 2 ^ 96 }
+        requires last { AllLast S.cmp self.old.timeline.factor time self.old.timeline.rows }
         ensures same { (self.new.timeline.factor ≡ self.old.timeline.factor)
             × (self.new.interest ≡ self.old.interest) × (self.new.watch ≡ self.old.watch) }
+        ensures limit { self.new.timeline.limit ≡ self.old.timeline.limit }
         ensures ok { OnOk result (Hears S.cmp self.old.timeline.factor self.old.interest.asked
             self.old.interest.view sender start time
             (octets_heard S.cmp self.old.heard.entries sender) packet.now
             self.old.timeline.rows self.new.timeline.rows told.old.items told.new.items) }
         ensures counts { OnOk result (CountsPacket S.cmp sender start packet.now
             self.old.heard.entries self.new.heard.entries) }
+        ensures refused { IfErr result (λ fault. fault ≢ Fault.Memory
+            → RefusesPacket S.cmp self.old.timeline.limit self.old.interest.asked sender
+            self.old.timeline.factor self.old.interest.view start time
+            (octets_heard S.cmp self.old.heard.entries sender)
+            (report_of S.cmp self.old.heard.entries sender).tlvs packet.now
+            self.old.timeline.rows self.new.timeline.rows told.old.items told.new.items fault) }
     {
         if let Some(heard) = self.heard.get_mut(&sender) {
             let timeline = &mut self.timeline;

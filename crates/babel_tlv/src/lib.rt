@@ -20,6 +20,11 @@
 //! - A pair's group is the stated octets after the pairs of its packet so far, at most 96 (79 by
 //!   its TLVs' lengths); what is being written then stands for these and the pair. —
 //!   `Writing::new`; `put_group` · *behind*, *after*, *few*
+//! - A request is read as stated; a written one is read back. — `Request::read`;
+//!   `laws::requests_are_read`
+//! - A view sees a stated value for each field that it ignores, two values of keys of one family as
+//!   equal exactly where they are the same under it, and what it saw as it is. The one that keeps
+//!   all fields changes nothing. — `View::seen`, `all`; `laws::views_tell`
 #![tactic(auto)]
 
 mod address;

@@ -1,15 +1,15 @@
--- What is given is the first of all that is left.
-use Rattle.std.proofs.Common.{◌≡◌, Option, Some, None, ap}
-use Rattle.std.specs.Iterator.{YieldsFirst}
-use Rattle.std.specs.List.{slice_get}
+-- The first alone is taken of all that is left.
+use Rattle.std.proofs.Common.{refl}
+use Rattle.std.proofs.lemmas.Iterator.{YieldsList-from_take, items_from_collect}
+use Rattle.std.proofs.lemmas.Iterator.Consumers.{YieldsList-at, YieldsList-from_first}
+use Rattle.std.proofs.lemmas.Result.{IfOk-weaker}
 use Rattle.babel_canon.specs.Joined.{differences_left}
-use Rattle.babel_canon.specs.declared.differing_routes.RouteDifferences.{RouteDifferences}
 use Rattle.babel_canon.specs.declared.every_difference.Difference.{Difference}
 use Rattle.babel_canon.proofs.differing_routes.first_route_difference.Goals as goal
 
-given_first : (s t : RouteDifferences) (r : Option Difference) → YieldsFirst differences_left s r t → slice_get (differences_left s) 0 ≡ r
-given_first s t None none = ap (λ l. slice_get l 0) none.0
-given_first s t (Some x) is = ap (λ l. slice_get l 0) is
-
 pub returns : goal.returns
-returns c = (differences_left c.of-differences.result, c.of-differences.ensures, given_first c.of-differences.result c.next.new.self c.next.result c.next.ensures.steps)
+returns c =
+    let left = differences_left c.of.result in
+    let all = YieldsList-from_first (λ (d : Difference). d) differences_left left refl in
+    IfOk-weaker c.collect.result _ _ (λ first is. (left, c.of.ensures, is))
+    (items_from_collect c.collect.result c.collect.ensures.ran (YieldsList-from_take 1 (YieldsList-at c.take.ensures.source all) c.take.ensures.count))

@@ -13,4 +13,4 @@ pub returns-in-Routes-clause-ok : goal.returns-in-Routes-clause-ok
 returns-in-Routes-clause-ok c = rw (c.in-Compare.is, c.in-Routes.is) c.found_route_differences.ensures.ok
 
 pub returns-in-Diff-clause-ok : goal.returns-in-Diff-clause-ok
-returns-in-Diff-clause-ok c = rw c.in-Diff.is (rw (c.name-file.ensures, c.name-other_file.ensures) at c.found_diff.ensures.ok)
+returns-in-Diff-clause-ok c = rw c.in-Diff.is c.found_diff.ensures.ok

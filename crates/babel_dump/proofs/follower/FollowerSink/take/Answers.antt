@@ -8,8 +8,8 @@ use Rattle.babel_dump.proofs.follower.FollowerSink.take.Goals as goal
 pub returns-in_default : goal.returns-in_default
 returns-in_default c start made one told follows =
     let old = c.args.self.now in
-    let new = c.hear.new.self in
-    let same = c.hear.ensures.same in (
+    let new = c.hear_all.new.self in
+    let same = c.hear_all.ensures.same in (
       same.0 ∙ follows.0,
       λ sound.
           let begun = follows.1 (sym same.1 ∙ sound) in (

@@ -1,0 +1,143 @@
+//! Routes for other sources than that of an answer.
+ghost use Rattle.std.specs.Prelude.{◌^◌, ◌<◌};
+
+use crate::addr_pair::AddrPair;
+use crate::any_source::is_source_specific;
+use crate::events_job::Events;
+use crate::hearing::{Unheard, factor};
+use crate::note::Note;
+use crate::push_event::held_after;
+use crate::since::Since;
+use crate::speaker::Speaker;
+use crate::spelling::Spelling;
+use babel_capture::{BabelPacket, Origin};
+use babel_prefix::Addr;
+use babel_timeline::{Change, Subject, Teller, Telling};
+use babel_tlv::{Fault, Start};
+use std::alloc::{AllocError, Global};
+use std::collections::BTreeSet;
+
+/// The routes to the destination of an answer that are not for every source: RFC 9079, 3.2.
+#[derive(Drop)]
+pub struct OtherSources {
+    /// The destination, and the source of the answer: 0.0.0.0, or ::.
+    pair: AddrPair,
+    /// What senders hold, for whichever destination.
+    teller: Teller<Speaker>,
+    /// What was told last of it.
+    told: Vec<Telling<Speaker>>,
+    /// Those that were held just before the moment from which on it is told, or since.
+    held: BTreeSet<Subject<Speaker>>,
+}
+
+/// Takes a change of what is held: a route of the destination that is not for every source is kept if
+/// it was held just before the moment, or changed since.
+fn keep_change(
+    dst: &Addr,
+    change: &Change<Speaker>,
+    since: &Since,
+    held: &mut BTreeSet<Subject<Speaker>>,
+) -> Result<(), AllocError> {
+    let subject = change.subject;
+    if !is_source_specific(subject.key, dst) {
+        return Ok(());
+    }
+    if since.is_from(change.time) || held_after(change.kind).is_some() {
+        held.insert(subject)?;
+    } else {
+        held.remove(&subject);
+    }
+    Ok(())
+}
+
+/// Takes the changes that were told.
+fn keep_changes(
+    dst: &Addr,
+    told: &[Telling<Speaker>],
+    since: &Since,
+    held: &mut BTreeSet<Subject<Speaker>>,
+) -> Result<(), AllocError> {
+    for telling in told {
+        if let Telling::Change(change) = telling {
+            keep_change(dst, change, since, held)?;
+        }
+    }
+    Ok(())
+}
+
+/// The note of a sender that has routes for other sources than that of its answers, if they are for
+/// any source.
+pub(crate) fn source_note(
+    others: &Option<OtherSources>,
+    spelling: Spelling,
+    origin: &Origin,
+) -> Option<Note> {
+    let others = others.as_ref()?;
+    let Origin { place, sender } = *origin;
+    let source = others.source_for(Speaker { sender, place })?;
+    Some(Note::Source(spelling, source))
+}
+
+impl OtherSources {
+    /// Nothing was heard.
+    pub(crate) fn new(alloc: Global, events: &Events, pair: AddrPair) -> OtherSources {
+        let limit = events.limits.entries();
+        OtherSources {
+            pair,
+            teller: Teller::new(alloc, factor(events.expiry), limit, events.view, None),
+            told: Vec::new(alloc),
+            held: BTreeSet::new(alloc),
+        }
+    }
+
+    /// Hears a packet that came at this time.
+    pub(crate) fn hear(
+        &mut self,
+        events: &Events,
+        time: u128,
+        packet: &BabelPacket<'_>,
+        since: &Since,
+    ) -> Result<(), Unheard>
+        requires { time < 2 ^ 96 }
+    {
+        let origin = packet.origin;
+        let Origin { place, sender } = origin;
+        let start = Start {
+            sender,
+            via_v6: events.limits.via_v6(),
+        };
+        let speaker = Speaker { sender, place };
+        self.told.clear();
+        let heard = self
+            .teller
+            .hear(speaker, start, time, packet.octets, &mut self.told);
+        match heard {
+            Ok(()) => Ok(self.keep(since)?),
+            Err(Fault::Memory) => Err(Unheard::Memory),
+            Err(fault) => Err(Unheard::Sender { origin, fault }),
+        }
+    }
+
+    /// Takes what has expired by this moment.
+    pub(crate) fn expire(&mut self, until: u128, since: &Since) -> Result<(), AllocError> {
+        self.told.clear();
+        self.teller.expire(until, &mut self.told)?;
+        self.keep(since)
+    }
+
+    /// Takes the changes that were told last.
+    fn keep(&mut self, since: &Since) -> Result<(), AllocError> {
+        let (dst, told) = (self.pair.dst, &self.told);
+        keep_changes(&dst, told, since, &mut self.held)
+    }
+
+    /// The source of the answer, if the sender has other routes.
+    fn source_for(&self, sender: Speaker) -> Option<Addr> {
+        for subject in self.held.iter() {
+            if subject.sender == sender {
+                return Some(self.pair.src);
+            }
+        }
+        None
+    }
+}
