@@ -76,7 +76,9 @@ complete -c babel-dump -n __fish_use_subcommand -a help \
 __babel_dump_option help -f -a 'show lookup normalise key pairs compare diff senders extract events'
 
 __babel_dump_option 'show lookup normalise key pairs compare diff senders extract events' -l help -d 'Print help'
-__babel_dump_option 'show lookup normalise pairs extract' -l from -x -a '(__babel_dump_senders 1)' \
+__babel_dump_option 'normalise pairs extract' -l from -x -a '(__babel_dump_senders 1)' \
+    -d 'The source address of the packets'
+__babel_dump_option 'show lookup' -l from -x -a '(__babel_dump_senders 1)' \
     -d 'The source address of the packets'
 __babel_dump_option 'key' -l from -x -a '(__babel_dump_senders 1)' \
     -d 'The source address of the packets'

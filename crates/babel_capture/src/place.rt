@@ -6,7 +6,7 @@ pub const MAX_TAGS: usize = 4;
 
 /// Where a packet was captured: all that tells links apart. Places are ordered by the interface,
 /// then by the link, none first, then by the VLANs.
-#[derive(Clone, Copy, Debug, PartialEq, Eq, PartialOrd, Ord)]
+#[derive(Clone, Copy, PartialEq, Eq, PartialOrd, Ord)]
 pub struct Place {
     /// The number of the interface's description in the capture.
     pub interface: u64,
@@ -18,7 +18,7 @@ pub struct Place {
 
 /// The numbers of up to four VLAN tags, the outer one first, and 0 where there are no more: IEEE
 /// 802.1Q, 9. A tag of number 0 is for priority, and names no VLAN.
-#[derive(Clone, Copy, Debug, PartialEq, Eq, PartialOrd, Ord)]
+#[derive(Clone, Copy, PartialEq, Eq, PartialOrd, Ord)]
 pub struct Vlans {
     first: u16,
     second: u16,

@@ -1,5 +1,5 @@
 /// Why a Babel datagram is left out.
-#[derive(Clone, Copy, Debug, PartialEq, Eq, PartialOrd, Ord)]
+#[derive(Clone, Copy, PartialEq, Eq, PartialOrd, Ord)]
 pub enum Reason {
     /// It is shorter than a packet's header, or than the body that the header says: RFC 8966, 4.2.
     Truncated,

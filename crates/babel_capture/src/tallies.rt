@@ -23,7 +23,7 @@ pub const MAX_SENDERS: usize = 65_536;
 
 /// A sender of Babel packets, at the place where they were captured. These are ordered by place,
 /// then by address.
-#[derive(Clone, Copy, Debug, PartialEq, Eq, PartialOrd, Ord)]
+#[derive(Clone, Copy, PartialEq, Eq, PartialOrd, Ord)]
 pub struct Origin {
     pub place: Place,
     pub sender: Addr,

@@ -7,7 +7,7 @@ use std::marker::Model;
 const END: u128 = 253_402_300_800_000_000_000;
 
 /// A moment of the years 1970 to 9999, in UTC, to the nanosecond.
-#[derive(Clone, Copy, Debug, PartialEq, Eq, PartialOrd, Ord)]
+#[derive(Clone, Copy, PartialEq, Eq, PartialOrd, Ord)]
 pub struct Time {
     nanoseconds: u128,
 }

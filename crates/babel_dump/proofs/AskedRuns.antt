@@ -3,21 +3,22 @@ use Rattle.std.proofs.Common.{◌≡◌, ◌≢◌, ℕ, Bool, List, Option, Non
 use Rattle.std.specs.Prelude.{IfOk, IfSome}
 use Rattle.std.specs.Io.KnownBytes.{Appends, Keeps}
 use Rattle.std.specs.Map.{keys_of}
+use Rattle.std.specs.Option.{unwrap_or}
 use Rattle.babel_capture.specs.Counts.{Made}
 use Rattle.babel_dump.specs.CaptureGiven.{made_in}
 use Rattle.babel_dump.specs.Device.{InputState}
 use Rattle.babel_dump.specs.EventsRun.{TellsEvents}
 use Rattle.babel_dump.specs.Fed.{AreWhole}
-use Rattle.babel_dump.specs.MadeKeys.{AreKeys}
+use Rattle.babel_dump.specs.ToldSenders.{AreTexts}
 use Rattle.babel_dump.specs.Packets.{packets_made}
-use Rattle.babel_dump.specs.SenderKeys.{AreOwn, GaveSenders, each_from}
+use Rattle.babel_dump.specs.EachSender.{AreOwn, GaveSenders, each_from}
 use Rattle.babel_dump.specs.declared.begun.Begins.TheVariants as beginnings
 use Rattle.babel_dump.specs.declared.events_job.Events.{Events}
 use Rattle.babel_dump.specs.declared.events_outcome.EventsOutcome.{EventsOutcome}
-use Rattle.babel_dump.specs.declared.made_keys.MadeKeys.{MadeKeys}
-use Rattle.babel_dump.specs.declared.sender_keys.SenderKeys.{SenderKeys}
-use Rattle.babel_dump.specs.declared.sender_keys.SendersRead.{SendersRead}
-use Rattle.babel_dump.specs.AskedRun.{Beginnings, Did, DidJob, ToldEvents, WroteKeys, misplaced_at}
+use Rattle.babel_dump.specs.declared.told_senders.ToldSenders.{ToldSenders}
+use Rattle.babel_dump.specs.declared.each_sender.EachSender.{EachSender}
+use Rattle.babel_dump.specs.declared.each_sender.SendersRead.{SendersRead}
+use Rattle.babel_dump.specs.AskedRun.{Beginnings, Did, DidJob, ToldEvents, WroteSenders, misplaced_at}
 use Rattle.babel_dump.specs.Begun.{BeginsSo}
 use Rattle.babel_dump.specs.Files.{reading_of}
 use Rattle.babel_dump.specs.Given.{Reads}
@@ -92,12 +93,13 @@ told_so events stream old new given writer answer done is left tells status = re
   status = status;
 }
 
-pub wrote_so : (keys : SenderKeys) (stream : Option (List ℕ)) (begins told : Begins) (old new : InputState) (writer : Output) (senders : SendersRead) (made : MadeKeys) (text : List ℕ) (done : Done)
-    → BeginsSo stream begins → told ≡ begins → told ≢ beginnings.Dump → Keeps stream old.left → GaveSenders keys (each_from keys old new) senders
-    → ((records : List Made) → AreWhole (packets_made records) → AreOwn keys records senders.tables.entries
-    → AreKeys keys records senders.read.moment senders.read.gathered (keys_of senders.tables.entries) made)
-    → done.senders ≡ made.senders → text ≡ made.lines.items → Appends writer.old.taken writer.new.taken text → done.status ≡ 0 → WroteKeys keys stream writer done
-wrote_so keys stream begins told old new writer senders made text done begun is no_dump keeps gave are same lines wrote status = record {
+pub wrote_so : (each : EachSender) (stream : Option (List ℕ)) (begins told : Begins) (old new : InputState) (writer : Output) (senders : SendersRead) (made : ToldSenders) (text : List ℕ) (done : Done)
+    → BeginsSo stream begins → told ≡ begins → told ≢ beginnings.Dump → Keeps stream old.left → GaveSenders each (each_from each old new) senders
+    → ((records : List Made) → AreWhole (packets_made records) → AreOwn each records senders.tables.entries
+    → AreTexts each records senders.read.moment senders.read.gathered (keys_of senders.tables.entries) made)
+    → done.senders ≡ made.senders → text ≡ made.lines.items → Appends writer.old.taken writer.new.taken text
+    → done.status ≡ unwrap_or made.status 0 → WroteSenders each stream writer done
+wrote_so each stream begins told old new writer senders made text done begun is no_dump keeps gave are same lines wrote status = record {
   begins = begins;
   begun = begun;
   no_dump = λ dump. no_dump (is ∙ dump);

@@ -1,6 +1,7 @@
--- A run over rows finished where all of its text was written, or a write failed.
-use Rattle.std.proofs.Common.{◌≡◌, Result, Ok, Err, refl}
+-- A run over rows finished where all of its text was written, or a write failed, or memory ran out.
+use Rattle.std.proofs.Common.{◌≡◌, Result, Ok, Err, inl, inr, refl}
 use Rattle.std.specs.Result.{IsErrAnd}
+use Rattle.babel_dump.specs.Command.{IsOfMemory}
 use Rattle.babel_dump.specs.Run.{Output}
 use Rattle.babel_dump.specs.SlicedRows.{Finished, found_text}
 use Rattle.babel_dump.specs.Slices.{WroteText}
@@ -11,7 +12,7 @@ use Rattle.babel_dump.specs.declared.slices.Found.{Found}
 
 all_written : {T E : Type 0} (writer : Output) (found : Found) (t : T) → WroteText {T = T} {E = E} writer (found_text found) (Ok t)
     → Finished writer (Ok found) (Ok found.outcome)
-all_written writer found t wrote = (
+all_written writer found t wrote = inl (
   record {
     whole = wrote.whole;
     flushed = wrote.flushed;
@@ -28,7 +29,7 @@ all_written writer found t wrote = (
 not_all_written : {T E : Type 0} (writer : Output) (found : Found) (e : E) (result : Result Outcome RunFault) → WroteText {T = T} {E = E} writer (found_text found) (Err e)
     → IsErrAnd result (λ (fault : RunFault). fault ≡ run_faults.Write) → Finished writer (Ok found) result
 not_all_written writer found e (Ok outcome) wrote failed = absurd failed
-not_all_written writer found e (Err fault) wrote failed = (
+not_all_written writer found e (Err fault) wrote failed = inl (
   record {
     whole = tt;
     flushed = tt;
@@ -49,3 +50,7 @@ finished_rows {T = T} {E = E} writer found it t is wrote = rw is (all_written {T
 pub failed_rows : {T E : Type 0} (writer : Output) (found : Result Found RunFault) (it : Found) (e : E) (result : Result Outcome RunFault) → found ≡ Ok it
     → WroteText {T = T} {E = E} writer (found_text it) (Err e) → IsErrAnd result (λ (fault : RunFault). fault ≡ run_faults.Write) → Finished writer found result
 failed_rows {T = T} {E = E} writer found it e result is wrote failed = rw is (not_all_written {T = T} {E = E} writer it e result wrote failed)
+
+pub no_memory : (writer : Output) (found : Result Found RunFault) (it : Found) (result : Result Outcome RunFault) → found ≡ Ok it → IsErrAnd result IsOfMemory
+    → writer.new ≡ writer.old → Finished writer found result
+no_memory writer found it result is failed same = rw is (inr (failed, same))

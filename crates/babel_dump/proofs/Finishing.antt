@@ -1,15 +1,16 @@
 -- A run that finished wrote what was found, or answered why nothing was found.
 use Rattle.std.proofs.Common.{ℕ, List, Option, None, Some, Result, Ok, Err, arith, ap, sym, subst, refl, inl, inr}
-use Rattle.std.proofs.lemmas.Result.{IfErr-weaker}
+use Rattle.std.proofs.lemmas.Result.{IfErr-weaker, IfOk-weaker}
 use Rattle.std.specs.Prelude.{IfOk, IfErr}
-use Rattle.babel_dump.specs.Command.{CompareCause, IsFaultWith, SaysOf}
+use Rattle.babel_dump.specs.Command.{CompareCause, IsFaultWith, OfBoth, SaysOf}
 use Rattle.babel_dump.specs.Given.{Input, IsFaultOfGiven, Reads}
-use Rattle.babel_dump.specs.JobRun.{CauseBy, OtherCalled, RanJob, other_calls}
+use Rattle.babel_dump.specs.JobRun.{CauseBy, OtherCalled, RanJob, SaysBy, other_calls}
 use Rattle.babel_dump.specs.Parts.{FoundBy, Gathered, Says}
 use Rattle.babel_dump.specs.Run.{Called, Calls, InputCause, OfFirst, OfStatus, Output, Ran, RanAlone, UnlessWrite, calls_of, run_status}
 use Rattle.babel_dump.specs.SlicedRows.{Finished, found_text}
 use Rattle.babel_table.specs.Rows.{Routes}
 use Rattle.babel_tlv.specs.declared.fault.Fault.{Fault}
+use Rattle.babel_tlv.specs.declared.fault.Fault.TheVariants as faults
 use Rattle.babel_tlv.specs.declared.view.View.{View}
 use Rattle.babel_dump.specs.declared.input_fault.InputFault.{InputFault}
 use Rattle.babel_dump.specs.declared.input_fault.InputFault.TheVariants as input_faults
@@ -22,15 +23,36 @@ use Rattle.babel_dump.specs.declared.run_fault.RunFault.TheVariants as run_fault
 use Rattle.babel_dump.specs.declared.run_fault.Side.TheVariants as sides
 use Rattle.babel_dump.specs.declared.slices.Found.{Found}
 
+-- out of memory, as it is told of the first input
+abbrev of_memory : RunFault
+of_memory = run_faults.Input sides.First (input_faults.Dump faults.Memory)
+
 -- no write failed where a fault has a cause that a failed write has not
 unless_write : (Cause : RunFault → Type 0) (fault : RunFault) (P Q : Type 0) → (Cause run_faults.Write → ⊥) → Cause fault → P → UnlessWrite fault P Q
 unless_write Cause (run_faults.Input side fault) P Q never cause known = known
 unless_write Cause (run_faults.Pairs fault) P Q never cause known = known
 unless_write Cause run_faults.Write P Q never cause known = absurd (never cause)
 
+-- a fault that is not that of a write, and the writer is as it was
+refused : (writer : Output) (Cause : RunFault → Type 0) (Holds : List ℕ → Outcome → Type 0) (fault : RunFault) → (Cause run_faults.Write → ⊥) → Cause fault
+    → writer.new ≡ writer.old → Ran writer Cause Holds (Err fault)
+refused writer Cause Holds fault never cause same =
+    let failures = ap (λ (state : _). state.failures) same in
+    let flushes = ap (λ (state : _). state.flushes) same in record {
+      wrote = tt;
+      flushed = tt;
+      no_failure = tt;
+      cause = unless_write Cause fault _ _ never cause cause;
+      prefix = unless_write Cause fault _ _ never cause same;
+      one_failure = omega (arith, failures);
+      one_flush = omega (arith, flushes);
+    }
+
+-- memory may run out once something was found
 pub ran : (writer : Output) (Cause : RunFault → Type 0) (Holds : List ℕ → Outcome → Type 0) (found : Result Found RunFault) (result : Result Outcome RunFault)
-    → (Cause run_faults.Write → ⊥) → IfOk found (Says Holds) → IfErr found Cause → Finished writer found result → Ran writer Cause Holds result
-ran writer Cause Holds (Ok found) (Ok outcome) never says cause finished = record {
+    → (Cause run_faults.Write → ⊥) → IfOk found (λ _. Cause of_memory) → IfOk found (Says Holds) → IfErr found Cause → Finished writer found result
+    → Ran writer Cause Holds result
+ran writer Cause Holds (Ok found) (Ok outcome) never memory says cause (inl finished) = record {
   wrote = (found_text found, subst (λ (o : Outcome). Holds (found_text found) o) (sym finished.1) says, finished.0.whole);
   flushed = finished.0.flushed;
   no_failure = finished.0.no_failure;
@@ -39,7 +61,8 @@ ran writer Cause Holds (Ok found) (Ok outcome) never says cause finished = recor
   one_failure = finished.0.one_failure;
   one_flush = finished.0.one_flush;
 }
-ran writer Cause Holds (Ok found) (Err fault) never says cause finished = rw finished.2 (record {
+ran writer Cause Holds (Ok found) (Ok outcome) never memory says cause (inr refuses) = absurd refuses.0
+ran writer Cause Holds (Ok found) (Err fault) never memory says cause (inl finished) = rw finished.2 (record {
   wrote = tt;
   flushed = tt;
   no_failure = tt;
@@ -48,18 +71,8 @@ ran writer Cause Holds (Ok found) (Err fault) never says cause finished = rw fin
   one_failure = finished.0.one_failure;
   one_flush = finished.0.one_flush;
 })
-ran writer Cause Holds (Err fault) result never says cause finished =
-    let failures = ap (λ (state : _). state.failures) finished.1 in
-    let flushes = ap (λ (state : _). state.flushes) finished.1 in
-    rw finished.0 (record {
-      wrote = tt;
-      flushed = tt;
-      no_failure = tt;
-      cause = unless_write Cause fault _ _ never cause cause;
-      prefix = unless_write Cause fault _ _ never cause finished.1;
-      one_failure = omega (arith, failures);
-      one_flush = omega (arith, flushes);
-    })
+ran writer Cause Holds (Ok found) (Err fault) never memory says cause (inr (is, same)) = refused writer Cause Holds fault never (subst Cause (sym is) memory) same
+ran writer Cause Holds (Err fault) result never memory says cause finished = rw finished.0 (refused writer Cause Holds fault never cause finished.1)
 
 -- the readers were called as they were for what was found
 pub called : (calls : Calls) (writer : Output) (found : Result Found RunFault) (result : Result Outcome RunFault) → Called calls found → Finished writer found result
@@ -127,11 +140,13 @@ ran_weaker writer Cause Causes Holds Others (Err fault) causes says run = record
 }
 
 -- a run over one dump, whose status is answered alone
-pub ran_alone : (reader : Input) (writer : Output) (Cause : InputFault → Type 0) (Holds : List ℕ → Outcome → Type 0) (found : Result Found RunFault)
-    (result : Result Outcome RunFault) → Gathered (calls_of reader) (OfFirst Cause) (Says Holds) found → Finished writer found result
-    → RanAlone reader Cause writer Holds (run_status result)
-ran_alone reader writer Cause Holds found result gathered finished = (
-  ran_status writer _ Holds result (ran writer _ Holds found result (λ cause. cause) gathered.made gathered.cause finished),
+pub ran_alone : (reader : Input) (writer : Output) (Refuses : Fault → Type 0) (Holds : List ℕ → Outcome → Type 0) (found : Result Found RunFault)
+    (result : Result Outcome RunFault) → Gathered (calls_of reader) (OfFirst (InputCause reader Refuses)) (Says Holds) found → Finished writer found result
+    → RanAlone reader (InputCause reader Refuses) writer Holds (run_status result)
+ran_alone reader writer Refuses Holds found result gathered finished = (
+  ran_status writer _ Holds result
+      (ran writer _ Holds found result (λ cause. cause) (IfOk-weaker found _ _ (λ it says not_memory. absurd (not_memory refl)) gathered.made) gathered.made
+      gathered.cause finished),
   called_status _ result (called _ writer found result gathered.called finished),
 )
 
@@ -177,6 +192,12 @@ not_compared reader other view Many untouched (inl cause) = cause
 not_compared reader other view Many untouched (inr (inl (memory, gave))) = cc
 not_compared reader other view Many untouched (inr (inr (many, gave))) = cc
 
+-- both dumps were given, so memory ran out after that
+pub memory_of_both : (reader other : Input) (view : View) (Many Holds : Routes → Routes → Type 0) (untouched : Type 0) → OfBoth reader other view Holds
+    → CompareCause reader other view Many untouched of_memory
+memory_of_both reader other view Many Holds untouched both =
+    inr (inl (refl, record { table = both.table; other_table = both.other_table; gave = both.gave; other_gave = both.other_gave; holds = tt }))
+
 -- a job's fault is not that of a write
 no_write : (work : Work) (reader other : Reads) (untouched : Type 0) → CauseBy work reader other untouched run_faults.Write → ⊥
 no_write (works.Dump source task) reader other untouched cause = cause
@@ -190,10 +211,24 @@ other_called : (calls : Option Calls) (untouched : Type 0) (writer : Output) (fo
 other_called None untouched writer found result same finished = same
 other_called (Some calls) untouched writer found result of_found finished = called calls writer found result of_found finished
 
+-- memory may run out once a job has found something
+job_memory : (work : Work) (job : Job) (reader other : Reads) (untouched : Type 0) (found : Found) → Says (SaysBy work job reader other) found
+    → OtherCalled {T = Found} (other_calls work other) untouched (Ok found) → CauseBy work reader other untouched of_memory
+job_memory (works.Dump source task) job reader other untouched found says called = λ not_memory. absurd (not_memory refl)
+job_memory (works.Each source pairs) job reader other untouched found says called =
+    inr ((says.asked, says.gave), called.no_failure, λ not_memory. absurd (not_memory refl))
+job_memory (works.Two first second view task) job reader other untouched found says called = memory_of_both _ _ view _ _ untouched says
+job_memory (works.Capture reading file task) job reader other untouched found says called = refl
+
+found_memory : (job : Job) (reader other : Reads) (untouched : Type 0) (found : Result Found RunFault) → FoundBy job reader other untouched found
+    → IfOk found (λ _. CauseBy job.work reader other untouched of_memory)
+found_memory job reader other untouched (Ok found) by = job_memory job.work job reader other untouched found by.says by.other_called
+found_memory job reader other untouched (Err fault) by = tt
+
 pub ran_job : (job : Job) (reader other : Reads) (untouched : Type 0) (writer : Output) (found : Result Found RunFault) (result : Result Outcome RunFault)
     → FoundBy job reader other untouched found → Finished writer found result → RanJob job reader other writer untouched result
 ran_job job reader other untouched writer found result by finished = record {
-  ran = ran writer _ _ found result (no_write job.work reader other untouched) by.says by.cause finished;
+  ran = ran writer _ _ found result (no_write job.work reader other untouched) (found_memory job reader other untouched found by) by.says by.cause finished;
   called = called _ writer found result by.called finished;
   other_called = other_called (other_calls job.work other) untouched writer found result by.other_called finished;
 }

@@ -15,10 +15,9 @@ use Rattle.babel_dump.specs.declared.run_fault.RunFault.{RunFault}
 use Rattle.babel_dump.specs.declared.slices.Found.{Found}
 
 -- what was found has this text, and the outcome of a dump with this report
-pub told : {E : Type 0} (report of_table : Counts) (status : ℕ) (text words : List ℕ) (outcome : Outcome) (found : Result Found E) → IfOk found (λ f. found_text f ≡ text)
-    → IfOk found (λ f. f.outcome ≡ outcome) → text ≡ words → IsOutcome outcome status report → report ≡ of_table → IfOk found (Says (Tells of_table words status))
-told report of_table status text words outcome (Ok found) texts outcomes is is_outcome same = record { text_is = texts ∙ is; outcome_is = outcomes ∙ rw same at is_outcome }
-told report of_table status text words outcome (Err fault) texts outcomes is is_outcome same = tt
+pub told : (report of_table : Counts) (status : ℕ) (text words : List ℕ) (outcome : Outcome) (found : Found) → found_text found ≡ text → found.outcome ≡ outcome
+    → text ≡ words → IsOutcome outcome status report → report ≡ of_table → Says (Tells of_table words status) found
+told report of_table status text words outcome found texts outcomes is is_outcome same = record { text_is = texts ∙ is; outcome_is = outcomes ∙ rw same at is_outcome }
 
 -- what holds of what is seen holds of the dumps
 of_seen : (reader other : Input) (view : View) (seen : SeenTables) (Holds : Routes → Routes → Type 0) → GaveSeen reader other view seen → Holds seen.left seen.right

@@ -32,9 +32,9 @@ use Rattle.babel_capture.proofs.TallyLaws.{origin_exact, origin_order, origin_to
 use Rattle.babel_dump.specs.CaptureGiven.{Took}
 use Rattle.babel_dump.specs.Fed.{AreWhole, HearsMore}
 use Rattle.babel_dump.specs.Packets.{packets_made, timed_found}
-use Rattle.babel_dump.specs.SenderKeys.{AreHeard, AreOwn, FeedsOwn, KeepsOwn, IsFedOwn, IsNothing, IsOwn, MissesOwn, first_missed, is_asked, missed_by, own_packets, table_at}
+use Rattle.babel_dump.specs.EachSender.{AreHeard, AreOwn, FeedsOwn, KeepsOwn, IsFedOwn, IsNothing, IsOwn, MissesOwn, first_missed, is_asked, missed_by, own_packets, table_at}
 use Rattle.babel_dump.specs.declared.left_out.LeftOutDatagram.{LeftOutDatagram}
-use Rattle.babel_dump.specs.declared.sender_keys.SenderKeys.{SenderKeys}
+use Rattle.babel_dump.specs.declared.each_sender.EachSender.{EachSender}
 use Rattle.babel_dump.specs.declared.sender_tables.SenderTable.{SenderTable}
 use Rattle.babel_dump.specs.declared.sender_tables.SenderTables.{SenderTables}
 use Rattle.babel_dump.proofs.PacketsFed.{packet_told}
@@ -67,48 +67,48 @@ not_err (Err fault) ok holds = absurd cc
 
 -- ---- one more packet, and one more datagram that is missed
 
-module _ (keys : SenderKeys) (origin : Origin) where
-  fed_more : (packets : List (ℕ × List ℕ)) (missed : Option LeftOutDatagram) (packet : ℕ × List ℕ) (old new : SenderTable) → IsFedOwn keys origin packets missed old
-      → HearsMore old.packets.feeder new.packets.feeder (packet ∷ []) → new.missed ≡ old.missed → IsFedOwn keys origin (packets ++ packet ∷ []) missed new
+module _ (each : EachSender) (origin : Origin) where
+  fed_more : (packets : List (ℕ × List ℕ)) (missed : Option LeftOutDatagram) (packet : ℕ × List ℕ) (old new : SenderTable) → IsFedOwn each origin packets missed old
+      → HearsMore old.packets.feeder new.packets.feeder (packet ∷ []) → new.missed ≡ old.missed → IsFedOwn each origin (packets ++ packet ∷ []) missed new
   fed_more packets missed packet old new was more same = record {
     limits = more.limits ∙ was.limits;
     mode = more.mode ∙ was.mode;
     sender = more.sender ∙ was.sender;
-    factor = subst (λ (n : ℕ). IfSome keys.expiry (λ factor. n ≡ factor)) (sym more.factor) was.factor;
+    factor = subst (λ (n : ℕ). IfSome each.expiry (λ factor. n ≡ factor)) (sym more.factor) was.factor;
     heard = λ whole. more.heard packets whole (was.heard (whole_front packets (packet ∷ []) whole));
     missed_is = same ∙ was.missed_is;
   }
 
   pub fed_again : (packet : ℕ × List ℕ) (old new : SenderTable) → HearsMore old.packets.feeder new.packets.feeder (packet ∷ []) → new.missed ≡ old.missed
-      → FeedsOwn keys origin (Some old) packet new
+      → FeedsOwn each origin (Some old) packet new
   fed_again packet old new more same = λ packets missed was. fed_more packets missed packet old new was.0 more same
 
-  pub fed_first : (packet : ℕ × List ℕ) (old new : SenderTable) → IsFedOwn keys origin [] None old → HearsMore old.packets.feeder new.packets.feeder (packet ∷ []) → new.missed ≡ old.missed
-      → FeedsOwn keys origin None packet new
+  pub fed_first : (packet : ℕ × List ℕ) (old new : SenderTable) → IsFedOwn each origin [] None old → HearsMore old.packets.feeder new.packets.feeder (packet ∷ []) → new.missed ≡ old.missed
+      → FeedsOwn each origin None packet new
   fed_first packet old new was more same = λ packets missed none.
-      subst (λ (m : Option LeftOutDatagram). IsFedOwn keys origin (packets ++ packet ∷ []) m new) (sym none.1)
-      (subst (λ (p : List (ℕ × List ℕ)). IsFedOwn keys origin (p ++ packet ∷ []) None new) (sym none.0) (fed_more [] None packet old new was more same))
+      subst (λ (m : Option LeftOutDatagram). IsFedOwn each origin (packets ++ packet ∷ []) m new) (sym none.1)
+      (subst (λ (p : List (ℕ × List ℕ)). IsFedOwn each origin (p ++ packet ∷ []) None new) (sym none.0) (fed_more [] None packet old new was more same))
 
-  missed_more : (packets : List (ℕ × List ℕ)) (missed : Option LeftOutDatagram) (datagram : LeftOutDatagram) (old new : SenderTable) → IsFedOwn keys origin packets missed old
-      → new.packets ≡ old.packets → new.missed ≡ option_or old.missed (Some datagram) → IsFedOwn keys origin packets (option_or missed (Some datagram)) new
+  missed_more : (packets : List (ℕ × List ℕ)) (missed : Option LeftOutDatagram) (datagram : LeftOutDatagram) (old new : SenderTable) → IsFedOwn each origin packets missed old
+      → new.packets ≡ old.packets → new.missed ≡ option_or old.missed (Some datagram) → IsFedOwn each origin packets (option_or missed (Some datagram)) new
   missed_more packets missed datagram old new was same is = record {
     limits = ap (λ p. p.feeder.limits) same ∙ was.limits;
     mode = ap (λ p. p.feeder.mode) same ∙ was.mode;
     sender = ap (λ p. p.feeder.sender) same ∙ was.sender;
-    factor = subst (λ p. IfSome keys.expiry (λ factor. p.feeder.factor ≡ factor)) (sym same) was.factor;
+    factor = subst (λ p. IfSome each.expiry (λ factor. p.feeder.factor ≡ factor)) (sym same) was.factor;
     heard = λ whole. subst (λ p. HasHeard p.feeder packets) (sym same) (was.heard whole);
     missed_is = is ∙ ap (λ (m : Option LeftOutDatagram). option_or m (Some datagram)) was.missed_is;
   }
 
   pub missed_again : (datagram : LeftOutDatagram) (old new : SenderTable) → new.packets ≡ old.packets → new.missed ≡ option_or old.missed (Some datagram)
-      → MissesOwn keys origin (Some old) datagram new
+      → MissesOwn each origin (Some old) datagram new
   missed_again datagram old new same is = λ packets missed was. missed_more packets missed datagram old new was.0 same is
 
-  pub missed_first : (datagram : LeftOutDatagram) (old new : SenderTable) → IsFedOwn keys origin [] None old → new.packets ≡ old.packets → new.missed ≡ Some datagram
-      → MissesOwn keys origin None datagram new
+  pub missed_first : (datagram : LeftOutDatagram) (old new : SenderTable) → IsFedOwn each origin [] None old → new.packets ≡ old.packets → new.missed ≡ Some datagram
+      → MissesOwn each origin None datagram new
   missed_first datagram old new was same is = λ packets missed none.
-      subst (λ (m : Option LeftOutDatagram). IsFedOwn keys origin packets (option_or m (Some datagram)) new) (sym none.1)
-      (subst (λ (p : List (ℕ × List ℕ)). IsFedOwn keys origin p (Some datagram) new) (sym none.0)
+      subst (λ (m : Option LeftOutDatagram). IsFedOwn each origin packets (option_or m (Some datagram)) new) (sym none.1)
+      (subst (λ (p : List (ℕ × List ℕ)). IsFedOwn each origin p (Some datagram) new) (sym none.0)
       (missed_more [] None datagram old new was same (is ∙ ap (λ (m : Option LeftOutDatagram). option_or m (Some datagram)) (sym was.missed_is))))
 
 -- ---- what a record tells of a sender
@@ -162,42 +162,42 @@ or_none (Some a) = refl
 
 -- ---- the tables
 
-apart_from : (keys : SenderKeys) (q origin : Origin) → is_asked keys.place q ≡ true → is_asked keys.place origin ≡ false → (b : Bool) → is_at (origin_cmp q) origin ≡ b → b ≡ false
-apart_from keys q origin asked not true same = absurd (let one : is_asked keys.place q ≡ is_asked keys.place origin = ap (is_asked keys.place) (origin_exact q origin same) in cc)
-apart_from keys q origin asked not false same = refl
+apart_from : (each : EachSender) (q origin : Origin) → is_asked each.place q ≡ true → is_asked each.place origin ≡ false → (b : Bool) → is_at (origin_cmp q) origin ≡ b → b ≡ false
+apart_from each q origin asked not true same = absurd (let one : is_asked each.place q ≡ is_asked each.place origin = ap (is_asked each.place) (origin_exact q origin same) in cc)
+apart_from each q origin asked not false same = refl
 
 -- nothing more of a sender whose key is asked for
-pub unchanged : (keys : SenderKeys) (made more : List Made) (entries : Entries)
-    → ((q : Origin) → is_asked keys.place q ≡ true → (own_packets q more ≡ own_packets q made) × (first_missed q more ≡ first_missed q made)) → AreOwn keys made entries → AreOwn keys more entries
-unchanged keys made more entries same are = record {
-  own = λ q asked. subst (λ (m : Option LeftOutDatagram). IsOwn keys q (own_packets q more) m (table_at entries q)) (sym (same q asked).1)
-      (subst (λ (p : List (ℕ × List ℕ)). IsOwn keys q p (first_missed q made) (table_at entries q)) (sym (same q asked).0) (are.own q asked));
+pub unchanged : (each : EachSender) (made more : List Made) (entries : Entries)
+    → ((q : Origin) → is_asked each.place q ≡ true → (own_packets q more ≡ own_packets q made) × (first_missed q more ≡ first_missed q made)) → AreOwn each made entries → AreOwn each more entries
+unchanged each made more entries same are = record {
+  own = λ q asked. subst (λ (m : Option LeftOutDatagram). IsOwn each q (own_packets q more) m (table_at entries q)) (sym (same q asked).1)
+      (subst (λ (p : List (ℕ × List ℕ)). IsOwn each q p (first_missed q made) (table_at entries q)) (sym (same q asked).0) (are.own q asked));
   others = are.others;
 }
 
-pub changed : (keys : SenderKeys) (made more : List Made) (old new : Entries) (origin : Origin) (table : SenderTable) → new ≡ insert_entry origin_cmp old origin table
-    → is_asked keys.place origin ≡ true
+pub changed : (each : EachSender) (made more : List Made) (old new : Entries) (origin : Origin) (table : SenderTable) → new ≡ insert_entry origin_cmp old origin table
+    → is_asked each.place origin ≡ true
     → ((q : Origin) → is_at (origin_cmp q) origin ≡ false → (own_packets q more ≡ own_packets q made) × (first_missed q more ≡ first_missed q made))
-    → IsFedOwn keys origin (own_packets origin more) (first_missed origin more) table → (¬ IsNothing (own_packets origin more) (first_missed origin more)) → AreOwn keys made old → AreOwn keys more new
-changed keys made more old new origin table put asked_for apart own some are = record {
-  own = λ q asked. subst (IsOwn keys q (own_packets q more) (first_missed q more)) (sym (at q)) (own_by q asked (is_at (origin_cmp origin) q) refl);
+    → IsFedOwn each origin (own_packets origin more) (first_missed origin more) table → (¬ IsNothing (own_packets origin more) (first_missed origin more)) → AreOwn each made old → AreOwn each more new
+changed each made more old new origin table put asked_for apart own some are = record {
+  own = λ q asked. subst (IsOwn each q (own_packets q more) (first_missed q more)) (sym (at q)) (own_by q asked (is_at (origin_cmp origin) q) refl);
   others = λ q not. at q ∙ ap (λ (b : Bool). cond b (Some table) (table_at old q)) (unasked q not (is_at (origin_cmp origin) q) refl) ∙ are.others q not;
 }
   where
     at : (q : Origin) → table_at new q ≡ cond (is_at (origin_cmp origin) q) (Some table) (table_at old q)
     at q = ap (λ (e : Entries). table_at e q) put ∙ lookup-insert origin_total q origin table old
 
-    unasked : (q : Origin) → is_asked keys.place q ≡ false → (b : Bool) → is_at (origin_cmp origin) q ≡ b → is_at (origin_cmp origin) q ≡ false
-    unasked q not b is = is ∙ apart_from keys origin q asked_for not b is
+    unasked : (q : Origin) → is_asked each.place q ≡ false → (b : Bool) → is_at (origin_cmp origin) q ≡ b → is_at (origin_cmp origin) q ≡ false
+    unasked q not b is = is ∙ apart_from each origin q asked_for not b is
 
-    own_by : (q : Origin) → is_asked keys.place q ≡ true → (b : Bool) → is_at (origin_cmp origin) q ≡ b
-        → IsOwn keys q (own_packets q more) (first_missed q more) (cond b (Some table) (table_at old q))
+    own_by : (q : Origin) → is_asked each.place q ≡ true → (b : Bool) → is_at (origin_cmp origin) q ≡ b
+        → IsOwn each q (own_packets q more) (first_missed q more) (cond b (Some table) (table_at old q))
     own_by q asked true same =
-        subst (λ (o : Origin). IsFedOwn keys o (own_packets o more) (first_missed o more) table × (¬ IsNothing (own_packets o more) (first_missed o more))) (origin_exact origin q same) (own, some)
+        subst (λ (o : Origin). IsFedOwn each o (own_packets o more) (first_missed o more) table × (¬ IsNothing (own_packets o more) (first_missed o more))) (origin_exact origin q same) (own, some)
     own_by q asked false same =
         let none = apart q (is_at-sym origin_total q origin ∙ same) in
-        subst (λ (m : Option LeftOutDatagram). IsOwn keys q (own_packets q more) m (table_at old q)) (sym none.1)
-        (subst (λ (p : List (ℕ × List ℕ)). IsOwn keys q p (first_missed q made) (table_at old q)) (sym none.0) (are.own q asked))
+        subst (λ (m : Option LeftOutDatagram). IsOwn each q (own_packets q more) m (table_at old q)) (sym none.1)
+        (subst (λ (p : List (ℕ × List ℕ)). IsOwn each q p (first_missed q made) (table_at old q)) (sym none.0) (are.own q asked))
 
 some_packet : (packets : List (ℕ × List ℕ)) (packet : ℕ × List ℕ) → (packets ++ packet ∷ []) ≢ []
 some_packet [] packet = λ none. absurd cc
@@ -210,7 +210,7 @@ some_missed (Some one) datagram = λ none. absurd cc
 itself : (origin : Origin) → is_at (origin_cmp origin) origin ≡ true
 itself origin = ap is_eq (tied_itself origin_total origin)
 
-module _ (keys : SenderKeys) (made : List Made) (one : Made) (told : Record) (is : IsTold one told) (old : Entries) (are : AreOwn keys made old) where
+module _ (each : EachSender) (made : List Made) (one : Made) (told : Record) (is : IsTold one told) (old : Entries) (are : AreOwn each made old) where
   abbrev more : List Made
   more = made ++ one ∷ []
 
@@ -221,8 +221,8 @@ module _ (keys : SenderKeys) (made : List Made) (one : Made) (told : Record) (is
   missed_apart q none = missed_told q made one told is ∙ ap (option_or (first_missed q made)) none ∙ or_none (first_missed q made)
 
   -- nothing is told
-  pub told_none : told.said ≡ saids.Nothing → AreOwn keys more old
-  told_none nothing = unchanged keys made more old (λ q asked. (
+  pub told_none : told.said ≡ saids.Nothing → AreOwn each more old
+  told_none nothing = unchanged each made more old (λ q asked. (
     packets_apart q (ap (λ (s : Said). here_of q (packet_said s) told.time) nothing),
     missed_apart q (ap (λ (s : Said). missed_by q told.number (missed_said s)) nothing),
   )) are
@@ -238,21 +238,21 @@ module _ (keys : SenderKeys) (made : List Made) (one : Made) (told : Record) (is
     not_here : (q : Origin) → is_at (origin_cmp q) packet.origin ≡ false → own_packets q more ≡ own_packets q made
     not_here q apart = packets_apart q (here_so q ∙ ap (λ (b : Bool). cond b ((unwrap_or told.time 0, packet.octets.now) ∷ []) []) apart)
 
-    pub packet_passed : is_asked keys.place packet.origin ≡ false → AreOwn keys more old
-    packet_passed not = unchanged keys made more old
-        (λ q asked. (let same = is_at (origin_cmp q) packet.origin in not_here q (apart_from keys q packet.origin asked not same refl), none_missed q)) are
+    pub packet_passed : is_asked each.place packet.origin ≡ false → AreOwn each more old
+    packet_passed not = unchanged each made more old
+        (λ q asked. (let same = is_at (origin_cmp q) packet.origin in not_here q (apart_from each q packet.origin asked not same refl), none_missed q)) are
 
-    pub packet_fed : (new : Entries) (table : SenderTable) → is_asked keys.place packet.origin ≡ true → new ≡ insert_entry origin_cmp old packet.origin table
-        → FeedsOwn keys packet.origin (table_at old packet.origin) (unwrap_or told.time 0, packet.octets.now) table → AreOwn keys more new
+    pub packet_fed : (new : Entries) (table : SenderTable) → is_asked each.place packet.origin ≡ true → new ≡ insert_entry origin_cmp old packet.origin table
+        → FeedsOwn each packet.origin (table_at old packet.origin) (unwrap_or told.time 0, packet.octets.now) table → AreOwn each more new
     packet_fed new table asked put fed =
         let origin = packet.origin in
         let entry : ℕ × List ℕ = (unwrap_or told.time 0, packet.octets.now) in
         let packets : own_packets origin more ≡ own_packets origin made ++ entry ∷ [] = own_told origin made one told is
         ∙ ap (λ (t : List (ℕ × List ℕ)). own_packets origin made ++ t) (here_so origin ∙ ap (λ (b : Bool). cond b (entry ∷ []) []) (itself origin)) in
         let own = fed (own_packets origin made) (first_missed origin made) (are.own origin asked) in
-        changed keys made more old new origin table put asked (λ q apart. (not_here q apart, none_missed q))
-        (subst (λ (m : Option LeftOutDatagram). IsFedOwn keys origin (own_packets origin more) m table) (sym (none_missed origin))
-        (subst (λ (p : List (ℕ × List ℕ)). IsFedOwn keys origin p (first_missed origin made) table) (sym packets) own))
+        changed each made more old new origin table put asked (λ q apart. (not_here q apart, none_missed q))
+        (subst (λ (m : Option LeftOutDatagram). IsFedOwn each origin (own_packets origin more) m table) (sym (none_missed origin))
+        (subst (λ (p : List (ℕ × List ℕ)). IsFedOwn each origin p (first_missed origin made) table) (sym packets) own))
         (λ none. some_packet (own_packets origin made) entry (sym packets ∙ none.0)) are
 
   -- a datagram that is missed
@@ -269,20 +269,20 @@ module _ (keys : SenderKeys) (made : List Made) (one : Made) (told : Record) (is
     not_missed : (q : Origin) → is_at (origin_cmp q) missed.origin ≡ false → first_missed q more ≡ first_missed q made
     not_missed q apart = missed_apart q (missed_so q ∙ ap (λ (b : Bool). cond b (Some datagram) None) apart)
 
-    pub missed_passed : is_asked keys.place missed.origin ≡ false → AreOwn keys more old
-    missed_passed not = unchanged keys made more old
-        (λ q asked. (no_packet q, let same = is_at (origin_cmp q) missed.origin in not_missed q (apart_from keys q missed.origin asked not same refl))) are
+    pub missed_passed : is_asked each.place missed.origin ≡ false → AreOwn each more old
+    missed_passed not = unchanged each made more old
+        (λ q asked. (no_packet q, let same = is_at (origin_cmp q) missed.origin in not_missed q (apart_from each q missed.origin asked not same refl))) are
 
-    pub missed_noted : (new : Entries) (table : SenderTable) → is_asked keys.place missed.origin ≡ true → new ≡ insert_entry origin_cmp old missed.origin table
-        → MissesOwn keys missed.origin (table_at old missed.origin) datagram table → AreOwn keys more new
+    pub missed_noted : (new : Entries) (table : SenderTable) → is_asked each.place missed.origin ≡ true → new ≡ insert_entry origin_cmp old missed.origin table
+        → MissesOwn each missed.origin (table_at old missed.origin) datagram table → AreOwn each more new
     missed_noted new table asked put misses =
         let origin = missed.origin in
         let first : first_missed origin more ≡ option_or (first_missed origin made) (Some datagram) = missed_told origin made one told is
         ∙ ap (option_or (first_missed origin made)) (missed_so origin ∙ ap (λ (b : Bool). cond b (Some datagram) None) (itself origin)) in
         let own = misses (own_packets origin made) (first_missed origin made) (are.own origin asked) in
-        changed keys made more old new origin table put asked (λ q apart. (no_packet q, not_missed q apart))
-        (subst (λ (p : List (ℕ × List ℕ)). IsFedOwn keys origin p (first_missed origin more) table) (sym (no_packet origin))
-        (subst (λ (m : Option LeftOutDatagram). IsFedOwn keys origin (own_packets origin made) m table) (sym first) own))
+        changed each made more old new origin table put asked (λ q apart. (no_packet q, not_missed q apart))
+        (subst (λ (p : List (ℕ × List ℕ)). IsFedOwn each origin p (first_missed origin more) table) (sym (no_packet origin))
+        (subst (λ (m : Option LeftOutDatagram). IsFedOwn each origin (own_packets origin made) m table) (sym first) own))
         (λ none. some_missed (first_missed origin made) datagram (sym first ∙ none.1)) are
 
 -- ---- all of them
@@ -302,9 +302,9 @@ whole_own origin (one ∷ made) whole =
     by first rest true = whole_both (timed_found (time_of one.came) one.what) (own_packets origin made) first rest
     by first rest false = rest
 
-pub own_all : (keys : SenderKeys) (first now : SenderTables) (made : List Made) → first.keys.now ≡ keys → AreHeard first [] → Took KeepsOwn first now made → now.has_failed ≡ false
-    → AreOwn keys made now.tables.entries
-own_all keys first now made keys_are none took sound =
+pub own_all : (each : EachSender) (first now : SenderTables) (made : List Made) → first.each.now ≡ each → AreHeard first [] → Took KeepsOwn first now made → now.has_failed ≡ false
+    → AreOwn each made now.tables.entries
+own_all each first now made keys_are none took sound =
     let nothing : KeepsOwn first first [] = (refl, λ before heard. subst (AreHeard first) (sym (append-nil before)) heard) in
     let all = took first [] nothing in
-    subst (λ (k : SenderKeys). AreOwn k made now.tables.entries) (all.0 ∙ keys_are) (all.1 [] none sound)
+    subst (λ (k : EachSender). AreOwn k made now.tables.entries) (all.0 ∙ keys_are) (all.1 [] none sound)

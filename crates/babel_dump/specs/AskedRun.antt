@@ -2,16 +2,17 @@
 use Rattle.std.specs.Prelude.{ℕ, ◌≡◌, ◌≢◌, List, Option, None, Some, IfSome}
 use Rattle.std.specs.Io.KnownBytes.{Appends, Keeps}
 use Rattle.std.specs.Map.{keys_of}
+use Rattle.std.specs.Option.{unwrap_or}
 use Rattle.babel_dump.specs.Begun.{BeginsSo}
 use Rattle.babel_dump.specs.CaptureGiven.{made_in}
 use Rattle.babel_dump.specs.EventsRun.{TellsEvents}
 use Rattle.babel_dump.specs.Files.{reading_of}
 use Rattle.babel_dump.specs.Given.{Reads}
 use Rattle.babel_dump.specs.JobRun.{SaysBy}
-use Rattle.babel_dump.specs.MadeKeys.{AreKeys}
+use Rattle.babel_dump.specs.ToldSenders.{AreTexts}
 use Rattle.babel_dump.specs.Misplaced.{begun_work, misplaced_by}
 use Rattle.babel_dump.specs.Run.{Output}
-use Rattle.babel_dump.specs.SenderKeys.{GaveSenders, each_from}
+use Rattle.babel_dump.specs.EachSender.{GaveSenders, each_from}
 use Rattle.babel_dump.specs.declared.asked.Asked.{Asked}
 use Rattle.babel_dump.specs.declared.asked.Asked.TheVariants as askeds
 use Rattle.babel_dump.specs.declared.begun.Begins.{Begins}
@@ -20,11 +21,11 @@ use Rattle.babel_dump.specs.declared.done.Done.{Done}
 use Rattle.babel_dump.specs.declared.events_job.Events.{Events}
 use Rattle.babel_dump.specs.declared.events_outcome.EventsOutcome.{EventsOutcome}
 use Rattle.babel_dump.specs.declared.job.Job.{Job}
-use Rattle.babel_dump.specs.declared.made_keys.MadeKeys.{MadeKeys}
+use Rattle.babel_dump.specs.declared.told_senders.ToldSenders.{ToldSenders}
 use Rattle.babel_dump.specs.declared.outcome.Outcome.{Outcome}
 use Rattle.babel_dump.specs.declared.run_fault.Side.TheVariants as sides
-use Rattle.babel_dump.specs.declared.sender_keys.SenderKeys.{SenderKeys}
-use Rattle.babel_dump.specs.declared.sender_keys.SendersRead.{SendersRead}
+use Rattle.babel_dump.specs.declared.each_sender.EachSender.{EachSender}
+use Rattle.babel_dump.specs.declared.each_sender.SendersRead.{SendersRead}
 use Rattle.babel_dump.specs.declared.trouble.Trouble.{Trouble}
 use Rattle.babel_dump.specs.declared.trouble.Trouble.TheVariants as troubles
 
@@ -58,9 +59,9 @@ pub record DidJob (job : Job) (seed : ℕ) (stream other : Option (List ℕ)) (w
   pub wrote : Appends writer.old.taken writer.new.taken text
   pub status : done.status ≡ outcome.status
 
--- The stream is no dump, but a capture, and the keys of its senders were written: of each that is
--- asked for and has a packet, or a datagram that is missed, its key, or its fault is told.
-pub record WroteKeys (keys : SenderKeys) (stream : Option (List ℕ)) (writer : Output)
+-- The stream is no dump, but a capture, and what is told of its senders was written: of each that is
+-- asked for and has a packet, or a datagram that is missed, its text is written, or its fault told.
+pub record WroteSenders (each : EachSender) (stream : Option (List ℕ)) (writer : Output)
     (done : Done) : Type 0 where
   pub begins : Begins
   pub begun : BeginsSo stream begins
@@ -68,13 +69,13 @@ pub record WroteKeys (keys : SenderKeys) (stream : Option (List ℕ)) (writer : 
   pub reader : Reads
   pub keeps : Keeps stream reader.old.left
   pub senders : SendersRead
-  pub gave : GaveSenders keys (each_from keys reader.old reader.new) senders
-  pub made : MadeKeys
-  pub are_keys : AreKeys keys (made_in gave.gave.given) senders.read.moment senders.read.gathered
+  pub gave : GaveSenders each (each_from each reader.old reader.new) senders
+  pub made : ToldSenders
+  pub are_keys : AreTexts each (made_in gave.gave.given) senders.read.moment senders.read.gathered
       (keys_of senders.tables.entries) made
   pub told : done.senders ≡ made.senders
   pub wrote : Appends writer.old.taken writer.new.taken made.lines.items
-  pub status : done.status ≡ 0
+  pub status : done.status ≡ unwrap_or made.status 0
 
 -- what changed in a capture was told
 pub record ToldEvents (events : Events) (stream : Option (List ℕ)) (writer : Output)
@@ -89,7 +90,7 @@ pub record ToldEvents (events : Events) (stream : Option (List ℕ)) (writer : O
 abbrev pub Did :
     Asked → (seed : ℕ) → (stream other : Option (List ℕ)) → Output → Done → Type 0
 Did (askeds.Job job) seed stream other = DidJob job seed stream other
-Did (askeds.SenderKeys keys) seed stream other = WroteKeys keys stream
+Did (askeds.EachSender each) seed stream other = WroteSenders each stream
 Did (askeds.Events events) seed stream other = ToldEvents events stream
 
 -- the option that is told as misplaced

@@ -1,7 +1,9 @@
 -- What a run writes of what it found. These are this project's own.
-use Rattle.std.specs.Prelude.{ℕ, ◌≡◌, List, [], ◌++◌, Result, Ok, Err, IfOk, IfErr}
+use Rattle.std.specs.Prelude.{ℕ, ◌≡◌, ◌⊎◌, List, [], ◌++◌, Result, Ok, Err, IfOk, IfErr}
+use Rattle.std.specs.Result.{IsErrAnd}
 use Rattle.std.specs.List.{flat_map}
 use Rattle.babel_dump.specs.CaptureText.{senders_in}
+use Rattle.babel_dump.specs.Command.{IsOfMemory}
 use Rattle.babel_dump.specs.DiffText.{change_text}
 use Rattle.babel_dump.specs.Filter.{kept_rows}
 use Rattle.babel_dump.specs.InFormat.{answer_line_in, difference_in, pairs_in}
@@ -42,11 +44,12 @@ lines_of format rows.Empty = []
 abbrev pub found_text : Found → List ℕ
 found_text found = lines_of found.format found.rows ++ found.after.items
 
--- What was found was written, and its outcome is answered, or that a write failed. Where nothing
--- was found the fault is answered, and the writer is as it was.
+-- What was found was written, and its outcome is answered, or that a write failed; or memory ran
+-- out. Where nothing was found the fault is answered. Then the writer is as it was.
 abbrev pub Finished : Output → Result Found RunFault → Result Outcome RunFault → Type 0
 Finished writer (Ok found) result =
-    WroteText writer (found_text found) result
+    (WroteText writer (found_text found) result
     × IfOk result (λ outcome. outcome ≡ found.outcome)
-    × IfErr result (λ fault. fault ≡ run_faults.Write)
+    × IfErr result (λ fault. fault ≡ run_faults.Write))
+    ⊎ (IsErrAnd result IsOfMemory × (writer.new ≡ writer.old))
 Finished writer (Err fault) result = (result ≡ Err fault) × (writer.new ≡ writer.old)

@@ -9,7 +9,7 @@ use std::fmt;
 
 /// That a capture has no packets of a sender, or of any, where none is named; or none at a place or
 /// between two moments, where these are named. `Display` gives the line for standard error.
-#[derive(Clone, Copy, Debug, PartialEq, Eq)]
+#[derive(Clone, Copy, PartialEq, Eq)]
 pub struct Absence {
     sender: Option<Addr>,
     place: Option<Place>,

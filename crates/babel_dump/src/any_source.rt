@@ -38,7 +38,7 @@ pub(crate) fn found_any_source(
         with_prefix,
     };
     let text = lookup_output(alloc, format, answered)?;
-    Found::text(alloc, text, outcome)
+    Ok(Found::text(text, outcome))
 }
 
 /// The source of an answer that is for any source.

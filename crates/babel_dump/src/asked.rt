@@ -1,10 +1,10 @@
 //! What the program's words ask for.
+use crate::each_sender::EachSender;
 use crate::events_job::Events;
 use crate::format::Format;
-use crate::job::{DumpFile, Job, Work};
+use crate::job::{DumpFile, Job, Task, Work};
 use crate::key_text::Named;
 use crate::reading::capture_limit;
-use crate::sender_keys::SenderKeys;
 use crate::spelling::Spelling;
 use babel_table::Limits;
 
@@ -13,8 +13,8 @@ use babel_table::Limits;
 pub enum Asked {
     /// What is found of dumps, or of a capture.
     Job(Job),
-    /// `key` without `--from`: the keys of the senders in a capture.
-    SenderKeys(SenderKeys),
+    /// What is found of each sender in a capture, where there is no `--from`.
+    EachSender(EachSender),
     /// `events`: what changed in a capture, and when.
     Events(Events),
 }
@@ -24,7 +24,7 @@ impl Asked {
     pub fn file(&self) -> &DumpFile {
         match self {
             Asked::Job(job) => job.file(),
-            Asked::SenderKeys(keys) => &keys.file,
+            Asked::EachSender(each) => &each.file,
             Asked::Events(events) => &events.file,
         }
     }
@@ -33,7 +33,7 @@ impl Asked {
     pub fn other(&self) -> Option<&DumpFile> {
         match self {
             Asked::Job(job) => job.other(),
-            Asked::SenderKeys(_) | Asked::Events(_) => None,
+            Asked::EachSender(_) | Asked::Events(_) => None,
         }
     }
 
@@ -42,8 +42,10 @@ impl Asked {
     pub(crate) fn named(&self) -> Named<'_> {
         match self {
             Asked::Job(job) => job.named(),
-            Asked::SenderKeys(keys) => Named(Some(keys.file.name())),
-            Asked::Events(_) => Named(None),
+            Asked::EachSender(each) if matches!(each.task, Task::Key { .. }) => {
+                Named(Some(each.file.name()))
+            }
+            Asked::EachSender(_) | Asked::Events(_) => Named(None),
         }
     }
 
@@ -51,7 +53,7 @@ impl Asked {
     pub(crate) fn compares(&self) -> bool {
         match self {
             Asked::Job(job) => matches!(job.work, Work::Two { .. }),
-            Asked::SenderKeys(_) | Asked::Events(_) => false,
+            Asked::EachSender(_) | Asked::Events(_) => false,
         }
     }
 
@@ -59,7 +61,7 @@ impl Asked {
     pub(crate) fn names_sender(&self) -> bool {
         match self {
             Asked::Job(_) => true,
-            Asked::SenderKeys(_) => false,
+            Asked::EachSender(_) => false,
             Asked::Events(events) => events.sender.is_some(),
         }
     }
@@ -68,7 +70,7 @@ impl Asked {
     pub(crate) fn is_quiet(&self) -> bool {
         match self {
             Asked::Job(job) => job.quiet,
-            Asked::SenderKeys(keys) => keys.quiet,
+            Asked::EachSender(each) => each.quiet,
             Asked::Events(events) => events.quiet,
         }
     }
@@ -78,7 +80,7 @@ impl Asked {
     pub(crate) fn json_notes(&self) -> Option<Spelling> {
         let format = match self {
             Asked::Job(job) => job.format,
-            Asked::SenderKeys(keys) => keys.format,
+            Asked::EachSender(each) => each.format,
             Asked::Events(events) => events.format,
         };
         let is_key = self.named().0.is_some();
@@ -95,7 +97,7 @@ impl Asked {
                 Some(reading) => Some(reading.limits),
                 None => None,
             },
-            Asked::SenderKeys(keys) => Some(keys.limits),
+            Asked::EachSender(each) => Some(each.limits),
             Asked::Events(events) => Some(events.limits),
         }
     }

@@ -4,7 +4,7 @@ ghost use Rattle.std.specs.Io.KnownBytes.{Keeps};
 ghost use Rattle.babel_dump.specs.Begun.{BeginsSo};
 ghost use Rattle.babel_dump.specs.Device.{HasRoomToWrite};
 ghost use Rattle.babel_dump.specs.Run.{output};
-ghost use Rattle.babel_dump.specs.AskedRun.{Did, DidJob, IsRefused, ToldEvents, WroteKeys};
+ghost use Rattle.babel_dump.specs.AskedRun.{Did, DidJob, IsRefused, ToldEvents, WroteSenders};
 ghost use Rattle.babel_dump.specs.Files.{reading_of};
 ghost use Rattle.babel_dump.specs.declared.asked.Asked.TheVariants as askeds;
 ghost use Rattle.babel_dump.specs.declared.run_fault.Side.TheVariants as sides;
@@ -14,14 +14,14 @@ use crate::begun::{Begins, Begun, Whole};
 use crate::byte_in::FromReader;
 use crate::byte_out::ByteOut;
 use crate::done::Done;
+use crate::each_sender::{EachSender, SendersRead};
 use crate::events::run_events;
 use crate::events_job::Events;
 use crate::job::Job;
 use crate::job_run::run_job;
-use crate::made_keys::MadeKeys;
 use crate::run_fault::RunFault;
 use crate::says::Says;
-use crate::sender_keys::{SenderKeys, SendersRead};
+use crate::told_senders::ToldSenders;
 use crate::trouble::Trouble;
 use crate::write::write_text;
 use std::alloc::Global;
@@ -50,7 +50,7 @@ pub fn run_asked<R: Read + Drop, S: Read + Drop, W: ByteOut, T: Says>(
 {
     match asked {
         Asked::Job(job) => do_job(alloc, seed, job, reader, other, writer),
-        Asked::SenderKeys(keys) => write_keys(alloc, seed, keys, reader, writer),
+        Asked::EachSender(each) => tell_senders(alloc, seed, each, reader, writer),
         Asked::Events(events) => tell_events(alloc, events, reader, writer, says),
     }
 }
@@ -96,26 +96,31 @@ fn begun_other<S: Read + Drop>(job: &Job, other: S) -> Begun<S>
     }
 }
 
-/// Reads a capture, and writes the keys of its senders.
-fn write_keys<R: Read + Drop, W: ByteOut>(
+/// Reads a capture, and writes what is told of its senders.
+fn tell_senders<R: Read + Drop, W: ByteOut>(
     alloc: Global,
     seed: u128,
-    keys: &SenderKeys,
+    each: &EachSender,
     reader: R,
     writer: &mut W,
 ) -> Result<Done, Trouble>
     requires { HasRoomToWrite (W.state writer.old) }
-    ensures { IfOk result (WroteKeys keys.now (R.remaining reader)
+    ensures { IfOk result (WroteSenders each.now (R.remaining reader)
         (output (W.state writer.old) (W.state writer.new))) }
 {
     let begun = Begun::new(reader);
     if let Begins::Dump = begun.begins() {
         return Err(Trouble::NoSender);
     }
-    let SendersRead { read, tables } = keys.gather(alloc, seed, &mut begun.into_device())?;
+    let SendersRead { read, tables } = each.gather(alloc, seed, &mut begun.into_device())?;
     let done = Done::new(alloc)?;
-    let MadeKeys { senders, lines, .. } = MadeKeys::of(alloc, keys, &read, tables)?;
-    let done = done.of_senders(keys, &read, senders)?;
+    let ToldSenders {
+        senders,
+        lines,
+        status,
+        ..
+    } = ToldSenders::of(alloc, each, &read, tables)?;
+    let done = done.of_senders(each, &read, senders, status)?;
     write_text(writer, &lines)?;
     Ok(done)
 }

@@ -177,7 +177,7 @@ pub(crate) const OF_CAPTURES: [&str; 3] = ["senders", "extract", "events"];
 pub(crate) const OF_OCTETS: [&str; 2] = ["senders", "extract"];
 
 /// Those that need the sender of one input, and those that may need its place.
-pub(crate) const OF_SENDER: [&str; 5] = ["show", "lookup", "normalise", "pairs", "extract"];
+pub(crate) const OF_SENDER: [&str; 3] = ["normalise", "pairs", "extract"];
 
 pub(crate) const AT_PLACE: [&str; 6] = ["show", "lookup", "normalise", "key", "pairs", "extract"];
 

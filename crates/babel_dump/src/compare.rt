@@ -27,7 +27,7 @@ pub(crate) fn found_verdict(
     let verdict = babel_canon::compare(alloc, &seen.left, &seen.right)?;
     let text = verdict_output(alloc, format, view, &verdict)?;
     let outcome = seen.compared(alloc, verdict_status(&verdict))?;
-    Ok(Found::text(alloc, text, outcome)?)
+    Ok(Found::text(text, outcome))
 }
 
 /// The status of a verdict.

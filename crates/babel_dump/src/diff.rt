@@ -53,12 +53,12 @@ pub(crate) fn found_diff(
             let spelling = style.spelling;
             let heads = head_lines(alloc, spelling, file, other_file, reading, other_reading)?;
             let (lines, after) = diff_rows(alloc, view, style, heads, rows, list)?;
-            Ok(Found::rows(alloc, Format::Text(spelling), lines, after, outcome)?)
+            Ok(Found::rows(Format::Text(spelling), lines, after, outcome))
         }
         Format::Json(_) => {
             let after = stat_after(alloc, format, style.stat, rows, &list)?;
             let lines = Rows::Differences(view, list);
-            Ok(Found::rows(alloc, format, lines, after, outcome)?)
+            Ok(Found::rows(format, lines, after, outcome))
         }
     }
 }

@@ -34,13 +34,13 @@ pub(crate) fn found_differences(
         let number = difference_count(alloc, limits, &seen.left, &seen.right)?;
         let text = count_output(alloc, format, "differences", number)?;
         let outcome = seen.compared(alloc, differences_status(number))?;
-        return Ok(Found::text(alloc, text, outcome)?);
+        return Ok(Found::text(text, outcome));
     }
     let differences = babel_canon::differences(alloc, limits, &seen.left, &seen.right)?;
     let outcome = seen.compared(alloc, differences_status(differences.len()))?;
     drop(seen);
     let (rows, after) = difference_rows(alloc, view, format, differences)?;
-    Ok(Found::rows(alloc, format, rows, after, outcome)?)
+    Ok(Found::rows(format, rows, after, outcome))
 }
 
 /// The lines of each difference, or `same` where there is none.

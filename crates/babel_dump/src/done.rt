@@ -1,5 +1,6 @@
 //! What came of what was asked for, and what is said of that.
 ghost use Rattle.std.specs.Prelude.{◌≡◌, IfOk};
+ghost use Rattle.std.specs.Option.{unwrap_or};
 ghost use Rattle.babel_capture.specs.Gathering.{name_of};
 ghost use Rattle.babel_dump.specs.Trouble.{done_status, read_status};
 
@@ -8,6 +9,7 @@ use crate::asked::Asked;
 use crate::byte_out::FromWriter;
 use crate::capture_input::CaptureRead;
 use crate::capture_notes::CaptureNotes;
+use crate::each_sender::EachSender;
 use crate::events_job::Events;
 use crate::events_outcome::{EventsOutcome, HeardSender};
 use crate::hint::Hint;
@@ -20,7 +22,6 @@ use crate::outcome::Reports;
 use crate::place_word::NamedOrigin;
 use crate::run_fault::{RunFault, Side};
 use crate::says::Says;
-use crate::sender_keys::SenderKeys;
 use crate::trouble::{Trouble, say_hint};
 use babel_capture::{Gathered, Origin};
 use babel_table::Report;
@@ -153,18 +154,20 @@ impl Done {
         Ok(self)
     }
 
-    /// What came of `key` without `--from`, of the senders of what it read, if there are any.
+    /// What came of what was asked for of each sender, with the least of the statuses of those
+    /// that are not refused, if there are any.
     pub fn of_senders(
         mut self,
-        keys: &SenderKeys,
+        each: &EachSender,
         read: &CaptureRead,
         senders: Vec<ToldSender>,
+        status: Option<u8>,
     ) -> Result<Done, Trouble>
-        ensures status { IfOk result (λ done. done.status ≡ self.status) }
+        ensures status { IfOk result (λ done. done.status ≡ unwrap_or status 0) }
         ensures senders { IfOk result (λ done. done.senders ≡ senders) }
     {
         if senders.is_empty() {
-            let absence = Absence::at(keys.place);
+            let absence = Absence::at(each.place);
             return Err(Trouble::from(InputFault::NoPackets(absence)));
         }
         let capture = CaptureNotes {
@@ -173,8 +176,9 @@ impl Done {
             are_apart: true,
             expired_rows: 0,
         };
-        let interval = keys.interval(&read.gathered);
+        let interval = each.interval(&read.gathered);
         self.notes.add_capture(Side::First, capture, interval)?;
+        self.status = status.unwrap_or(0);
         self.senders = senders;
         Ok(self)
     }

@@ -52,7 +52,7 @@ pub(crate) fn found_answers(
     let (answers, status) = answers(alloc, with_prefix, table, asked)?;
     let outcome = Outcome::of_dump(status, *table.report());
     let rows = Rows::Answers(answers);
-    Found::rows(alloc, format, rows, Vec::new(alloc), outcome)
+    Ok(Found::rows(format, rows, Vec::new(alloc), outcome))
 }
 
 /// What a table answers for each of these pairs, and the status that these make.

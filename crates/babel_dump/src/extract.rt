@@ -71,6 +71,6 @@ pub(crate) fn find_packets<R: ByteIn>(
     let read = read?;
     let outcome = Outcome::of_capture(&read.gathered, read.cut);
     let text = dump_text(alloc, hex, copy.octets)?;
-    let found = Found::rows(alloc, format, Rows::Empty, text, outcome)?;
+    let found = Found::text(text, outcome);
     Ok(found.or_absence(read.absence))
 }

@@ -9,7 +9,7 @@ use babel_tlv::Reason;
 use std::fmt;
 
 /// A TLV of a dump that was ignored.
-#[derive(Clone, Copy, Debug, PartialEq, Eq)]
+#[derive(Clone, Copy, PartialEq, Eq)]
 pub struct IgnoredTlv {
     /// Its offset in the dump.
     pub at: u64,

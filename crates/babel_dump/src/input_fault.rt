@@ -9,11 +9,12 @@ use crate::left_out::LeftOutDatagram;
 use babel_capture::Fault as CaptureFault;
 use babel_tlv::Fault;
 use std::alloc::AllocError;
+use std::fmt;
 use thiserror::Error;
 
 /// Why an input, a dump or a capture, gave no result. `Display` gives the line for
 /// standard error.
-#[derive(Debug, Drop, PartialEq, Eq, Error)]
+#[derive(Drop, PartialEq, Eq, Error)]
 pub enum InputFault {
     /// The dump is refused, or an allocation was.
     #[error("{0}")]
@@ -43,6 +44,12 @@ pub enum InputFault {
     /// A read failed.
     #[error("read failed")]
     Read,
+}
+
+impl fmt::Debug for InputFault {
+    fn fmt<W: fmt::Write>(&self, out: &mut fmt::Formatter<W>) -> fmt::Result {
+        fmt::Display::fmt(self, out)
+    }
 }
 
 impl InputFault {

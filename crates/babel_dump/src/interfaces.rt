@@ -12,7 +12,7 @@ const LISTED: usize = 16;
 
 /// The places where a sender's packets were captured, in rising order. `Display` gives them in the
 /// form of `--interface` with a comma between each two, and says how many there are besides 16.
-#[derive(Debug, Drop, PartialEq, Eq)]
+#[derive(Drop, PartialEq, Eq)]
 pub struct Interfaces(pub Vec<Place>);
 
 impl fmt::Display for Interfaces {

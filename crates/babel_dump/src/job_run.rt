@@ -67,7 +67,7 @@ pub fn run_job<R: ByteIn, S: ByteIn, W: ByteOut>(
 {
     let found = find(alloc, job, reader, other);
     let aside = aside_of(&found);
-    let outcome = finish(writer, found)?;
+    let outcome = finish(alloc, writer, found)?;
     Ok(Ran { outcome, aside })
 }
 
@@ -130,7 +130,15 @@ pub(crate) fn find_of_dump<R: ByteIn>(
         return find_answer(alloc, source.reading, pair, with_prefix, format, reader);
     }
     let (table, notes) = read_table(alloc, source.reading, reader)?;
-    let found = found_of(alloc, source, task, format, quiet, table)?;
+    let found = found_of(
+        alloc,
+        source.reading,
+        &source.file,
+        task,
+        format,
+        quiet,
+        table,
+    )?;
     Ok(found.beside(notes, None))
 }
 

@@ -4,7 +4,7 @@ ghost use Rattle.babel_dump.specs.Command.{WritesOctets};
 ghost use Rattle.babel_dump.specs.KeyText.{file_in, key_in};
 ghost use Rattle.babel_dump.specs.Octets.{AreOctets, HasTooMany};
 ghost use Rattle.babel_dump.specs.Parts.{FoundTooMany, Says};
-ghost use Rattle.babel_dump.specs.SenderKeys.{IsKeyOf};
+ghost use Rattle.babel_dump.specs.EachSender.{IsKeyOf};
 
 use crate::format::Format;
 use crate::job::Form;
@@ -21,20 +21,22 @@ use std::alloc::Global;
 
 /// The key of a dump.
 #[derive(Drop)]
-pub struct MadeKey {
+pub struct TableText {
     /// Its line.
     pub line: Vec<u8>,
     /// The report of the dump's table.
     pub report: Report,
+    /// The status of what was asked for of it.
+    pub status: u8,
     /// How many rows that table has.
     pub rows: usize,
     /// How many of them were not announced again in time, if none was left out for that.
     pub expired_rows: usize,
 }
 
-impl MadeKey {
+impl TableText {
     /// The same of a table of which so many rows were not announced again in time.
-    pub(crate) fn with_expired_rows(self, expired_rows: usize) -> MadeKey
+    pub(crate) fn with_expired_rows(self, expired_rows: usize) -> TableText
         ensures { result ≡ record self { expired_rows = expired_rows } }
     {
         let mut key = self;
@@ -62,7 +64,7 @@ pub(crate) fn found_key(
     let named = file_output(alloc, format, file)?;
     let key = make_key(alloc, reading, form, view, format, &named, table)?;
     let outcome = Outcome::of_dump(0, key.report);
-    Ok(Found::text(alloc, key.line, outcome)?)
+    Ok(Found::text(key.line, outcome))
 }
 
 /// The key of a table, which is named so in this format.
@@ -74,7 +76,7 @@ pub(crate) fn make_key(
     format: Format,
     named: &[u8],
     table: Table,
-) -> Result<MadeKey, Fault>
+) -> Result<TableText, Fault>
     ensures ok { IfOk result (λ key. IsKeyOf form reading view format named.now key table) }
     ensures err { IfErr result
         (FoundTooMany (HasTooMany form reading.limits (seen_rows view table.rows))) }
@@ -82,9 +84,10 @@ pub(crate) fn make_key(
     let (report, rows) = (*table.report(), table.rows().len());
     let octets = octets_of(alloc, reading, form, view, Body::usual(), table)?;
     let line = key_output(alloc, format, &octets, named)?;
-    Ok(MadeKey {
+    Ok(TableText {
         line,
         report,
+        status: 0,
         rows,
         expired_rows: 0,
     })

@@ -1,9 +1,9 @@
 //! What the line of a key names, in its format: a file, and perhaps a sender in it.
-ghost use Rattle.std.specs.Prelude.{◌≡◌, ◌++◌, IfOk, OnOk};
+ghost use Rattle.std.specs.Prelude.{◌≡◌, ◌++◌, ◌≤◌, IfOk, OnOk, length};
 ghost use Rattle.std.specs.List.{flat_map};
-ghost use Rattle.babel_dump.specs.CaptureText.{escaped, json_escape, name_json};
+ghost use Rattle.babel_dump.specs.CaptureText.{escaped, name_json};
 ghost use Rattle.babel_dump.specs.KeyText.{file_in, file_member, json_octet};
-ghost use Rattle.babel_dump.specs.SenderKeys.{origin_in, sender_members, sender_name};
+ghost use Rattle.babel_dump.specs.EachSender.{origin_in, sender_members, sender_name};
 ghost use Rattle.babel_dump.specs.Slices.{HasRoom, TookRoom};
 
 use crate::diff::{ROOM, push_place};
@@ -76,7 +76,7 @@ fn sender_members(
 }
 
 /// Appends the name of an interface: a string, or `null`.
-fn push_name_json(line: &mut Vec<u8>, name: &[u8]) -> Result<(), AllocError>
+pub(crate) fn push_name_json(line: &mut Vec<u8>, name: &[u8]) -> Result<(), AllocError>
     ensures { OnOk result (line.new.items ≡ line.old.items ++ name_json name.now) }
 {
     if name.is_empty() {
@@ -84,18 +84,19 @@ fn push_name_json(line: &mut Vec<u8>, name: &[u8]) -> Result<(), AllocError>
         return Ok(());
     }
     line.push(b'"')?;
-    push_escaped(line, name)?;
+    push_escaped(line, r"\\x", name)?;
     line.push(b'"')?;
     Ok(())
 }
 
-/// Appends the octets of the name of an interface.
-fn push_escaped(line: &mut Vec<u8>, name: &[u8]) -> Result<(), AllocError>
-    ensures { OnOk result (line.new.items ≡ line.old.items ++ escaped json_escape name.now) }
+/// Appends the octets of the name of an interface, with this before two digits.
+pub(crate) fn push_escaped(line: &mut Vec<u8>, escape: &str, name: &[u8]) -> Result<(), AllocError>
+    requires { length escape.now ≤ 3 }
+    ensures { OnOk result (line.new.items ≡ line.old.items ++ escaped escape.now name.now) }
 {
     for octet in name {
         line.reserve(5)?;
-        push_name_octet(line, r"\\x", *octet);
+        push_name_octet(line, escape, *octet);
     }
     Ok(())
 }

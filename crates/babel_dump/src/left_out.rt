@@ -9,7 +9,7 @@ use babel_capture::{Reason, Report};
 use std::fmt;
 
 /// A datagram of a capture that was left out.
-#[derive(Clone, Copy, Debug, PartialEq, Eq)]
+#[derive(Clone, Copy, PartialEq, Eq)]
 pub struct LeftOutDatagram {
     /// The number of its packet in the capture, from 1.
     pub packet: u64,

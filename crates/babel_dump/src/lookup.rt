@@ -31,7 +31,7 @@ pub(crate) fn found_answer(
         with_prefix,
     };
     let text = lookup_output(alloc, format, answered)?;
-    Found::text(alloc, text, outcome)
+    Ok(Found::text(text, outcome))
 }
 
 /// The status of the answer of a row.

@@ -42,7 +42,7 @@ pub(crate) fn found_octets(
     } else {
         octets
     };
-    Ok(Found::text(alloc, text, outcome)?)
+    Ok(Found::text(text, outcome))
 }
 
 /// The canonical octets, under the view, of a dump that is read so and has this table, or its route

@@ -222,6 +222,11 @@ pub(crate) static SENT: &[OptionRow] = &[
         ..FROM
     },
     OptionRow {
+        help: "The source address of the packets; if omitted, each sender in a capture is reported",
+        commands: &["show", "lookup"],
+        ..FROM
+    },
+    OptionRow {
         help: "The source address of the packets; if omitted, each sender in a capture has a key",
         commands: &["key"],
         ..FROM
@@ -506,6 +511,7 @@ pub(crate) static ASKED: &[OptionRow] = &[
                instead of --to and --src",
         commands: &["lookup"],
         conflicts: &["to", "src"],
+        needs: Some("from"),
         ..FLAG
     },
     FILE,

@@ -39,9 +39,9 @@ pub(crate) fn found_pairs(
     if count {
         let pairs = kept_count(alloc, limits, filter, &seen)?;
         let text = counts_output(alloc, format, rows, pairs)?;
-        return Ok(Found::text(alloc, text, outcome)?);
+        return Ok(Found::text(text, outcome));
     }
     let pairs = CanonicalPairs::of(alloc, limits, &seen)?;
     let rows = Rows::Pairs(filter, view, pairs);
-    Ok(Found::rows(alloc, format, rows, Vec::new(alloc), outcome)?)
+    Ok(Found::rows(format, rows, Vec::new(alloc), outcome))
 }

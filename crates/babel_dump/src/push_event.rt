@@ -216,7 +216,7 @@ fn tells_place(place: Place, name: &[u8]) -> bool
 }
 
 /// Appends the number of the interface, where the place is told.
-fn push_interface(buffer: &mut Vec<u8>, place: Place, name: &[u8])
+pub(crate) fn push_interface(buffer: &mut Vec<u8>, place: Place, name: &[u8])
     requires { HasRoom buffer.old 31 }
     ensures text { buffer.new.items ≡ buffer.old.items ++ interface_text place name.now }
     ensures room { TookRoom buffer.old buffer.new 31 }

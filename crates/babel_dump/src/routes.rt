@@ -35,10 +35,10 @@ pub(crate) fn found_routes(
     let outcome = Outcome::of_dump(0, *table.report());
     if count {
         let text = count_output(alloc, format, rows_name(format), filter.count(&table))?;
-        return Found::text(alloc, text, outcome);
+        return Ok(Found::text(text, outcome));
     }
     let rows = Rows::Table(filter, view, table);
-    Found::rows(alloc, format, rows, Vec::new(alloc), outcome)
+    Ok(Found::rows(format, rows, Vec::new(alloc), outcome))
 }
 
 /// The lines of the keys for which two tables hold what differs. Out of memory is the first
@@ -58,7 +58,7 @@ pub(crate) fn found_route_differences(
     let list = route_differences(alloc, &seen.left, &seen.right)?;
     let outcome = seen.outcome(differences_status(list.len()));
     let (rows, after) = listed_rows(alloc, view, listed, format, list)?;
-    Ok(Found::rows(alloc, format, rows, after, outcome)?)
+    Ok(Found::rows(format, rows, after, outcome))
 }
 
 /// The lines of the first difference, or of each, or no line, and the line of how many there are.

@@ -10,7 +10,7 @@ use std::fmt;
 use thiserror::Error;
 
 /// Which of two inputs. A command over one has the first alone.
-#[derive(Clone, Copy, Debug, PartialEq, Eq)]
+#[derive(Clone, Copy, PartialEq, Eq)]
 pub enum Side {
     /// FILE.
     First,
@@ -47,7 +47,7 @@ impl fmt::Display for Side {
 }
 
 /// Why a run gave no status. `Display` gives the line for standard error.
-#[derive(Debug, Drop, PartialEq, Eq, Error)]
+#[derive(Drop, PartialEq, Eq, Error)]
 pub enum RunFault {
     /// The input on this side is refused, could not be read, or there was no memory for it. Running
     /// out of memory is the other input's fault only while that is read.
@@ -59,6 +59,12 @@ pub enum RunFault {
     /// A write or the last flush failed, or a write took nothing.
     #[error("write failed")]
     Write,
+}
+
+impl fmt::Debug for RunFault {
+    fn fmt<W: fmt::Write>(&self, out: &mut fmt::Formatter<W>) -> fmt::Result {
+        fmt::Display::fmt(self, out)
+    }
 }
 
 impl From<InputFault> for RunFault {

@@ -5,13 +5,13 @@ ghost use Rattle.std.specs.Option.{unwrap_or};
 ghost use Rattle.babel_capture.specs.Counts.{Made};
 ghost use Rattle.babel_capture.specs.Sinking.{IsTold};
 ghost use Rattle.babel_capture.specs.Tallies.{origin_cmp};
-ghost use Rattle.babel_dump.specs.SenderKeys.{AreHeard, AreOwn, FeedsOwn, IsFedOwn, MissesOwn};
-ghost use Rattle.babel_dump.specs.SenderKeys.{table_at};
+ghost use Rattle.babel_dump.specs.EachSender.{AreHeard, AreOwn, FeedsOwn, IsFedOwn, MissesOwn};
+ghost use Rattle.babel_dump.specs.EachSender.{table_at};
 ghost use Rattle.babel_dump.specs.declared.sender_tables.SenderTable.{SenderTable as TableSaid};
 
+use crate::each_sender::EachSender;
 use crate::left_out::LeftOutDatagram;
 use crate::packet_feeder::PacketFeeder;
-use crate::sender_keys::SenderKeys;
 use babel_capture::{BabelPacket, Origin, Record, Said, Sink, Time};
 use babel_tlv::Fault;
 use std::alloc::Global;
@@ -28,7 +28,7 @@ pub struct SenderTable {
 #[derive(Drop)]
 pub(crate) struct SenderTables<'a> {
     alloc: Global,
-    keys: &'a SenderKeys,
+    each: &'a EachSender,
     seed: u128,
     pub tables: BTreeMap<Origin, SenderTable>,
     /// Whether memory ran out, so that packets are missing.
@@ -37,13 +37,13 @@ pub(crate) struct SenderTables<'a> {
 
 impl<'a> SenderTables<'a> {
     /// Nothing was heard.
-    pub(crate) fn new(alloc: Global, keys: &'a SenderKeys, seed: u128) -> SenderTables<'a>
-        ensures keys { result.keys.now ≡ keys.now }
+    pub(crate) fn new(alloc: Global, each: &'a EachSender, seed: u128) -> SenderTables<'a>
+        ensures each { result.each.now ≡ each.now }
         ensures none { AreHeard result [] }
     {
         SenderTables {
             alloc,
-            keys,
+            each,
             seed,
             tables: BTreeMap::new(alloc),
             has_failed: false,
@@ -52,9 +52,9 @@ impl<'a> SenderTables<'a> {
 
     /// The table of a sender of which nothing was heard.
     fn first(&self, origin: Origin) -> Result<SenderTable, Fault>
-        ensures { IfOk result (λ table. IsFedOwn self.now.keys.now origin [] None table) }
+        ensures { IfOk result (λ table. IsFedOwn self.now.each.now origin [] None table) }
     {
-        let packets = PacketFeeder::new(self.alloc, &self.keys.reading(origin, self.seed))?;
+        let packets = PacketFeeder::new(self.alloc, &self.each.reading(origin, self.seed))?;
         Ok(SenderTable {
             packets,
             missed: None,
@@ -63,7 +63,7 @@ impl<'a> SenderTables<'a> {
 
     /// Keeps a table.
     fn put(&mut self, origin: Origin, table: SenderTable) -> Result<(), Fault>
-        ensures same { (self.new.keys.now ≡ self.old.keys.now)
+        ensures same { (self.new.each.now ≡ self.old.each.now)
             × (self.new.has_failed ≡ self.old.has_failed) }
         ensures put { OnOk result (self.new.tables.entries
             ≡ insert_entry origin_cmp self.old.tables.entries origin table) }
@@ -76,12 +76,12 @@ impl<'a> SenderTables<'a> {
 
     /// Feeds the table of a sender a packet.
     fn feed(&mut self, time: Option<Time>, packet: &BabelPacket<'_>) -> Result<(), Fault>
-        ensures same { (self.new.keys.now ≡ self.old.keys.now)
+        ensures same { (self.new.each.now ≡ self.old.each.now)
             × (self.new.has_failed ≡ self.old.has_failed) }
         ensures fed { OnOk result ((table : TableSaid)
             × (self.new.tables.entries ≡ insert_entry origin_cmp self.old.tables.entries
             packet.now.origin table)
-            × FeedsOwn self.old.keys.now packet.now.origin
+            × FeedsOwn self.old.each.now packet.now.origin
             (table_at self.old.tables.entries packet.now.origin)
             (unwrap_or time 0, packet.now.octets.now) table) }
     {
@@ -96,12 +96,12 @@ impl<'a> SenderTables<'a> {
 
     /// Notes that a datagram of a sender is missed.
     fn miss(&mut self, origin: Origin, datagram: LeftOutDatagram) -> Result<(), Fault>
-        ensures same { (self.new.keys.now ≡ self.old.keys.now)
+        ensures same { (self.new.each.now ≡ self.old.each.now)
             × (self.new.has_failed ≡ self.old.has_failed) }
         ensures missed { OnOk result ((table : TableSaid)
             × (self.new.tables.entries ≡ insert_entry origin_cmp self.old.tables.entries
             origin table)
-            × MissesOwn self.old.keys.now origin (table_at self.old.tables.entries origin)
+            × MissesOwn self.old.each.now origin (table_at self.old.tables.entries origin)
             datagram table) }
     {
         if let Some(table) = self.tables.get_mut(&origin) {
@@ -115,22 +115,22 @@ impl<'a> SenderTables<'a> {
 
     /// Hears a record.
     fn hear(&mut self, told: &Record<'_>) -> Result<(), Fault>
-        ensures same { (self.new.keys.now ≡ self.old.keys.now)
+        ensures same { (self.new.each.now ≡ self.old.each.now)
             × (self.new.has_failed ≡ self.old.has_failed) }
         ensures heard { OnOk result ((made : List Made) (one : Made) → IsTold one told.now
-            → AreOwn self.old.keys.now made self.old.tables.entries
-            → AreOwn self.old.keys.now (made ++ one ∷ []) self.new.tables.entries) }
+            → AreOwn self.old.each.now made self.old.tables.entries
+            → AreOwn self.old.each.now (made ++ one ∷ []) self.new.tables.entries) }
     {
         match &told.said {
             Said::Packet(packet) => {
-                if self.keys.asks_for(&packet.origin) {
+                if self.each.asks_for(&packet.origin) {
                     self.feed(told.time, packet)
                 } else {
                     Ok(())
                 }
             }
             Said::Missed(missed) => {
-                if self.keys.asks_for(&missed.origin) {
+                if self.each.asks_for(&missed.origin) {
                     let (packet, reason) = (told.number, missed.reason);
                     self.miss(missed.origin, LeftOutDatagram { packet, reason })
                 } else {
@@ -143,7 +143,7 @@ impl<'a> SenderTables<'a> {
 }
 
 impl Sink for SenderTables<'_> {
-    ghost use Rattle.babel_dump.specs.SenderKeys.{KeepsOwn};
+    ghost use Rattle.babel_dump.specs.EachSender.{KeepsOwn};
 
     ghost has = { KeepsOwn };
 

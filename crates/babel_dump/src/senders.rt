@@ -30,6 +30,6 @@ pub(crate) fn find_senders<R: ByteIn>(
     let read = read_capture(alloc, reading, Wanted::everyone(), reader, &mut NoSink)?;
     let outcome = Outcome::of_capture(&read.gathered, read.cut);
     let rows = Rows::Senders(read.gathered);
-    let found = Found::rows(alloc, format, rows, Vec::new(alloc), outcome)?;
+    let found = Found::rows(format, rows, Vec::new(alloc), outcome);
     Ok(found.or_absence(read.absence))
 }

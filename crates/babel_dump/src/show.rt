@@ -32,11 +32,11 @@ pub(crate) fn found_rows(
     if summary {
         let summary = Summary::of(alloc, &filter, &table)?;
         let text = summary_output(alloc, format, quiet, summary, table.report())?;
-        return Found::text(alloc, text, outcome);
+        return Ok(Found::text(text, outcome));
     }
     let after = after_rows(alloc, quiet, format, table.report())?;
     let rows = Rows::Table(filter, View::all(), table);
-    Found::rows(alloc, format, rows, after, outcome)
+    Ok(Found::rows(format, rows, after, outcome))
 }
 
 /// The report that comes after rows, unless it is left out.

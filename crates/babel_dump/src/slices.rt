@@ -1,7 +1,7 @@
 //! Lines that are written in slices: a buffer takes them, and is written out where it has no room
 //! for one more. So a text of any length takes no more memory than the buffer, which is there
 //! before the first octet is written.
-ghost use Rattle.std.specs.Prelude.{◌≡◌, ◌∷◌, ◌++◌, ◌-◌, ◌^◌, ◌<◌, ◌≤◌, [], IfOk, OnOk};
+ghost use Rattle.std.specs.Prelude.{◌≡◌, ◌∷◌, ◌++◌, ◌-◌, ◌^◌, ◌<◌, ◌≤◌, [], OnOk};
 ghost use Rattle.std.specs.Prelude.{vec_capacity};
 ghost use Rattle.std.specs.List.{flat_map};
 ghost use Rattle.babel_dump.specs.CaptureText.{escape, escaped, sender_in, senders_in, with_times};
@@ -31,7 +31,7 @@ use babel_canon::{CanonicalPairs, Difference};
 use babel_capture::{Gathered, Origin, Tally};
 use babel_table::Table;
 use babel_tlv::{Held, Key, View};
-use std::alloc::{AllocError, Global};
+use std::alloc::Global;
 
 /// Rows of which each has a line.
 #[derive(Drop)]
@@ -53,13 +53,12 @@ pub(crate) enum Rows {
 }
 
 /// What a run found: rows, whose lines are written in a format, a text after these, and what it
-/// answers. The buffer is for the slices of the lines.
+/// answers.
 #[derive(Drop)]
 pub(crate) struct Found {
     pub format: Format,
     pub rows: Rows,
     pub after: Vec<u8>,
-    pub buffer: SliceBuffer,
     pub outcome: Outcome,
     /// What there is to say besides.
     pub aside: Aside,
@@ -67,26 +66,17 @@ pub(crate) struct Found {
 
 impl Found {
     /// Rows, and a text after their lines.
-    pub fn rows(
-        alloc: Global,
-        format: Format,
-        rows: Rows,
-        after: Vec<u8>,
-        outcome: Outcome,
-    ) -> Result<Found, AllocError>
-        ensures text { IfOk result (λ found.
-            found_text found ≡ lines_of format rows ++ after.items) }
-        ensures outcome { IfOk result (λ found. found.outcome ≡ outcome) }
+    pub fn rows(format: Format, rows: Rows, after: Vec<u8>, outcome: Outcome) -> Found
+        ensures text { found_text result ≡ lines_of format rows ++ after.items }
+        ensures outcome { result.outcome ≡ outcome }
     {
-        let buffer = SliceBuffer::new(alloc)?;
-        Ok(Found {
+        Found {
             format,
             rows,
             after,
-            buffer,
             outcome,
             aside: Aside::none(),
-        })
+        }
     }
 
     /// The same of dumps that were read of captures with these notes.
@@ -111,22 +101,17 @@ impl Found {
     }
 
     /// A text, and no rows.
-    pub fn text(alloc: Global, text: Vec<u8>, outcome: Outcome) -> Result<Found, AllocError>
-        ensures text { IfOk result (λ found. found_text found ≡ text.items) }
-        ensures outcome { IfOk result (λ found. found.outcome ≡ outcome) }
+    pub fn text(text: Vec<u8>, outcome: Outcome) -> Found
+        ensures text { found_text result ≡ text.items }
+        ensures outcome { result.outcome ≡ outcome }
     {
-        Found::rows(
-            alloc,
-            Format::Text(Spelling::Long),
-            Rows::Empty,
-            text,
-            outcome,
-        )
+        Found::rows(Format::Text(Spelling::Long), Rows::Empty, text, outcome)
     }
 }
 
 /// Writes the lines that a run found, if it did, and the text after them, and answers its outcome.
 pub(crate) fn finish<W: ByteOut>(
+    alloc: Global,
     writer: &mut W,
     found: Result<Found, RunFault>,
 ) -> Result<Outcome, RunFault>
@@ -137,11 +122,10 @@ pub(crate) fn finish<W: ByteOut>(
         format,
         rows,
         after,
-        buffer,
         outcome,
         ..
     } = found?;
-    let mut buffer = buffer.into_octets();
+    let mut buffer = SliceBuffer::new(alloc)?.into_octets();
     write_rows(writer, format, rows, &mut buffer)?;
     write_last(writer, &mut buffer, &after)?;
     Ok(outcome)

@@ -13,11 +13,12 @@ use crate::compare::found_verdict;
 use crate::diff::found_diff;
 use crate::differences::found_differences;
 use crate::format::Format;
-use crate::job::{Comparison, DumpSource, Form, Listed, Task};
+use crate::job::{Comparison, DumpFile, DumpSource, Form, Listed, Task};
 use crate::key::found_key;
 use crate::lookup::found_answer;
 use crate::normalise::found_octets;
 use crate::pairs::found_pairs;
+use crate::reading::Reading;
 use crate::routes::{found_route_differences, found_routes};
 use crate::run_fault::RunFault;
 use crate::show::found_rows;
@@ -29,18 +30,18 @@ use std::alloc::Global;
 /// What a task finds of the table of a dump.
 pub(crate) fn found_of(
     alloc: Global,
-    source: &DumpSource,
+    reading: Reading,
+    file: &DumpFile,
     task: Task,
     format: Format,
     quiet: bool,
     table: Table,
 ) -> Result<Found, Fault>
-    ensures ok { IfOk result (Says (TaskFinds task format quiet (name_of source.now.file)
-        source.now.reading table)) }
-    ensures err { IfErr result
-        (FoundTooMany (TaskFindsTooMany task source.now.reading.limits table)) }
+    ensures ok { IfOk result (Says (TaskFinds task format quiet (name_of file.now)
+        reading table)) }
+    ensures err { IfErr result (FoundTooMany (TaskFindsTooMany task reading.limits table)) }
 {
-    let (reading, name) = (source.reading, source.file.name());
+    let name = file.name();
     match task {
         Task::Show { filter, summary } => {
             Ok(found_rows(alloc, filter, summary, quiet, format, table)?)

@@ -166,7 +166,7 @@ fn each_read_of_pairs(rt: HostRuntime) -> Result<(), Fail> {
 #[test]
 fn each_read_for_keys_of_senders(rt: HostRuntime) -> Result<(), Fail> {
     let capture = octets(rt.alloc(), CAPTURE)?;
-    let Asked::SenderKeys(keys) = one_asked(rt.alloc(), "key x")? else {
+    let Asked::EachSender(keys) = one_asked(rt.alloc(), "key x")? else {
         return Err(Fail::from("no keys of senders"));
     };
     for failing in 1..capture.len() as u64 + 2 {

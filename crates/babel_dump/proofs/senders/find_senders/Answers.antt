@@ -11,7 +11,7 @@ returns g c =
         cut = c.in_ok-read.read.cut;
         gave = rw c.everyone.ensures at c.in_ok-read.ensures.made.gave;
         one_place = λ none. absurd cc;
-        text_is = c.or_absence.ensures.text ∙ c.in_ok-found.ensures.text ∙ ap (λ (after : List ℕ). lines ++ after) c.new.ensures.items ∙ append-nil lines;
+        text_is = c.or_absence.ensures.text ∙ c.rows-found.ensures.text ∙ ap (λ (after : List ℕ). lines ++ after) c.new.ensures.items ∙ append-nil lines;
         outcome_is = search rules;
       };
       cause = search rules;

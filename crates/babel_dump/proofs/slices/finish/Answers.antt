@@ -1,6 +1,10 @@
-use Rattle.babel_dump.proofs.FinishedRows.{failed_rows, finished_rows}
+use Rattle.std.proofs.Common.{refl}
+use Rattle.babel_dump.proofs.FinishedRows.{failed_rows, finished_rows, no_memory}
 use Rattle.babel_dump.proofs.SliceLaws.{broke_text, broke_within, wrote_last}
 use Rattle.babel_dump.proofs.slices.finish.Goals as goal
+
+pub returns-in_err-new : goal.returns-in_err-new
+returns-in_err-new g c = no_memory _ _ c.in_ok-format.field-0 c.from_residual-in_err-new.result c.in_ok-format.was c.from_residual-in_err-new.ensures.1 refl
 
 pub returns-in_err-write_rows : goal.returns-in_err-write_rows
 returns-in_err-write_rows g c =

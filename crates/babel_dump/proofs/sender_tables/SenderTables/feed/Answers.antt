@@ -7,7 +7,7 @@ use Rattle.std.specs.Option.{unwrap_or}
 use Rattle.babel_capture.specs.Tallies.{origin_cmp}
 use Rattle.babel_capture.specs.declared.tallies.Origin.{Origin}
 use Rattle.babel_capture.specs.contracts.tallies.OriginOrd.TheImpl.{ghosts}
-use Rattle.babel_dump.specs.SenderKeys.{FeedsOwn}
+use Rattle.babel_dump.specs.EachSender.{FeedsOwn}
 use Rattle.babel_dump.specs.declared.sender_tables.SenderTable.{SenderTable}
 use Rattle.babel_dump.proofs.OwnTables.{fed_again, fed_first, on_ok, there_so, written_so}
 use Rattle.babel_dump.proofs.sender_tables.SenderTables.feed.Goals as goal
@@ -21,8 +21,8 @@ returns-in-Some-clause-fed c =
     let there : lookup (is_at (ghosts.cmp origin)) entries ≡ Some old = search rules in (
       new,
       written_so entries (c.get_mut.follows.lender new).entries origin old new there c.get_mut.ensures.ordered (c.get_mut.follows.holds new).0,
-      subst (λ (t : Option SenderTable). FeedsOwn c.args.self.now.keys.now origin t (unwrap_or c.args.time 0, c.args.packet.now.octets.now) new) (sym (there_so entries origin (Some old) there))
-          (fed_again c.args.self.now.keys.now origin _ old new c.feed.ensures refl),
+      subst (λ (t : Option SenderTable). FeedsOwn c.args.self.now.each.now origin t (unwrap_or c.args.time 0, c.args.packet.now.octets.now) new) (sym (there_so entries origin (Some old) there))
+          (fed_again c.args.self.now.each.now origin _ old new c.feed.ensures refl),
     )
 
 pub returns-clause-fed : goal.returns-clause-fed
@@ -35,6 +35,6 @@ returns-clause-fed c =
     on_ok c.put.result c.put.ensures.put (λ put. (
       new,
       put ∙ ap (λ (e : List (Origin × SenderTable)). insert_entry origin_cmp e origin new) kept,
-      subst (λ (t : Option SenderTable). FeedsOwn c.args.self.now.keys.now origin t (unwrap_or c.args.time 0, c.args.packet.now.octets.now) new) (sym (there_so entries origin None none))
-          (fed_first c.args.self.now.keys.now origin _ c.in_ok-table.table new c.in_ok-table.ensures c.feed-2.ensures refl),
+      subst (λ (t : Option SenderTable). FeedsOwn c.args.self.now.each.now origin t (unwrap_or c.args.time 0, c.args.packet.now.octets.now) new) (sym (there_so entries origin None none))
+          (fed_first c.args.self.now.each.now origin _ c.in_ok-table.table new c.in_ok-table.ensures c.feed-2.ensures refl),
     ))

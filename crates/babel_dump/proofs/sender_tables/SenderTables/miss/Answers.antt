@@ -7,7 +7,7 @@ use Rattle.std.specs.Option.{option_or}
 use Rattle.babel_capture.specs.Tallies.{origin_cmp}
 use Rattle.babel_capture.specs.declared.tallies.Origin.{Origin}
 use Rattle.babel_capture.specs.contracts.tallies.OriginOrd.TheImpl.{ghosts}
-use Rattle.babel_dump.specs.SenderKeys.{MissesOwn}
+use Rattle.babel_dump.specs.EachSender.{MissesOwn}
 use Rattle.babel_dump.specs.declared.sender_tables.SenderTable.{SenderTable}
 use Rattle.babel_dump.proofs.OwnTables.{missed_again, missed_first, on_ok, there_so, written_so}
 use Rattle.babel_dump.proofs.sender_tables.SenderTables.miss.Goals as goal
@@ -22,8 +22,8 @@ returns-in-Some-clause-missed c =
     let or : c.or-table.result ≡ option_or c.in-Some.table.now.missed (Some c.args.datagram) = search rules in (
       new,
       written_so entries (c.get_mut.follows.lender new).entries origin old new there c.get_mut.ensures.ordered (c.get_mut.follows.holds new).0,
-      subst (λ (t : Option SenderTable). MissesOwn c.args.self.now.keys.now origin t c.args.datagram new) (sym (there_so entries origin (Some old) there))
-          (missed_again c.args.self.now.keys.now origin c.args.datagram old new refl or),
+      subst (λ (t : Option SenderTable). MissesOwn c.args.self.now.each.now origin t c.args.datagram new) (sym (there_so entries origin (Some old) there))
+          (missed_again c.args.self.now.each.now origin c.args.datagram old new refl or),
     )
 
 pub returns-clause-missed : goal.returns-clause-missed
@@ -36,6 +36,6 @@ returns-clause-missed c =
     on_ok c.put.result c.put.ensures.put (λ put. (
       new,
       put ∙ ap (λ (e : List (Origin × SenderTable)). insert_entry origin_cmp e origin new) kept,
-      subst (λ (t : Option SenderTable). MissesOwn c.args.self.now.keys.now origin t c.args.datagram new) (sym (there_so entries origin None none))
-          (missed_first c.args.self.now.keys.now origin c.args.datagram c.in_ok-table.table new c.in_ok-table.ensures refl refl),
+      subst (λ (t : Option SenderTable). MissesOwn c.args.self.now.each.now origin t c.args.datagram new) (sym (there_so entries origin None none))
+          (missed_first c.args.self.now.each.now origin c.args.datagram c.in_ok-table.table new c.in_ok-table.ensures refl refl),
     ))

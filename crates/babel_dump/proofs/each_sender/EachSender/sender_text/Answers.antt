@@ -1,19 +1,16 @@
 -- The key is that of the table of the sender's own packets.
-use Rattle.std.proofs.Common.{◌≡◌, true, List, ℕ, ap, subst, ◌∙◌, inr}
+use Rattle.std.proofs.Common.{◌≡◌, true, List, ℕ, sym, subst, inr}
 use Rattle.std.specs.Prelude.{None}
 use Rattle.std.proofs.lemmas.Result.{err_from_is_err_and}
 use Rattle.babel_capture.specs.Gathering.{name_of as interface_name}
 use Rattle.babel_table.specs.Counts.{Counts}
-use Rattle.babel_table.specs.Seen.{seen_rows}
-use Rattle.babel_dump.specs.Files.{name_of}
-use Rattle.babel_dump.specs.KeyText.{key_in}
-use Rattle.babel_dump.specs.Octets.{AreOctets, HasTooMany}
-use Rattle.babel_dump.specs.SenderKeys.{origin_in}
+use Rattle.babel_dump.specs.EachSender.{IsToldOf, own_reading}
 use Rattle.babel_dump.specs.Strict.{IsNotReadWhole, IsReadWhole}
-use Rattle.babel_dump.specs.declared.key.MadeKey.{MadeKey}
+use Rattle.babel_dump.specs.Tasks.{TaskFindsTooMany}
+use Rattle.babel_dump.specs.declared.key.TableText.{TableText}
 use Rattle.babel_dump.specs.declared.reading.Reading.{Reading}
-use Rattle.babel_dump.proofs.OwnKeys.{own_fault, own_table, own_unread}
-use Rattle.babel_dump.proofs.sender_keys.SenderKeys.key_of.Goals as goal
+use Rattle.babel_dump.proofs.OwnTexts.{own_fault, own_table, own_unread, told_again}
+use Rattle.babel_dump.proofs.each_sender.EachSender.sender_text.Goals as goal
 
 pub returns-in_err-table-clause-err : goal.returns-in_err-table-clause-err
 returns-in_err-table-clause-err c =
@@ -32,36 +29,30 @@ returns-in_err-refuse_unread-clause-err c =
 pub returns-in_err-key-clause-err : goal.returns-in_err-key-clause-err
 returns-in_err-key-clause-err c =
     let exit = err_from_is_err_and c.from_residual-in_err-key.result c.from_residual-in_err-key.ensures.1 in
-    let keys = c.args.self.now in
+    let each = c.args.self.now in
     let table = c.in_ok-table.table in
     rw (exit.1, exit.2) (λ made whole fed not_memory. let found = c.in_err-key.ensures.err not_memory in inr (
       table,
-      own_table keys made c.args.read.now.moment c.args.origin c.args.table whole fed c.in_default.is c.what_expired-expired.result c.what_expired-expired.ensures table
+      own_table each made c.args.read.now.moment c.args.origin c.args.table whole fed c.in_default.is c.what_expired-expired.result c.what_expired-expired.ensures table
           c.in_ok-table.ensures.whole c.in_ok-table.ensures.at,
       found.0,
-      subst (λ (r : Reading). HasTooMany keys.form r.limits (seen_rows keys.view table.rows)) c.of-reading.ensures found.1,
+      subst (λ (r : Reading). TaskFindsTooMany each.task r.limits table) c.of-reading.ensures found.1,
     ))
 
 pub returns-clause-ok : goal.returns-clause-ok
 returns-clause-ok c =
-    let keys = c.args.self.now in
+    let each = c.args.self.now in
     let table = c.in_ok-table.table in
-    let key = c.in_ok-key.ensures.ok in
-    let gathered = c.args.read.now.gathered in
+    let key = c.in_ok-key.key in
     let origin = c.args.origin in
-    let named : c.deref.result.now ≡ origin_in keys.format (name_of keys.file) origin (interface_name gathered origin.place.interface) =
-    c.deref.ensures.value ∙ c.in_ok-named.ensures ∙ ap (λ (file : List ℕ). origin_in keys.format file origin c.name-name.result.now) c.name-file.ensures
-    ∙ ap (λ (name : List ℕ). origin_in keys.format (name_of keys.file) origin name) c.name-name.ensures in
+    let name = interface_name c.args.read.now.gathered origin.place.interface in
+    let told = subst (λ (r : Reading). IsToldOf each.task each r origin c.name-name.result.now key table) c.of-reading.ensures c.in_ok-key.ensures.ok in
+    let named = subst (λ (n : List ℕ). IsToldOf each.task each (own_reading each origin) origin n key table) c.name-name.ensures told in
     λ made whole fed. record {
       table = table;
-      is_own = own_table keys made c.args.read.now.moment c.args.origin c.args.table whole fed c.in_default.is c.what_expired-expired.result c.what_expired-expired.ensures table
+      is_own = own_table each made c.args.read.now.moment c.args.origin c.args.table whole fed c.in_default.is c.what_expired-expired.result c.what_expired-expired.ensures table
           c.in_ok-table.ensures.whole c.in_ok-table.ensures.at;
       strict = λ strict. subst (λ (r : Counts). IsReadWhole None r) c.report.ensures (c.in_ok-refuse_unread.ensures.whole strict);
-      is_key = record {
-        octets = key.octets;
-        are = subst (λ (r : Reading). AreOctets keys.form r keys.view 1024 table key.octets) c.of-reading.ensures key.are;
-        line_is = ap (λ (k : MadeKey). k.line.items) c.with_expired_rows.ensures ∙ key.line_is ∙ ap (key_in keys.format key.octets) named;
-        report_is = ap (λ (k : MadeKey). k.report) c.with_expired_rows.ensures ∙ key.report_is;
-        rows_is = ap (λ (k : MadeKey). k.rows) c.with_expired_rows.ensures ∙ key.rows_is;
-      };
+      is_told = subst (λ (k : TableText). IsToldOf each.task each (own_reading each origin) origin name k table) (sym c.with_expired_rows.ensures)
+          (told_again each.task each (own_reading each origin) origin name key c.count_expired-expired_rows.result table named);
     }

@@ -1,18 +1,18 @@
-//! The keys of the senders in a capture, one after another.
-ghost use Rattle.std.specs.Prelude.{◌≡◌, ◌+◌, ◌∷◌, ◌++◌, ◌≤◌, List, [], IfOk, OnOk};
+//! What is told of the senders in a capture, one after another.
+ghost use Rattle.std.specs.Prelude.{◌≡◌, ◌+◌, ◌∷◌, ◌++◌, ◌≤◌, List, [], IfOk, OnOk, Some};
 ghost use Rattle.std.specs.Map.{keys_of};
 ghost use Rattle.babel_capture.specs.Counts.{Made};
 ghost use Rattle.babel_dump.specs.Fed.{AreWhole};
-ghost use Rattle.babel_dump.specs.MadeKeys.{AreKeys, FoundKey, TellsKeys, line_of, read_of};
-ghost use Rattle.babel_dump.specs.MadeKeys.{rows_of};
+ghost use Rattle.babel_dump.specs.ToldSenders.{AreTexts, FoundText, TellsSenders, least, line_of};
+ghost use Rattle.babel_dump.specs.ToldSenders.{read_of, rows_of, status_with};
 ghost use Rattle.babel_dump.specs.Packets.{packets_made};
-ghost use Rattle.babel_dump.specs.SenderKeys.{AreOwn};
+ghost use Rattle.babel_dump.specs.EachSender.{AreOwn};
 
 use crate::capture_input::CaptureRead;
 use crate::done::{DumpRead, ToldSender};
+use crate::each_sender::EachSender;
 use crate::input_fault::InputFault;
-use crate::key::MadeKey;
-use crate::sender_keys::SenderKeys;
+use crate::key::TableText;
 use crate::sender_tables::SenderTable;
 use crate::trouble::Trouble;
 use babel_capture::Origin;
@@ -20,58 +20,61 @@ use babel_tlv::Fault;
 use std::alloc::{AllocError, Global};
 use std::collections::BTreeMap;
 
-/// What is told of senders of which each has a key, or a fault.
+/// What is told of senders of which each has a text, or a fault.
 #[derive(Drop)]
-pub struct MadeKeys {
+pub struct ToldSenders {
     pub senders: Vec<ToldSender>,
-    /// The lines of their keys, one after another.
+    /// Their lines, one after another.
     pub lines: Vec<u8>,
+    /// The least of their statuses, if one is not refused.
+    pub status: Option<u8>,
     /// How many rows their tables have in all.
     rows: u32,
 }
 
-impl MadeKeys {
-    /// The keys of these tables.
+impl ToldSenders {
+    /// What is told of these tables.
     ///
     /// # Errors
     ///
     /// `TooManyRoutes` where they have more rows in all than the limit.
     pub fn of(
         alloc: Global,
-        keys: &SenderKeys,
+        each: &EachSender,
         read: &CaptureRead,
         tables: BTreeMap<Origin, SenderTable>,
-    ) -> Result<MadeKeys, Trouble>
+    ) -> Result<ToldSenders, Trouble>
         ensures { IfOk result (λ made. (records : List Made) → AreWhole (packets_made records)
-            → AreOwn keys.now records tables.entries → AreKeys keys.now records read.now.moment
+            → AreOwn each.now records tables.entries → AreTexts each.now records read.now.moment
             read.now.gathered (keys_of tables.entries) made) }
     {
-        let mut made = MadeKeys {
+        let mut made = ToldSenders {
             senders: Vec::new(alloc),
             lines: Vec::new(alloc),
+            status: None,
             rows: 0,
         };
         for (origin, table) in tables {
-            let key = keys.key_of(alloc, read, origin, table);
-            made.push(alloc, keys, read, &origin, key)?;
+            let key = each.sender_text(alloc, read, origin, table);
+            made.push(alloc, each, read, &origin, key)?;
         }
         Ok(made)
     }
 
-    /// Takes the key of one more sender, or why it has none.
+    /// Takes what is told of one more sender, or why nothing is.
     fn push(
         &mut self,
         alloc: Global,
-        keys: &SenderKeys,
+        each: &EachSender,
         read: &CaptureRead,
         origin: &Origin,
-        key: Result<MadeKey, InputFault>,
+        key: Result<TableText, InputFault>,
     ) -> Result<(), Trouble>
-        ensures { OnOk result ((found : List FoundKey)
-            → TellsKeys keys.now read.now.gathered found self.old → TellsKeys keys.now
+        ensures { OnOk result ((found : List FoundText)
+            → TellsSenders each.now read.now.gathered found self.old → TellsSenders each.now
             read.now.gathered (found ++ record { origin = origin.now; key = key } ∷ []) self.new) }
     {
-        let told = self.tell(keys, key)?;
+        let told = self.tell(each, key)?;
         let sender = ToldSender::new(alloc, &read.gathered, origin, told)?;
         match self.senders.push(sender) {
             Ok(()) => Ok(()),
@@ -79,46 +82,61 @@ impl MadeKeys {
         }
     }
 
-    /// What is told of a sender: what was read for its key, which is taken, or why it has none.
+    /// What is told of a sender: what was read for its text, which is taken, or why it has none.
     fn tell(
         &mut self,
-        keys: &SenderKeys,
-        key: Result<MadeKey, InputFault>,
+        each: &EachSender,
+        key: Result<TableText, InputFault>,
     ) -> Result<Result<DumpRead, InputFault>, Trouble>
         ensures same { self.new.senders ≡ self.old.senders }
         ensures lines { OnOk result
             (self.new.lines.items ≡ self.old.lines.items ++ line_of key) }
         ensures rows { OnOk result (self.new.rows ≡ self.old.rows + rows_of key) }
-        ensures few { OnOk result (self.old.rows ≤ keys.now.limits.entries
-            → self.new.rows ≤ keys.now.limits.entries) }
+        ensures few { OnOk result (self.old.rows ≤ each.now.limits.entries
+            → self.new.rows ≤ each.now.limits.entries) }
+        ensures status { OnOk result
+            (self.new.status ≡ status_with self.old.status key) }
         ensures read { IfOk result (λ read. read ≡ read_of key) }
     {
         match key {
-            Ok(key) => Ok(Ok(self.take(keys, key)?)),
+            Ok(key) => Ok(Ok(self.take(each, key)?)),
             Err(InputFault::Dump(Fault::TooManyRoutes { .. })) => Err(Trouble::TooManyRoutes),
             Err(InputFault::Dump(Fault::Memory)) => Err(Trouble::from(AllocError)),
             Err(fault) => Ok(Err(fault)),
         }
     }
 
-    /// Takes a key: what was read for it.
-    fn take(&mut self, keys: &SenderKeys, key: MadeKey) -> Result<DumpRead, Trouble>
+    /// Takes a text: what was read for it.
+    fn take(&mut self, each: &EachSender, key: TableText) -> Result<DumpRead, Trouble>
         ensures same { self.new.senders ≡ self.old.senders }
         ensures lines { OnOk result
             (self.new.lines.items ≡ self.old.lines.items ++ key.line.items) }
         ensures rows { OnOk result (self.new.rows ≡ self.old.rows + key.rows) }
-        ensures few { OnOk result (self.new.rows ≤ keys.now.limits.entries) }
+        ensures few { OnOk result (self.new.rows ≤ each.now.limits.entries) }
+        ensures status { OnOk result
+            (self.new.status ≡ Some (least self.old.status key.status)) }
         ensures read { IfOk result
             (λ read. (read.report ≡ key.report) × (read.expired_rows ≡ key.expired_rows)) }
     {
-        let Some(rows) = keys.rows_with(self.rows, key.rows) else {
+        let Some(rows) = each.rows_with(self.rows, key.rows) else {
             return Err(Trouble::TooManyRoutes);
         };
         self.rows = rows;
+        self.status = Some(least(self.status, key.status));
         self.lines.extend_from_slice(&key.line)?;
         Ok(DumpRead {
             report: key.report,
             expired_rows: key.expired_rows,
         })
+    }
+}
+
+/// The least of statuses, if there are any, and one more.
+fn least(before: Option<u8>, status: u8) -> u8
+    ensures { result ≡ least before status }
+{
+    match before {
+        Some(before) => before.min(status),
+        None => status,
     }
 }

@@ -1,4 +1,4 @@
--- `key` without `--from`: the key of each sender in a capture. It is this project's own.
+-- What is told of each sender in a capture where there is no `--from`. It is this project's own.
 use Rattle.std.specs.Prelude.{◌≡◌, ◌≢◌, ◌⊎◌, ℕ, Bool, true, false, if◌then◌else◌}
 use Rattle.std.specs.Prelude.{List, [], ◌∷◌, ◌++◌, length, fold, codes, Option, None, Some, IfSome}
 use Rattle.std.specs.BTreeMap.{is_at}
@@ -19,7 +19,6 @@ use Rattle.babel_table.specs.DumpFault.{DumpFault, HasNoFault}
 use Rattle.babel_table.specs.Feeding.{HasHeard}
 use Rattle.babel_table.specs.Moments.{dump_of}
 use Rattle.babel_table.specs.Rows.{Routes}
-use Rattle.babel_table.specs.Seen.{seen_rows}
 use Rattle.babel_dump.specs.CaptureGiven.{CaptureInput, GaveCapture, GaveSound, capture_from}
 use Rattle.babel_dump.specs.CaptureGiven.{made_in, moment_in}
 use Rattle.babel_dump.specs.CaptureRun.{CaptureCause, IsNoFault}
@@ -32,50 +31,55 @@ use Rattle.babel_dump.specs.Given.{IsTableRead, capture_limit, expired, usual_re
 use Rattle.babel_dump.specs.InFormat.{in_format}
 use Rattle.babel_dump.specs.KeyText.{file_member, key_in}
 use Rattle.babel_dump.specs.LeftOut.{first_whole_left_out}
-use Rattle.babel_dump.specs.Octets.{AreOctets, HasTooMany}
+use Rattle.babel_dump.specs.Led.{lead_in, led}
+use Rattle.babel_dump.specs.Octets.{AreOctets}
 use Rattle.babel_dump.specs.Packets.{packets_made}
 use Rattle.babel_dump.specs.Spelling.{address_text}
 use Rattle.babel_dump.specs.Strict.{IsNotReadWhole, IsReadWhole}
+use Rattle.babel_dump.specs.Tasks.{TaskFinds, TaskFindsTooMany}
 use Rattle.babel_dump.specs.declared.capture_reading.CaptureReading.{CaptureReading}
 use Rattle.babel_dump.specs.declared.format.Format.{Format}
 use Rattle.babel_dump.specs.declared.input_fault.InputFault.{InputFault}
 use Rattle.babel_dump.specs.declared.input_fault.InputFault.TheVariants as input_faults
 use Rattle.babel_dump.specs.declared.job.Form.{Form}
-use Rattle.babel_dump.specs.declared.key.MadeKey.{MadeKey}
+use Rattle.babel_dump.specs.declared.job.Task.{Task}
+use Rattle.babel_dump.specs.declared.job.Task.TheVariants as tasks
+use Rattle.babel_dump.specs.declared.key.TableText.{TableText}
 use Rattle.babel_dump.specs.declared.left_out.LeftOutDatagram.{LeftOutDatagram}
+use Rattle.babel_dump.specs.declared.outcome.Outcome.{Outcome}
 use Rattle.babel_dump.specs.declared.reading.Reading.{Reading}
-use Rattle.babel_dump.specs.declared.sender_keys.SenderKeys.{SenderKeys}
-use Rattle.babel_dump.specs.declared.sender_keys.SendersRead.{SendersRead}
+use Rattle.babel_dump.specs.declared.each_sender.EachSender.{EachSender}
+use Rattle.babel_dump.specs.declared.each_sender.SendersRead.{SendersRead}
 use Rattle.babel_dump.specs.declared.sender_tables.SenderTable.{SenderTable}
 use Rattle.babel_dump.specs.declared.sender_tables.SenderTables.{SenderTables}
 use Rattle.babel_dump.specs.declared.spelling.Spelling.TheVariants as spellings
 
--- how the capture is read, and the dump of a sender at its place, with keys found by this seed
-abbrev pub capture_read_by : SenderKeys → CaptureReading
-capture_read_by keys = record {
-  limit = capture_limit keys.limits.bytes;
-  window = keys.window;
-  accept_cut = keys.accept_cut;
+-- how the capture is read, and the dump of a sender at its place, with rows found by this seed
+abbrev pub capture_read_by : EachSender → CaptureReading
+capture_read_by each = record {
+  limit = capture_limit each.limits.bytes;
+  window = each.window;
+  accept_cut = each.accept_cut;
   strict = false;
 }
 
 -- what a reader gave of a capture of which the datagrams of each sender are wanted
-abbrev pub each_from : SenderKeys → (old new : InputState) → CaptureInput
-each_from keys old new = capture_from old new (capture_read_by keys) everyone
+abbrev pub each_from : EachSender → (old new : InputState) → CaptureInput
+each_from each old new = capture_from old new (capture_read_by each) everyone
 
-abbrev pub read_by : SenderKeys → Origin → (seed : ℕ) → Reading
-read_by keys origin seed = record {
-  limits = keys.limits;
-  mode = keys.mode;
+abbrev pub read_by : EachSender → Origin → (seed : ℕ) → Reading
+read_by each origin seed = record {
+  limits = each.limits;
+  mode = each.mode;
   sender = origin.sender;
   is_capture = true;
   seed = seed;
   place = Some origin.place;
-  window = keys.window;
+  window = each.window;
   time_option = None;
-  expiry = keys.expiry;
-  accept_cut = keys.accept_cut;
-  strict = keys.strict;
+  expiry = each.expiry;
+  accept_cut = each.accept_cut;
+  strict = each.strict;
 }
 
 -- the sender is at the place that is named, if one is
@@ -119,12 +123,12 @@ first_missed origin made =
     fold (λ first one. option_or first (missed_by origin one.number (missed_in one.what))) None made
 
 -- a table of this sender at this place was fed these packets, and this is missed
-pub record IsFedOwn (keys : SenderKeys) (origin : Origin) (packets : List (ℕ × List ℕ))
+pub record IsFedOwn (each : EachSender) (origin : Origin) (packets : List (ℕ × List ℕ))
     (missed : Option LeftOutDatagram) (table : SenderTable) : Type 0 where
-  pub limits : table.packets.feeder.limits ≡ keys.limits
-  pub mode : table.packets.feeder.mode ≡ keys.mode
+  pub limits : table.packets.feeder.limits ≡ each.limits
+  pub mode : table.packets.feeder.mode ≡ each.mode
   pub sender : table.packets.feeder.sender ≡ origin.sender
-  pub factor : IfSome keys.expiry (λ factor. table.packets.feeder.factor ≡ factor)
+  pub factor : IfSome each.expiry (λ factor. table.packets.feeder.factor ≡ factor)
   pub heard : AreWhole packets → HasHeard table.packets.feeder packets
   pub missed_is : table.missed ≡ missed
 
@@ -132,111 +136,133 @@ pub record IsFedOwn (keys : SenderKeys) (origin : Origin) (packets : List (ℕ �
 abbrev pub IsNothing : (packets : List (ℕ × List ℕ)) → Option LeftOutDatagram → Type 0
 IsNothing packets missed = (packets ≡ []) × (missed ≡ None)
 
-abbrev pub IsOwn : SenderKeys → Origin → (packets : List (ℕ × List ℕ)) → Option LeftOutDatagram
+abbrev pub IsOwn : EachSender → Origin → (packets : List (ℕ × List ℕ)) → Option LeftOutDatagram
     → Option SenderTable → Type 0
-IsOwn keys origin packets missed None = IsNothing packets missed
-IsOwn keys origin packets missed (Some table) =
-    IsFedOwn keys origin packets missed table × (¬ IsNothing packets missed)
+IsOwn each origin packets missed None = IsNothing packets missed
+IsOwn each origin packets missed (Some table) =
+    IsFedOwn each origin packets missed table × (¬ IsNothing packets missed)
 
 abbrev pub table_at : List (Origin × SenderTable) → Origin → Option SenderTable
 table_at tables origin = lookup (is_at (origin_cmp origin)) tables
 
--- the tables are those of the senders whose keys are asked for, each of its own packets
-pub record AreOwn (keys : SenderKeys) (made : List Made) (tables : List (Origin × SenderTable)) :
+-- the tables are those of the senders that are asked for, each of its own packets
+pub record AreOwn (each : EachSender) (made : List Made) (tables : List (Origin × SenderTable)) :
     Type 0 where
-  pub own : (origin : Origin) → is_asked keys.place origin ≡ true
-      → IsOwn keys origin (own_packets origin made) (first_missed origin made)
+  pub own : (origin : Origin) → is_asked each.place origin ≡ true
+      → IsOwn each origin (own_packets origin made) (first_missed origin made)
       (table_at tables origin)
-  pub others : (origin : Origin) → is_asked keys.place origin ≡ false
+  pub others : (origin : Origin) → is_asked each.place origin ≡ false
       → table_at tables origin ≡ None
 
 -- with a packet more, and with a datagram more that is missed
-abbrev pub FeedsOwn : SenderKeys → Origin → Option SenderTable → ℕ × List ℕ → SenderTable → Type 0
-FeedsOwn keys origin old packet table =
+abbrev pub FeedsOwn : EachSender → Origin → Option SenderTable → ℕ × List ℕ → SenderTable → Type 0
+FeedsOwn each origin old packet table =
     (packets : List (ℕ × List ℕ)) (missed : Option LeftOutDatagram)
-    → IsOwn keys origin packets missed old
-    → IsFedOwn keys origin (packets ++ packet ∷ []) missed table
+    → IsOwn each origin packets missed old
+    → IsFedOwn each origin (packets ++ packet ∷ []) missed table
 
 abbrev pub MissesOwn :
-    SenderKeys → Origin → Option SenderTable → LeftOutDatagram → SenderTable → Type 0
-MissesOwn keys origin old datagram table =
+    EachSender → Origin → Option SenderTable → LeftOutDatagram → SenderTable → Type 0
+MissesOwn each origin old datagram table =
     (packets : List (ℕ × List ℕ)) (missed : Option LeftOutDatagram)
-    → IsOwn keys origin packets missed old
-    → IsFedOwn keys origin packets (option_or missed (Some datagram)) table
+    → IsOwn each origin packets missed old
+    → IsFedOwn each origin packets (option_or missed (Some datagram)) table
 
 -- unless memory ran out
 abbrev pub AreHeard : SenderTables → List Made → Type 0
 AreHeard tables made =
-    tables.has_failed ≡ false → AreOwn tables.keys.now made tables.tables.entries
+    tables.has_failed ≡ false → AreOwn tables.each.now made tables.tables.entries
 
 -- these records made the second of the first
 abbrev pub KeepsOwn : SenderTables → SenderTables → List Made → Type 0
-KeepsOwn first now made = (now.keys.now ≡ first.keys.now)
+KeepsOwn first now made = (now.each.now ≡ first.each.now)
     × ((before : List Made) → AreHeard first before → AreHeard now (before ++ made))
 
 -- the reader gave a capture, all that it had, of which no datagram that lacks nothing was left out
 -- if it is read strictly, and these are the tables of its senders
-pub record GaveSenders (keys : SenderKeys) (reader : CaptureInput) (senders : SendersRead) :
+pub record GaveSenders (each : EachSender) (reader : CaptureInput) (senders : SendersRead) :
     Type 0 where
   pub gave : GaveSound reader senders.read.gathered senders.read.cut
   pub strict :
-      keys.strict ≡ true → first_whole_left_out senders.read.gathered.report ≡ None
+      each.strict ≡ true → first_whole_left_out senders.read.gathered.report ≡ None
   pub moment_is : senders.read.moment ≡ moment_in gave.given
   pub whole : AreWhole (packets_made (made_in gave.given))
-  pub are_own : AreOwn keys (made_in gave.given) senders.tables.entries
+  pub are_own : AreOwn each (made_in gave.given) senders.tables.entries
 
 -- or why there are none: a datagram was left out that lacks nothing, if it is read strictly; or the
 -- capture is refused
-abbrev pub SendersCause : SenderKeys → CaptureInput → InputFault → Type 0
-SendersCause keys reader (input_faults.LeftOut datagram) =
-    (keys.strict ≡ true) × ((gathering : Gathering) × (cut : Option ℕ)
+abbrev pub SendersCause : EachSender → CaptureInput → InputFault → Type 0
+SendersCause each reader (input_faults.LeftOut datagram) =
+    (each.strict ≡ true) × ((gathering : Gathering) × (cut : Option ℕ)
     × GaveCapture reader gathering cut
     × (first_whole_left_out gathering.report ≡ Some datagram))
-SendersCause keys reader fault = CaptureCause reader IsNoFault fault
+SendersCause each reader fault = CaptureCause reader IsNoFault fault
 
 -- ---- the key of one sender
 
 -- what `key` makes of a table: the line of the key of its octets, which are named so, and the
 -- report and the number of rows of the table
 pub record IsKeyOf (form : Form) (reading : Reading) (view : View) (format : Format)
-    (named : List ℕ) (key : MadeKey) (table : Routes) : Type 0 where
+    (named : List ℕ) (key : TableText) (table : Routes) : Type 0 where
   pub octets : List ℕ
   pub are : AreOctets form reading view 1024 table octets
   pub line_is : key.line.items ≡ key_in format octets named
+  pub status_is : key.status ≡ 0
   pub report_is : key.report ≡ table.report
   pub rows_is : key.rows ≡ length table.rows
 
+-- what another task finds of the table of a sender at its place, whose interface has this name: the
+-- lines that it finds of a dump, each led by the sender, and its status
+pub record IsLedBy (each : EachSender) (reading : Reading) (origin : Origin) (name : List ℕ)
+    (key : TableText) (table : Routes) : Type 0 where
+  pub text : List ℕ
+  pub outcome : Outcome
+  pub finds :
+      TaskFinds each.task each.format each.quiet (name_of each.file) reading table text outcome
+  pub line_is : key.line.items ≡ led each.format (lead_in each.format origin name) true text
+  pub status_is : key.status ≡ outcome.status
+  pub report_is : key.report ≡ table.report
+  pub rows_is : key.rows ≡ length table.rows
+
+-- what a task tells of it
+abbrev pub IsToldOf :
+    Task → EachSender → Reading → Origin → (name : List ℕ) → TableText → Routes → Type 0
+IsToldOf (tasks.Key form view) each reading origin name =
+    IsKeyOf form reading view each.format
+    (origin_in each.format (name_of each.file) origin name)
+IsToldOf task each reading origin name = IsLedBy each reading origin name
+
 -- how the dump of a sender is read
-abbrev pub own_reading : SenderKeys → Origin → Reading
-own_reading keys origin = usual_reading keys.limits keys.mode origin.sender
+abbrev pub own_reading : EachSender → Origin → Reading
+own_reading each origin = usual_reading each.limits each.mode origin.sender
 
 -- the table of the packets of a sender at its place, of which no datagram is missed, at the moment
 -- up to which the capture was read
-pub record IsOwnTable (keys : SenderKeys) (made : List Made) (moment : Option ℕ) (origin : Origin)
+pub record IsOwnTable (each : EachSender) (made : List Made) (moment : Option ℕ) (origin : Origin)
     (table : Routes) : Type 0 where
   pub none_missed : first_missed origin made ≡ None
   pub accepted :
-      HasNoFault keys.limits keys.mode origin.sender (dump_of (own_packets origin made))
-  pub is_table : IsTableRead (expired keys.expiry moment) (own_reading keys origin)
+      HasNoFault each.limits each.mode origin.sender (dump_of (own_packets origin made))
+  pub is_table : IsTableRead (expired each.expiry moment) (own_reading each origin)
       (own_packets origin made) table
 
--- it has this key, where its interface has this name
-pub record IsSenderKey (keys : SenderKeys) (made : List Made) (moment : Option ℕ) (origin : Origin)
-    (name : List ℕ) (key : MadeKey) : Type 0 where
+-- this is told of it, where its interface has this name
+pub record IsSenderText (each : EachSender) (made : List Made) (moment : Option ℕ) (origin : Origin)
+    (name : List ℕ) (key : TableText) : Type 0 where
   pub table : Routes
-  pub is_own : IsOwnTable keys made moment origin table
-  pub strict : keys.strict ≡ true → IsReadWhole None table.report
-  pub is_key : IsKeyOf keys.form (own_reading keys origin) keys.view keys.format
-      (origin_in keys.format (name_of keys.file) origin name) key table
+  pub is_own : IsOwnTable each made moment origin table
+  pub strict : each.strict ≡ true → IsReadWhole None table.report
+  pub is_told : IsToldOf each.task each (own_reading each origin) origin name key table
 
--- or none: a datagram of it is missed; or its dump is refused, or has no canonical form; or, where
+-- or nothing: a datagram of it is missed; or its dump is refused, or has no canonical form; or, where
 -- it is read strictly, something of it was left unread
-abbrev pub NoSenderKey : SenderKeys → List Made → (moment : Option ℕ) → Origin → InputFault → Type 0
-NoSenderKey keys made moment origin (input_faults.LeftOut datagram) =
+abbrev pub NoSenderText :
+    EachSender → List Made → (moment : Option ℕ) → Origin → InputFault → Type 0
+NoSenderText each made moment origin (input_faults.LeftOut datagram) =
     first_missed origin made ≡ Some datagram
-NoSenderKey keys made moment origin (input_faults.Dump fault) = fault ≢ faults.Memory
-    → DumpFault keys.limits keys.mode origin.sender (dump_of (own_packets origin made)) fault
-    ⊎ ((table : Routes) × IsOwnTable keys made moment origin table × (fault ≡ faults.TooManyPairs)
-    × HasTooMany keys.form keys.limits (seen_rows keys.view table.rows))
-NoSenderKey keys made moment origin fault = (keys.strict ≡ true) × ((table : Routes)
-    × IsOwnTable keys made moment origin table × IsNotReadWhole None table.report fault)
+NoSenderText each made moment origin (input_faults.Dump fault) = fault ≢ faults.Memory
+    → DumpFault each.limits each.mode origin.sender (dump_of (own_packets origin made)) fault
+    ⊎ ((table : Routes) × IsOwnTable each made moment origin table × (fault ≡ faults.TooManyPairs)
+    × TaskFindsTooMany each.task each.limits table)
+NoSenderText each made moment origin fault = (each.strict ≡ true) × ((table : Routes)
+    × IsOwnTable each made moment origin table × IsNotReadWhole None table.report fault)

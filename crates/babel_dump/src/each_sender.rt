@@ -1,4 +1,4 @@
-//! `key` without `--from`: the key of each sender in a capture.
+//! What is asked for of each sender in a capture, where there is no `--from`.
 ghost use Rattle.std.specs.Prelude.{◌≡◌, ◌+◌, ◌^◌, ◌<◌, ◌≤◌, ◌-◌, List, IfErr, IfNone, IfOk};
 ghost use Rattle.std.specs.Prelude.{IfSome};
 ghost use Rattle.babel_capture.specs.Counts.{Made};
@@ -6,34 +6,39 @@ ghost use Rattle.babel_capture.specs.Gathering.{name_of};
 ghost use Rattle.babel_dump.specs.Device.{HasRoomToCount};
 ghost use Rattle.babel_dump.specs.Fed.{AreWhole};
 ghost use Rattle.babel_dump.specs.Packets.{packets_made};
-ghost use Rattle.babel_dump.specs.Parts.{Gathered};
+ghost use Rattle.babel_dump.specs.Parts.{FoundTooMany, Gathered};
 ghost use Rattle.babel_dump.specs.Run.{capture_calls};
-ghost use Rattle.babel_dump.specs.SenderKeys.{GaveSenders, IsFedOwn, IsSenderKey, NoSenderKey};
-ghost use Rattle.babel_dump.specs.SenderKeys.{SendersCause, capture_read_by, each_from};
-ghost use Rattle.babel_dump.specs.SenderKeys.{first_missed, is_asked, own_packets, read_by};
+ghost use Rattle.babel_dump.specs.EachSender.{GaveSenders, IsFedOwn, IsLedBy, IsSenderText};
+ghost use Rattle.babel_dump.specs.EachSender.{IsToldOf, NoSenderText};
+ghost use Rattle.babel_dump.specs.EachSender.{SendersCause, capture_read_by, each_from};
+ghost use Rattle.babel_dump.specs.EachSender.{first_missed, is_asked, own_packets, read_by};
+ghost use Rattle.babel_dump.specs.Tasks.{TaskFindsTooMany};
 
 use crate::byte_in::ByteIn;
 use crate::capture_input::{CaptureRead, read_capture};
 use crate::capture_reading::CaptureReading;
+use crate::collected::text_of;
 use crate::factor::Factor;
 use crate::format::Format;
 use crate::input::{refuse_unread, what_expired};
 use crate::input_fault::InputFault;
-use crate::job::{DumpFile, Form};
-use crate::key::{MadeKey, make_key};
+use crate::job::{DumpFile, Task};
+use crate::key::{TableText, make_key};
 use crate::key_name::origin_output;
+use crate::led::{lead_output, push_led};
 use crate::left_out::first_whole_left_out;
 use crate::reading::{Reading, capture_limit};
 use crate::sender_tables::{SenderTable, SenderTables};
+use crate::tasks::found_of;
 use babel_capture::{Gathered as GatheredPackets, Origin, Place, Wanted, Window};
-use babel_table::Limits;
-use babel_tlv::{Mode, View};
+use babel_table::{Limits, Table};
+use babel_tlv::{Fault, Mode};
 use std::alloc::{AllocError, Global};
 use std::collections::BTreeMap;
 
-/// What `key` without `--from` asks for: the key of each sender in a capture.
+/// What is asked for of each sender in a capture.
 #[derive(Drop)]
-pub struct SenderKeys {
+pub struct EachSender {
     /// How many octets are read at most, and how many rows the senders' tables have at most in all:
     /// `--max-octets`, `--max-routes`.
     pub limits: Limits,
@@ -50,22 +55,21 @@ pub struct SenderKeys {
     /// Whether the capture is refused if a datagram that lacks nothing was left out of it, and a
     /// dump if a TLV of it is ignored, or it has no Update: `--strict`.
     pub strict: bool,
-    pub view: View,
-    /// Whether the keys are those of the canonical octets, or of the route octets.
-    pub form: Form,
+    /// What is told of each.
+    pub task: Task,
     pub file: DumpFile,
     pub format: Format,
     pub quiet: bool,
 }
 
-/// What was read of a capture, and the table of each sender whose key is asked for.
+/// What was read of a capture, and the table of each sender that is asked for.
 #[derive(Drop)]
 pub struct SendersRead {
     pub read: CaptureRead,
     pub tables: BTreeMap<Origin, SenderTable>,
 }
 
-impl SenderKeys {
+impl EachSender {
     /// How the dump of a sender at its place is read, whose keys are found by this seed.
     pub(crate) fn reading(&self, origin: Origin, seed: u128) -> Reading
         ensures { result ≡ read_by self.now origin seed }
@@ -97,7 +101,7 @@ impl SenderKeys {
         }
     }
 
-    /// Whether the key of this sender at its place is asked for.
+    /// Whether this sender at its place is asked for.
     pub(crate) fn asks_for(&self, origin: &Origin) -> bool
         ensures { result ≡ is_asked self.now.place origin.now }
     {
@@ -136,7 +140,7 @@ impl SenderKeys {
         }
     }
 
-    /// The greatest Interval of the Updates that announce, of the senders whose keys are asked for.
+    /// The greatest Interval of the Updates that announce, of the senders that are asked for.
     pub fn interval(&self, gathered: &GatheredPackets) -> Option<u16> {
         let mut greatest = None;
         for (origin, tally) in gathered.senders() {
@@ -147,27 +151,27 @@ impl SenderKeys {
         greatest
     }
 
-    /// The key of the dump of a sender at its place, of which this is the table, in the capture of
-    /// which this was read; its line names the file, and then these.
+    /// What is told of a sender at its place, of whose packets this is the table, in the capture of
+    /// which this was read.
     ///
     /// # Errors
     ///
     /// `LeftOut` with the first datagram of this sender that is not all there; or why the dump is
     /// refused.
-    pub fn key_of(
+    pub fn sender_text(
         &self,
         alloc: Global,
         read: &CaptureRead,
         origin: Origin,
         table: SenderTable,
-    ) -> Result<MadeKey, InputFault>
+    ) -> Result<TableText, InputFault>
         ensures ok { IfOk result (λ key. (made : List Made) → AreWhole (packets_made made)
             → IsFedOwn self.now origin (own_packets origin made) (first_missed origin made) table
-            → IsSenderKey self.now made read.now.moment origin
+            → IsSenderText self.now made read.now.moment origin
             (name_of read.now.gathered origin.place.interface) key) }
         ensures err { IfErr result (λ fault. (made : List Made) → AreWhole (packets_made made)
             → IsFedOwn self.now origin (own_packets origin made) (first_missed origin made) table
-            → NoSenderKey self.now made read.now.moment origin fault) }
+            → NoSenderText self.now made read.now.moment origin fault) }
     {
         let SenderTable { packets, missed } = table;
         if let Some(datagram) = missed {
@@ -179,11 +183,63 @@ impl SenderKeys {
         let table = packets.finish(expired)?;
         refuse_unread(self.strict, None, table.report())?;
         let reading = Reading::of(self.limits, self.mode, origin.sender);
-        let (format, file) = (self.format, self.file.name());
         let name = read.gathered.name(origin.place.interface);
-        let named = origin_output(alloc, format, file, origin, name)?;
-        let key = make_key(alloc, reading, self.form, self.view, format, &named, table)?;
+        let key = self.told_of(alloc, reading, origin, name, table)?;
         Ok(key.with_expired_rows(expired_rows))
+    }
+
+    /// What is told of the table of a sender at its place, whose interface has this name.
+    fn told_of(
+        &self,
+        alloc: Global,
+        reading: Reading,
+        origin: Origin,
+        name: &[u8],
+        table: Table,
+    ) -> Result<TableText, Fault>
+        ensures ok { IfOk result
+            (λ key. IsToldOf self.now.task self.now reading origin name.now key table) }
+        ensures err { IfErr result
+            (FoundTooMany (TaskFindsTooMany self.now.task reading.limits table)) }
+    {
+        match self.task {
+            Task::Key { form, view } => {
+                let (format, file) = (self.format, self.file.name());
+                let named = origin_output(alloc, format, file, origin, name)?;
+                make_key(alloc, reading, form, view, format, &named, table)
+            }
+            _ => self.led_of(alloc, reading, origin, name, table),
+        }
+    }
+
+    /// What the task finds of the table, each line led by the sender.
+    fn led_of(
+        &self,
+        alloc: Global,
+        reading: Reading,
+        origin: Origin,
+        name: &[u8],
+        table: Table,
+    ) -> Result<TableText, Fault>
+        ensures ok { IfOk result (λ key. IsLedBy self.now reading origin name.now key table) }
+        ensures err { IfErr result
+            (FoundTooMany (TaskFindsTooMany self.now.task reading.limits table)) }
+    {
+        let (report, rows) = (*table.report(), table.rows().len());
+        let (format, quiet) = (self.format, self.quiet);
+        let found = found_of(alloc, reading, &self.file, self.task, format, quiet, table)?;
+        let status = found.outcome.status;
+        let lead = lead_output(alloc, format, origin, name)?;
+        let text = text_of(alloc, found)?;
+        let mut line = Vec::new(alloc);
+        push_led(&mut line, format, &lead, &text)?;
+        Ok(TableText {
+            line,
+            report,
+            status,
+            rows,
+            expired_rows: 0,
+        })
     }
 
     /// How many rows tables have in all, where some have so many, and one more so many; `None` if

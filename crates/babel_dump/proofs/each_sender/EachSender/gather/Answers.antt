@@ -7,25 +7,25 @@ use Rattle.babel_dump.specs.CaptureGiven.{made_in}
 use Rattle.babel_dump.specs.CaptureRun.{CaptureCause, IsNoFault}
 use Rattle.babel_dump.specs.Device.{InputState}
 use Rattle.babel_dump.specs.LeftOut.{first_whole_left_out}
-use Rattle.babel_dump.specs.SenderKeys.{SendersCause, each_from}
+use Rattle.babel_dump.specs.EachSender.{SendersCause, each_from}
 use Rattle.babel_dump.specs.declared.input_fault.InputFault.{InputFault}
 use Rattle.babel_dump.specs.declared.input_fault.InputFault.TheVariants as input_faults
-use Rattle.babel_dump.specs.declared.sender_keys.SenderKeys.{SenderKeys}
+use Rattle.babel_dump.specs.declared.each_sender.EachSender.{EachSender}
 use Rattle.babel_dump.proofs.OwnTables.{own_all}
 use Rattle.babel_dump.proofs.WholePackets.{whole_made}
-use Rattle.babel_dump.proofs.sender_keys.SenderKeys.gather.Goals as goal
-use Rattle.babel_dump.proofs.sender_keys.SenderKeys.gather.Goals.{in_default-via-in-Some+else-self, in_default-via-in_default}
+use Rattle.babel_dump.proofs.each_sender.EachSender.gather.Goals as goal
+use Rattle.babel_dump.proofs.each_sender.EachSender.gather.Goals.{in_default-via-in-Some+else-self, in_default-via-in_default}
 
 -- of what a capture is refused for, that a datagram was left out is not, since it is read so
-refused : (keys : SenderKeys) (old new : InputState) (fault : InputFault) → CaptureCause (each_from keys old new) IsNoFault fault → SendersCause keys (each_from keys old new) fault
-refused keys old new (input_faults.Dump fault) cause = cause
-refused keys old new (input_faults.Ignored tlv ignores_4) cause = cause
-refused keys old new (input_faults.Capture fault) cause = cause
-refused keys old new (input_faults.LeftOut datagram) cause = absurd (let bad : false ≡ true = cause.strict in cc)
-refused keys old new input_faults.NoUpdates cause = cause
-refused keys old new (input_faults.SeveralInterfaces interfaces) cause = cause
-refused keys old new (input_faults.NoPackets absence) cause = cause
-refused keys old new input_faults.Read cause = cause
+refused : (each : EachSender) (old new : InputState) (fault : InputFault) → CaptureCause (each_from each old new) IsNoFault fault → SendersCause each (each_from each old new) fault
+refused each old new (input_faults.Dump fault) cause = cause
+refused each old new (input_faults.Ignored tlv ignores_4) cause = cause
+refused each old new (input_faults.Capture fault) cause = cause
+refused each old new (input_faults.LeftOut datagram) cause = absurd (let bad : false ≡ true = cause.strict in cc)
+refused each old new input_faults.NoUpdates cause = cause
+refused each old new (input_faults.SeveralInterfaces interfaces) cause = cause
+refused each old new (input_faults.NoPackets absence) cause = cause
+refused each old new input_faults.Read cause = cause
 
 pub returns-in_default : goal.returns-in_default
 returns-in_default g c =
@@ -41,7 +41,7 @@ returns-in_default g c =
         ]);
         moment_is = read.moment_is;
         whole = whole_made c.in_ok-read.read.gathered.wanted (sightings_of is.blocks) made is.gathered.taken.are_made;
-        are_own = own_all c.args.self.now c.new-senders.result c.read_capture-read.new.sink made c.new-senders.ensures.keys c.new-senders.ensures.none read.took c.if-senders.false;
+        are_own = own_all c.args.self.now c.new-senders.result c.read_capture-read.new.sink made c.new-senders.ensures.each c.new-senders.ensures.none read.took c.if-senders.false;
       };
       cause = tt;
       called = search rules;
