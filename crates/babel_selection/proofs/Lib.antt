@@ -1,0 +1,4 @@
+pub mod HearingLaws
+pub mod SourceLaws
+pub mod SelectionLaws
+pub mod ToldLaws
