@@ -13,7 +13,7 @@ use Rattle.babel_capture.specs.declared.layout.Layout.TheVariants as layouts
 use Rattle.babel_capture.specs.declared.link.Link.{Link}
 use Rattle.babel_capture.specs.declared.place.Place.{Place}
 use Rattle.babel_capture.specs.declared.wanted.Wanted.{Wanted}
-use Rattle.babel_capture.specs.Blocks.{names_of, AreBlocks, BlockAt, IsBlock, IsPartial, Sighting, context_behind, header_of, octets_of, sightings_of, start}
+use Rattle.babel_capture.specs.Blocks.{names_of, AreBlocks, BlockAt, IsBlock, IsPartial, context_behind, header_of, octets_of, sightings_of, start}
 use Rattle.babel_capture.specs.Capture.{IsRead, IsReadToCut}
 use Rattle.babel_capture.specs.Contents.{Content, block_said, context_after, nothing}
 use Rattle.babel_capture.specs.Context.{Before}
@@ -22,7 +22,8 @@ use Rattle.babel_capture.specs.Findings.{CarriedIs, Either, Finds, Found, IsWant
 use Rattle.babel_capture.specs.Gathering.{AreMade, Gathering, IsGathered}
 use Rattle.babel_capture.specs.Lengths.{block_len, header_len}
 use Rattle.babel_capture.specs.OneCapture.{CaptureIsOne, CutCaptureIsOne}
-use Rattle.babel_capture.specs.Sight.{Carried, Sight, datagram, lacking, not_link_local, other, other_port, too_short, carries}
+use Rattle.babel_capture.specs.Passage.{Sighting}
+use Rattle.babel_capture.specs.Sight.{Carried, Sight, datagram, fragmented, lacking, not_link_local, other, other_port, too_short, carries}
 use Rattle.babel_capture.specs.Tallies.{Senders, senders_of}
 use Rattle.babel_capture.specs.Times.{Came}
 use Rattle.babel_capture.specs.Window.{Extent}
@@ -95,6 +96,7 @@ carried_one wanted place ends (carries payload) what again is is_again = payload
 pub finds_one : (wanted : Wanted) (sight : Sight) (what again : Found) → Finds wanted sight what → Finds wanted sight again → what ≡ again
 finds_one wanted other what again is is_again = is ∙ sym is_again
 finds_one wanted too_short what again is is_again = is ∙ sym is_again
+finds_one wanted (fragmented fragment) what again is is_again = is ∙ sym is_again
 finds_one wanted (datagram place ends carried) what again is is_again =
     either_one what again (IsWanted wanted ends.sender place) _ _ _ _ (carried_one wanted place ends carried what again) (same_of what again passed) is is_again
 

@@ -5,9 +5,10 @@ use Rattle.std.proofs.lemmas.List.{append-nil, take-append-drop, take-append-le,
 use Rattle.babel_capture.specs.declared.fault.Fault.{Fault}
 use Rattle.babel_capture.specs.declared.fault.Fault.TheVariants as faults
 use Rattle.babel_capture.specs.declared.wanted.Wanted.{Wanted}
-use Rattle.babel_capture.specs.Blocks.{IsEnd, IsPartial, header_of, octets_of, start, context_behind}
+use Rattle.babel_capture.specs.Blocks.{IsEnd, IsPartial, header_of, octets_of, passage_of, sightings_of, start, context_behind}
 use Rattle.babel_capture.specs.Capture.{CaptureFault, HasFailed, HasRead, HasReadTo, IsRead, IsReadToCut, IsShortBy, State}
 use Rattle.babel_capture.specs.Context.{Before}
+use Rattle.babel_capture.specs.Passage.{Passage}
 use Rattle.babel_capture.specs.Lengths.{header_len, block_len}
 use Rattle.babel_capture.specs.Reading.{Progress, LeadTo, HasStarted, HasTaken, IsPending, NeedsMemory, PieceFails, PieceNeedsMemory, Stops, StopsAt}
 use Rattle.babel_capture.specs.Counts.{Made}
@@ -81,6 +82,7 @@ module _ (limit : Extent) (old : Progress) (pending fed piece : List ℕ) (told 
         context = taken.leads.context;
         gathered = taken.leads.gathered;
         names = taken.leads.names;
+        passage = taken.leads.passage;
       };
       partial = inr (inr (end-now, omega (arith, few, size-now)));
       kept = (inr (end-now, told), size-now);
@@ -117,6 +119,9 @@ stop-none old pending piece limit fed taken = rw (append-nil taken.leads.gathere
   rest = taken.rest ++ piece;
   whole = ap (λ (t : List ℕ). t ++ piece) (taken.whole ∙ ap (λ (t : List ℕ). t ++ taken.rest) taken.leads.whole) ∙ append_assoc (octets_of taken.leads.blocks) taken.rest piece;
   are_blocks = taken.leads.are_blocks;
+  front = sightings_of taken.leads.blocks;
+  back = [];
+  parts = sym (append-nil (sightings_of taken.leads.blocks));
   taken = taken.leads.gathered.taken;
 })
 
@@ -143,8 +148,8 @@ needs-fed state fault piece is needs memory = elim (needs memory) [
 
 -- ---- a fault stays, however the octets go on
 
-module _ (wanted : Wanted) (senders : Senders) (before : Before) (at : ℕ) (rest more : List ℕ) (fault : Fault) where
-  stops-more-at : StopsAt wanted senders before at rest fault → StopsAt wanted senders before at (rest ++ more) fault
+module _ (wanted : Wanted) (senders : Senders) (passage : Passage) (before : Before) (at : ℕ) (rest more : List ℕ) (fault : Fault) where
+  stops-more-at : StopsAt wanted senders passage before at rest fault → StopsAt wanted senders passage before at (rest ++ more) fault
   stops-more-at (inl (inr (end, past, told))) = inl (inr (end-longer before at rest more end, omega (arith, past, length-append rest more), told))
   stops-more-at (inl (inl (header, refused))) =
       let same : header_of before (rest ++ more) ≡ header_of before rest = take-append-le (header_len before.layout) rest more header in
@@ -171,7 +176,7 @@ stops-more limit wanted octets more fault stops = record {
   whole = ap (λ (t : List ℕ). t ++ more) stops.whole ∙ append_assoc (octets_of stops.blocks) stops.rest more;
   are_blocks = stops.are_blocks;
   taken = stops.taken;
-  stops = stops-more-at wanted (senders_of stops.made) (context_behind (start limit) stops.blocks) (length (octets_of stops.blocks)) stops.rest more fault stops.stops;
+  stops = stops-more-at wanted (senders_of stops.made) (passage_of stops.blocks) (context_behind (start limit) stops.blocks) (length (octets_of stops.blocks)) stops.rest more fault stops.stops;
 }
 
 -- ---- a piece in two parts, one after the other
@@ -233,6 +238,9 @@ module _ (front back piece : List ℕ) (whole : front ++ back ≡ piece) where
         rest = at_front.rest ++ back;
         whole = sym (behind fed) ∙ ap (λ (t : List ℕ). t ++ back) at_front.whole ∙ append_assoc (octets_of at_front.blocks) at_front.rest back;
         are_blocks = at_front.are_blocks;
+        front = at_front.front;
+        back = at_front.back;
+        parts = at_front.parts;
         taken = at_front.taken;
       }
 

@@ -107,7 +107,7 @@ impl Wanted {
         ensures { Finds self.now (sight_of seen.now) (finding_of result) }
     {
         match *seen {
-            Seen::Other => Finding::Passed,
+            Seen::Other | Seen::Fragment(_) => Finding::Passed,
             Seen::Short => Finding::Short,
             Seen::Flawed { place, ends, flaw } => {
                 if self.takes(ends.sender, place) {

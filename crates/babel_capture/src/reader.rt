@@ -6,8 +6,8 @@ ghost use Rattle.babel_capture.specs.Blocks.{start};
 ghost use Rattle.babel_capture.specs.Contents.{Content, block_said, content_of};
 ghost use Rattle.babel_capture.specs.Gathering.{BlockNeedsMemory};
 ghost use Rattle.babel_capture.specs.Reading.{BlockFails, HasStarted, HeaderFails, LeadTo};
-ghost use Rattle.babel_capture.specs.Reading.{NeedsMemory, Stops};
-ghost use Rattle.babel_capture.specs.Sinking.{LeadMore, Sinks, StopLead};
+ghost use Rattle.babel_capture.specs.Reading.{NeedsMemory, Stops, passage_in};
+ghost use Rattle.babel_capture.specs.Sinking.{LeadMore, Sinks, StopBlock, StopLead};
 ghost use Rattle.babel_capture.specs.Window.{Extent};
 
 use crate::block::read_block;
@@ -15,6 +15,7 @@ use crate::context::Context;
 use crate::fault::Fault;
 use crate::gathered::Gathered;
 use crate::layout::Layout;
+use crate::passing::Passing;
 use crate::sink::Sink;
 use crate::time::Time;
 use crate::wanted::Wanted;
@@ -26,13 +27,13 @@ use std::marker::Model;
 #[derive(Drop)]
 pub struct Reader {
     context: Context,
-    gathered: Gathered,
+    passing: Passing,
     at: u64,
     passed: u64,
 }
 
 impl Model for Reader {
-    ghost use Rattle.std.specs.Prelude.{◌≤◌};
+    ghost use Rattle.std.specs.Prelude.{◌≤◌, ◌*◌};
     ghost use Rattle.babel_capture.specs.Lengths.{block_len};
     ghost use Rattle.babel_capture.specs.Reading.{Progress};
 
@@ -40,12 +41,15 @@ impl Model for Reader {
 
     ghost view = { λ r. record {
       context = r.context;
-      gathering = r.gathered;
+      gathering = r.passing.gathering;
+      clock = r.passing.clock;
+      known = r.passing.known;
       at = r.at;
       passed = r.passed;
     } };
 
-    ghost invariant = { λ r. (r.gathered.report.packets ≤ r.at) × (r.at ≤ r.context.limit) };
+    ghost invariant = { λ r. (2 * r.passing.gathering.report.packets ≤ r.at)
+        × (r.at ≤ r.context.limit) };
 }
 
 impl Reader {
@@ -61,7 +65,7 @@ impl Reader {
     {
         Reader {
             context: Context::new(alloc, limit, window, to_cut),
-            gathered: Gathered::new(alloc, wanted),
+            passing: Passing::new(alloc, wanted),
             at: 0,
             passed: 0,
         }
@@ -85,10 +89,11 @@ impl Reader {
         ensures passed { self.new.passed ≡ self.old.passed }
         ensures ok { OnOk result (Sinks S.has sink.old sink.new
             (LeadMore self.old self.new block.now)) }
-        ensures stopped { IfErr result (λ _. sink.new ≡ sink.old) }
+        ensures stopped { IfErr result (λ _. Sinks S.has sink.old sink.new
+            (StopBlock self.old block.now)) }
         ensures err { IfErr result (λ fault. (fault ≡ Fault.Memory)
-            ⊎ BlockFails self.old.gathering.wanted self.old.gathering.senders self.old.context
-            self.old.at block.now fault) }
+            ⊎ BlockFails self.old.gathering.wanted self.old.gathering.senders
+            (passage_in self.old) self.old.context self.old.at block.now fault) }
         ensures memory { IfErr result (λ fault. fault ≡ Fault.Memory → (content : Content)
             × (block_said self.old.context self.old.at block.now ≡ Ok content)
             × BlockNeedsMemory self.old.gathering.wanted self.old.gathering.senders content) }
@@ -101,7 +106,7 @@ impl Reader {
         let at = self.at;
         self.at += block.len() as u64;
         self.context.take(said)?;
-        self.gathered.take_said(at, said, sink)
+        self.passing.take_said(at, said, sink)
     }
 
     /// The whole block that the octets begin with; `None` if they are less than a block.
@@ -201,13 +206,13 @@ impl Reader {
     pub fn gathered(&self) -> &Gathered
         ensures { result.now ≡ self.now.gathering }
     {
-        &self.gathered
+        self.passing.gathered()
     }
 
     /// What was gathered.
     pub fn into_gathered(self) -> Gathered
         ensures { result ≡ self.gathering }
     {
-        self.gathered
+        self.passing.into_gathered()
     }
 }
