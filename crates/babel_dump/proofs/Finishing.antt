@@ -1,5 +1,5 @@
 -- A run that finished wrote what was found, or answered why nothing was found.
-use Rattle.std.proofs.Common.{ℕ, List, Option, None, Some, Result, Ok, Err, arith, ap, sym, subst, refl, inl, inr}
+use Rattle.std.proofs.Common.{◌≡◌, ℕ, List, Option, None, Some, Result, Ok, Err, arith, ap, sym, subst, refl, inl, inr}
 use Rattle.std.proofs.lemmas.Result.{IfErr-weaker, IfOk-weaker}
 use Rattle.std.specs.Prelude.{IfOk, IfErr}
 use Rattle.babel_dump.specs.Command.{CompareCause, IsFaultWith, OfBoth, SaysOf}
@@ -215,7 +215,7 @@ other_called (Some calls) untouched writer found result of_found finished = call
 job_memory : (work : Work) (job : Job) (reader other : Reads) (untouched : Type 0) (found : Found) → Says (SaysBy work job reader other) found
     → OtherCalled {T = Found} (other_calls work other) untouched (Ok found) → CauseBy work reader other untouched of_memory
 job_memory (works.Dump source task) job reader other untouched found says called = λ not_memory. absurd (not_memory refl)
-job_memory (works.Each source pairs) job reader other untouched found says called =
+job_memory (works.Each source pairs with_prefix) job reader other untouched found says called =
     inr ((says.asked, says.gave), called.no_failure, λ not_memory. absurd (not_memory refl))
 job_memory (works.Two first second view task) job reader other untouched found says called = memory_of_both _ _ view _ _ untouched says
 job_memory (works.Capture reading file task) job reader other untouched found says called = refl

@@ -47,7 +47,7 @@ pub(crate) fn text_of(alloc: Global, found: Found) -> Result<Vec<u8>, AllocError
         failures: 0,
         flushes: 0,
     };
-    match finish(&mut collected, Ok(found)) {
+    match finish(alloc, &mut collected, Ok(found)) {
         Ok(_) => Ok(collected.text),
         Err(_) => Err(AllocError),
     }

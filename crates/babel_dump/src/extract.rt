@@ -11,7 +11,7 @@ use crate::format::Format;
 use crate::job::CaptureTask;
 use crate::outcome::Outcome;
 use crate::run_fault::RunFault;
-use crate::slices::{Found, Rows};
+use crate::slices::Found;
 use babel_capture::{Place, Record, Said, Sink, Wanted};
 use babel_prefix::Addr;
 use std::alloc::{AllocError, Global};
