@@ -18,11 +18,13 @@ import os
 import pathlib
 import random
 import re
+import select
 import struct
 import subprocess
 import sys
 import tempfile
 import xml.etree.ElementTree
+from time import monotonic
 
 import capture_files as made
 import capture_reader as reader
@@ -55,6 +57,10 @@ START = bytes.fromhex("060a0000 0200000000000001 07060100 c0000201")
 WILDCARD = bytes.fromhex("080a0000 0000 0064 0001 ffff")
 CHANGES = {"announces": False, "changes": True, "retracts": True, "expires": True}
 SILENCES = "silent", "returns"
+# An Update of address encoding 4, which is ignored unless that is asked for (RFC 9229); and how long
+# a note may take that is to come at once.
+ENCODING_4 = bytes.fromhex("080e0400 20000064 00010100 0a000001")
+AT_ONCE = 30
 OPTIONS = [], ["--v4-via-v6"], ["--ignore", "seqno,metric"]
 
 
@@ -520,6 +526,37 @@ def check_requests(program, capture, tally):
         tally.check(f"requests in {capture.name}, {' '.join(words)}", problem)
 
 
+def check_at_once(program, tally):
+    """What is not read of a live run is said before more of it comes."""
+    body = START + ENCODING_4
+    packet = b"\x2a\2" + made.number(len(body)) + body
+    record = made.Record(made.ethernet(made.ip("fe80::1", made.udp(packet))))
+    first, both = made.pcap([record]), made.pcap([record, record])
+    wanted = f"note: fe80:0:0:0:0:0:0:1: ignored TLV at {4 + len(START)}: unknown-encoding"
+    pipe = subprocess.PIPE
+    with subprocess.Popen([program, "events", "-"], stdin=pipe, stdout=pipe, stderr=pipe) as live:
+        live.stdin.write(first)
+        live.stdin.flush()
+        said = line_within(live.stderr, AT_ONCE)
+        _, later = live.communicate(both[len(first) :])
+    problem = "" if said == wanted else f"{said!r} in place of {wanted!r}"
+    problem = problem or ("it is said again" if wanted in later.decode() else "")
+    tally.check("a note of a live run at once", problem)
+
+
+def line_within(stream, seconds):
+    """The first line that a stream gives, if it gives it within so many seconds."""
+    octets, ends = b"", monotonic() + seconds
+    while b"\n" not in octets:
+        if not select.select([stream], [], [], max(ends - monotonic(), 0))[0]:
+            return ""
+        more = os.read(stream.fileno(), 65_536)
+        if not more:
+            return ""
+        octets += more
+    return octets.decode().splitlines()[0]
+
+
 def check_picture(program, capture, tally):
     """The picture of a capture's events has a bar for each time that a route was held, and one for
     each next hop."""
@@ -569,6 +606,7 @@ def check(tally, long):
     check_picture(program, ROUTERS / "babeld-basic-a.pcap", tally)
     check_drill(program, tally)
     check_square(program, tally)
+    check_at_once(program, tally)
     with tempfile.TemporaryDirectory() as folder:
         most = 10 * MOMENTS if long else MOMENTS
         check_captures(program, captures_of(pathlib.Path(folder), long), tally, most)
