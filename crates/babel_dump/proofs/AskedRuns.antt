@@ -1,12 +1,13 @@
 -- What comes of what was asked for, over streams.
-use Rattle.std.proofs.Common.{◌≡◌, ◌≢◌, ℕ, Bool, List, Option, None, Some, Ok, Result, refl, sym, ap, subst, ◌∙◌}
-use Rattle.std.specs.Prelude.{IfOk, IfSome}
+use Rattle.std.proofs.Common.{◌≡◌, ◌≢◌, ℕ, Bool, List, Option, None, Some, Err, Ok, Result, refl, sym, ap, subst, ◌∙◌}
+use Rattle.std.specs.Prelude.{IfErr, IfOk, IfSome}
 use Rattle.std.specs.Io.KnownBytes.{Appends, Keeps}
 use Rattle.std.specs.Map.{keys_of}
 use Rattle.std.specs.Option.{unwrap_or}
 use Rattle.babel_capture.specs.Counts.{Made}
 use Rattle.babel_dump.specs.CaptureGiven.{made_in}
 use Rattle.babel_dump.specs.Device.{InputState}
+use Rattle.babel_dump.specs.EventsCause.{EventsCause}
 use Rattle.babel_dump.specs.EventsRun.{TellsEvents}
 use Rattle.babel_dump.specs.Fed.{AreWhole}
 use Rattle.babel_dump.specs.ToldSenders.{AreTexts}
@@ -18,7 +19,7 @@ use Rattle.babel_dump.specs.declared.events_outcome.EventsOutcome.{EventsOutcome
 use Rattle.babel_dump.specs.declared.told_senders.ToldSenders.{ToldSenders}
 use Rattle.babel_dump.specs.declared.each_sender.EachSender.{EachSender}
 use Rattle.babel_dump.specs.declared.each_sender.SendersRead.{SendersRead}
-use Rattle.babel_dump.specs.AskedRun.{Beginnings, Did, DidJob, ToldEvents, WroteSenders, misplaced_at}
+use Rattle.babel_dump.specs.AskedRun.{Beginnings, Did, DidJob, Failed, FailedEvents, ToldEvents, WroteSenders, misplaced_at}
 use Rattle.babel_dump.specs.Begun.{BeginsSo}
 use Rattle.babel_dump.specs.Files.{reading_of}
 use Rattle.babel_dump.specs.Given.{Reads}
@@ -32,8 +33,13 @@ use Rattle.babel_dump.specs.declared.format.Format.{Format}
 use Rattle.babel_dump.specs.declared.job.Job.{Job}
 use Rattle.babel_dump.specs.declared.job.Work.{Work}
 use Rattle.babel_dump.specs.declared.outcome.Outcome.{Outcome}
+use Rattle.babel_tlv.specs.declared.fault.Fault.TheVariants as faults
+use Rattle.babel_dump.specs.declared.input_fault.InputFault.TheVariants as input_faults
+use Rattle.babel_dump.specs.declared.run_fault.RunFault.TheVariants as run_faults
 use Rattle.babel_dump.specs.declared.run_fault.Side.TheVariants as sides
 use Rattle.babel_dump.specs.declared.trouble.Trouble.{Trouble}
+use Rattle.babel_dump.specs.declared.trouble.Trouble.TheVariants as troubles
+use Rattle.babel_dump.proofs.EventCauses.{of_memory}
 
 -- a device gives what a stream has
 pub keeps_left : (stream left given : Option (List ℕ)) → left ≡ given → Keeps stream given → Keeps stream left
@@ -119,3 +125,24 @@ wrote_so each stream begins told old new writer senders made text done begun is 
 pub did_as : (asked known : Asked) (seed : ℕ) (stream other : Option (List ℕ)) (writer : Output) (result : Result Done Trouble) → asked ≡ known
     → IfOk result (Did known seed stream other writer) → IfOk result (Did asked seed stream other writer)
 did_as asked known seed stream other writer result is did = subst (λ (a : Asked). IfOk result (Did a seed stream other writer)) (sym is) did
+
+pub failed_as : (asked known : Asked) (stream : Option (List ℕ)) (writer : Output) (result : Result Done Trouble) → asked ≡ known → IfErr result (Failed known stream writer)
+    → IfErr result (Failed asked stream writer)
+failed_as asked known stream writer result is failed = subst (λ (a : Asked). IfErr result (Failed a stream writer)) (sym is) failed
+
+pub not_told : (result : Result Done Trouble) → IfErr result (λ _. Unit {0})
+not_told (Ok done) = tt
+not_told (Err trouble) = tt
+
+pub failed_so : (events : Events) (stream : Option (List ℕ)) (old new given : InputState) (writer : Output) (trouble : Trouble) → old ≡ given → given.left ≡ stream
+    → EventsCause events old new writer trouble → FailedEvents events stream writer trouble
+failed_so events stream old new given writer trouble is left cause = record {
+  reader = record { old = old; new = new };
+  keeps = keeps_left stream old.left stream (ap (λ (s : InputState). s.left) is ∙ left) (keeps_itself stream);
+  cause = cause;
+}
+
+-- before anything was read or written, and after both
+pub no_memory : (events : Events) (stream : Option (List ℕ)) (old new given : InputState) (writer : Output) (trouble : Trouble) → old ≡ given → given.left ≡ stream
+    → trouble ≡ troubles.Fault (run_faults.Input sides.First (input_faults.Dump faults.Memory)) → FailedEvents events stream writer trouble
+no_memory events stream old new given writer trouble is left memory = failed_so events stream old new given writer trouble is left (of_memory events _ _ _ _ trouble memory)

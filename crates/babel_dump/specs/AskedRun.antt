@@ -5,6 +5,7 @@ use Rattle.std.specs.Map.{keys_of}
 use Rattle.std.specs.Option.{unwrap_or}
 use Rattle.babel_dump.specs.Begun.{BeginsSo}
 use Rattle.babel_dump.specs.CaptureGiven.{made_in}
+use Rattle.babel_dump.specs.EventsCause.{EventsCause}
 use Rattle.babel_dump.specs.EventsRun.{TellsEvents}
 use Rattle.babel_dump.specs.Files.{reading_of}
 use Rattle.babel_dump.specs.Given.{Reads}
@@ -104,3 +105,15 @@ IsRefused (askeds.Job job) stream other trouble =
     IfSome (misplaced_told trouble)
     (λ option. (begun : Beginnings job stream other) × (misplaced_at begun ≡ Some option))
 IsRefused asked stream other trouble = Unit {0}
+
+-- what changed in a capture was not told to its end, for this cause
+pub record FailedEvents (events : Events) (stream : Option (List ℕ)) (writer : Output)
+    (trouble : Trouble) : Type 0 where
+  pub reader : Reads
+  pub keeps : Keeps stream reader.old.left
+  pub cause : EventsCause events reader.old reader.new writer trouble
+
+-- why what was asked for was not done: of `events`
+abbrev pub Failed : Asked → (stream : Option (List ℕ)) → Output → Trouble → Type 0
+Failed (askeds.Events events) stream writer trouble = FailedEvents events stream writer trouble
+Failed asked stream writer trouble = Unit {0}

@@ -46,7 +46,7 @@ use Rattle.babel_dump.specs.CaptureText.{senders_status}
 use Rattle.babel_dump.specs.Device.{GaveOctets, InputState}
 use Rattle.babel_dump.specs.EventText.{event_in, speaker_of}
 use Rattle.babel_dump.specs.Filter.{if_asked, keeps_key}
-use Rattle.babel_dump.specs.LeftOut.{first_left_out}
+use Rattle.babel_dump.specs.LeftOut.{LeavesNoneOut}
 use Rattle.babel_dump.specs.declared.filter.Filter.{Filter}
 use Rattle.std.specs.Str.{bytes_eq}
 use Rattle.babel_timeline.specs.Changes.{held_after, held_before}
@@ -305,10 +305,11 @@ IsHeardSender events made gathering heard =
     (heard.name.items ≡ name_of gathering heard.origin.place.interface)
     × IsReportOf events made (speaker_at heard.origin) heard.report
 
--- of none of these senders a TLV was ignored, each has an Update, and no datagram was left out
+-- no datagram of the capture was left out; of none of these senders a TLV was ignored, and each has
+-- an Update
 abbrev pub AreReadWhole : Counts → List HeardSender → Type 0
 AreReadWhole counts senders =
-    AllByRecursion (λ heard. IsReadWhole (first_left_out counts) heard.report) senders
+    LeavesNoneOut counts × AllByRecursion (λ heard. IsReadWhole None heard.report) senders
 
 -- ---- what is written
 

@@ -4,7 +4,8 @@ ghost use Rattle.std.specs.Io.KnownBytes.{Keeps};
 ghost use Rattle.babel_dump.specs.Begun.{BeginsSo};
 ghost use Rattle.babel_dump.specs.Device.{HasRoomToWrite};
 ghost use Rattle.babel_dump.specs.Run.{output};
-ghost use Rattle.babel_dump.specs.AskedRun.{Did, DidJob, IsRefused, ToldEvents, WroteSenders};
+ghost use Rattle.babel_dump.specs.AskedRun.{Did, DidJob, Failed, FailedEvents, IsRefused};
+ghost use Rattle.babel_dump.specs.AskedRun.{ToldEvents, WroteSenders};
 ghost use Rattle.babel_dump.specs.Files.{reading_of};
 ghost use Rattle.babel_dump.specs.declared.asked.Asked.TheVariants as askeds;
 ghost use Rattle.babel_dump.specs.declared.run_fault.Side.TheVariants as sides;
@@ -47,6 +48,8 @@ pub fn run_asked<R: Read + Drop, S: Read + Drop, W: ByteOut, T: Says>(
         (output (W.state writer.old) (W.state writer.new))) }
     ensures refused { IfErr result
         (IsRefused asked.old (R.remaining reader) (S.remaining other)) }
+    ensures failed { IfErr result (Failed asked.old (R.remaining reader)
+        (output (W.state writer.old) (W.state writer.new))) }
 {
     match asked {
         Asked::Job(job) => do_job(alloc, seed, job, reader, other, writer),
@@ -134,7 +137,9 @@ fn tell_events<R: Read + Drop, W: ByteOut, T: Says>(
     says: &mut T,
 ) -> Result<Done, Trouble>
     requires { HasRoomToWrite (W.state writer.old) }
-    ensures { IfOk result (ToldEvents events.now (R.remaining reader)
+    ensures told { IfOk result (ToldEvents events.now (R.remaining reader)
+        (output (W.state writer.old) (W.state writer.new))) }
+    ensures failed { IfErr result (FailedEvents events.now (R.remaining reader)
         (output (W.state writer.old) (W.state writer.new))) }
 {
     let done = Done::new(alloc)?;

@@ -3,6 +3,7 @@ ghost use Rattle.std.specs.Prelude.{◌≡◌, ◌+◌, ◌^◌, ◌<◌, ◌≤
 ghost use Rattle.std.specs.Prelude.{drop, length, take, true};
 ghost use Rattle.babel_capture.specs.Sinking.{left_said, packet_said};
 ghost use Rattle.babel_tlv.specs.Framing.{framed};
+ghost use Rattle.babel_dump.specs.EventsCause.{IsOfRecord};
 ghost use Rattle.babel_dump.specs.EventsRun.{speaker_at};
 ghost use Rattle.babel_dump.specs.Followed.{HasHeard, HearsFront, HearsTold, IsWholeTold};
 ghost use Rattle.babel_dump.specs.Followed.{RefusesTold};
@@ -56,7 +57,8 @@ impl<'a> Follower<'a> {
 
     /// Why no more is heard, if a record had a fault.
     pub(crate) fn fault(&self) -> Result<(), Trouble>
-        ensures { OnOk result (self.now.fault ≡ None) }
+        ensures none { OnOk result (self.now.fault ≡ None) }
+        ensures of_record { IfErr result IsOfRecord }
     {
         match self.fault {
             None => Ok(()),

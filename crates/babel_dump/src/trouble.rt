@@ -2,6 +2,7 @@
 ghost use Rattle.std.specs.Prelude.{◌≡◌, None};
 ghost use Rattle.std.specs.Option.{option_copied};
 ghost use Rattle.babel_dump.specs.AskedRun.{misplaced_told};
+ghost use Rattle.babel_dump.specs.EventsCause.{IsOfRecord, TellsFault};
 ghost use Rattle.babel_dump.specs.Trouble.{refused_status, trouble_status, unwritten_status};
 
 use crate::asked::Asked;
@@ -48,10 +49,15 @@ pub enum Trouble {
 }
 
 impl From<AllocError> for Trouble {
-    ghost use Rattle.std.specs.Prelude.{◌≡◌, None};
-    ghost use Rattle.babel_dump.specs.AskedRun.{misplaced_told};
+    ghost use Rattle.std.specs.Prelude.{◌≡◌};
+    ghost use Rattle.babel_tlv.specs.declared.fault.Fault.TheVariants as faults;
+    ghost use Rattle.babel_dump.specs.declared.input_fault.InputFault.TheVariants as input_faults;
+    ghost use Rattle.babel_dump.specs.declared.run_fault.RunFault.TheVariants as run_faults;
+    ghost use Rattle.babel_dump.specs.declared.run_fault.Side.TheVariants as sides;
+    ghost use Rattle.babel_dump.specs.declared.trouble.Trouble.TheVariants as troubles;
 
-    ghost from_gives = { λ _ trouble. misplaced_told trouble ≡ None };
+    ghost from_gives = { λ _ trouble. trouble
+        ≡ troubles.Fault (run_faults.Input sides.First (input_faults.Dump faults.Memory)) };
 
     fn from(error: AllocError) -> Trouble {
         Trouble::Fault(RunFault::from(error))
@@ -65,18 +71,33 @@ impl From<RunFault> for Trouble {
 }
 
 impl From<InputFault> for Trouble {
+    ghost use Rattle.babel_dump.specs.EventsCause.{TellsFault};
+    ghost use Rattle.babel_dump.specs.declared.run_fault.Side.TheVariants as sides;
+
+    ghost from_gives = { TellsFault sides.First };
+
     fn from(fault: InputFault) -> Trouble {
         Trouble::of_input(Side::First, fault, ("--since", "--until"))
     }
 }
 
 impl From<WriteFailed> for Trouble {
+    ghost use Rattle.std.specs.Prelude.{◌≡◌};
+    ghost use Rattle.babel_dump.specs.declared.run_fault.RunFault.TheVariants as run_faults;
+    ghost use Rattle.babel_dump.specs.declared.trouble.Trouble.TheVariants as troubles;
+
+    ghost from_gives = { λ _ trouble. trouble ≡ troubles.Fault run_faults.Write };
+
     fn from(failed: WriteFailed) -> Trouble {
         Trouble::Fault(RunFault::from(failed))
     }
 }
 
 impl From<Unheard> for Trouble {
+    ghost use Rattle.babel_dump.specs.EventsCause.{IsOfRecord};
+
+    ghost from_gives = { λ _. IsOfRecord };
+
     fn from(fault: Unheard) -> Trouble {
         match fault {
             Unheard::Memory => Trouble::from(AllocError),
@@ -88,6 +109,10 @@ impl From<Unheard> for Trouble {
 }
 
 impl From<Stop> for Trouble {
+    ghost use Rattle.babel_dump.specs.EventsCause.{IsOfRecord};
+
+    ghost from_gives = { λ _. IsOfRecord };
+
     fn from(fault: Stop) -> Trouble {
         match fault {
             Stop::Unheard(fault) => Trouble::from(fault),
@@ -109,7 +134,9 @@ impl From<Stop> for Trouble {
 
 impl Trouble {
     /// That of a sender whose TLVs are refused; the name of its interface is not told yet.
-    pub(crate) fn of_sender(origin: Origin, fault: InputFault) -> Trouble {
+    pub(crate) fn of_sender(origin: Origin, fault: InputFault) -> Trouble
+        ensures { IsOfRecord result }
+    {
         Trouble::Sender {
             origin,
             name: None,
@@ -130,6 +157,7 @@ impl Trouble {
     fn of_input(side: Side, fault: InputFault, options: (&'static str, &'static str)) -> Trouble
         ensures status { trouble_status None result ≡ refused_status fault }
         ensures placed { misplaced_told result ≡ None }
+        ensures tells { TellsFault side fault result }
     {
         if fault.is_empty_window() {
             let (since, until) = options;

@@ -1,4 +1,4 @@
-use Rattle.babel_dump.proofs.AskedRuns.{did_as}
+use Rattle.babel_dump.proofs.AskedRuns.{did_as, failed_as, not_told}
 use Rattle.babel_dump.specs.declared.asked.Asked.TheVariants as askeds
 use Rattle.babel_dump.proofs.asked_run.run_asked.Goals as goal
 
@@ -9,4 +9,13 @@ pub returns-in-EachSender-clause-done : goal.returns-in-EachSender-clause-done
 returns-in-EachSender-clause-done g c = did_as c.args.asked.now (askeds.EachSender c.in-EachSender.each) _ _ _ _ _ c.in-EachSender.is c.tell_senders.ensures
 
 pub returns-in-Events-clause-done : goal.returns-in-Events-clause-done
-returns-in-Events-clause-done g c = did_as c.args.asked.now (askeds.Events c.in-Events.events) _ _ _ _ _ c.in-Events.is c.tell_events.ensures
+returns-in-Events-clause-done g c = did_as c.args.asked.now (askeds.Events c.in-Events.events) _ _ _ _ _ c.in-Events.is c.tell_events.ensures.told
+
+pub returns-in-Job-clause-failed : goal.returns-in-Job-clause-failed
+returns-in-Job-clause-failed g c = failed_as c.args.asked.now (askeds.Job c.in-Job.job) _ _ _ c.in-Job.is (not_told _)
+
+pub returns-in-EachSender-clause-failed : goal.returns-in-EachSender-clause-failed
+returns-in-EachSender-clause-failed g c = failed_as c.args.asked.now (askeds.EachSender c.in-EachSender.each) _ _ _ c.in-EachSender.is (not_told _)
+
+pub returns-in-Events-clause-failed : goal.returns-in-Events-clause-failed
+returns-in-Events-clause-failed g c = failed_as c.args.asked.now (askeds.Events c.in-Events.events) _ _ _ c.in-Events.is c.tell_events.ensures.failed

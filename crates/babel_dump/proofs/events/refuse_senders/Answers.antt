@@ -1,8 +1,7 @@
-use Rattle.std.proofs.Common.{Option, subst}
-use Rattle.babel_dump.specs.LeftOut.{first_left_out}
+use Rattle.std.proofs.Common.{None}
 use Rattle.babel_dump.specs.Strict.{IsReadWhole}
 use Rattle.babel_dump.specs.declared.events_outcome.HeardSender.{HeardSender}
-use Rattle.babel_dump.specs.declared.left_out.LeftOutDatagram.{LeftOutDatagram}
+use Rattle.babel_dump.proofs.EventCauses.{err_exit, left_out_of}
 use Rattle.babel_dump.proofs.StrictLaws.{all_from, all_past}
 use Rattle.babel_dump.proofs.events.refuse_senders.Goals as goal
 
@@ -10,10 +9,19 @@ pub loop-heard-init : goal.loop-heard-init
 loop-heard-init c = λ strict all. all
 
 pub loop-heard-preserved : goal.loop-heard-preserved
-loop-heard-preserved c = λ strict later. c.loop-heard.invariant strict
-    (all_from (λ (heard : HeardSender). IsReadWhole (first_left_out c.args.report.now) heard.report) c.args.senders.now c.loop-heard.heard-index c.heard-item.result
-    c.loop-heard-test.true c.heard-item.is
-    (subst (λ (left_out : Option LeftOutDatagram). IsReadWhole left_out c.heard-item.result.report) c.first_left_out-left_out.ensures.first (c.in_default.ensures.whole strict)) later)
+loop-heard-preserved c = λ strict later. c.loop-heard.invariant strict (
+  later.0,
+  all_from (λ (heard : HeardSender). IsReadWhole None heard.report) c.args.senders.now c.loop-heard.heard-index c.heard-item.result
+      c.loop-heard-test.true c.heard-item.is (c.in_default.ensures.whole strict) later.1,
+)
 
-pub returns : goal.returns
-returns c = λ strict. c.loop-heard.invariant strict (all_past (λ (heard : HeardSender). IsReadWhole (first_left_out c.args.report.now) heard.report) c.args.senders.now c.loop-heard.heard-index c.loop-heard-test.false)
+pub returns-clause-whole : goal.returns-clause-whole
+returns-clause-whole c = λ strict. c.loop-heard.invariant strict (
+  c.in_ok-refuse_left_out.ensures.none strict,
+  all_past (λ (heard : HeardSender). IsReadWhole None heard.report) c.args.senders.now c.loop-heard.heard-index c.loop-heard-test.false,
+)
+
+pub returns-in_err-refuse_left_out-clause-of_record : goal.returns-in_err-refuse_left_out-clause-of_record
+returns-in_err-refuse_left_out-clause-of_record c =
+    let first = c.in_err-refuse_left_out.ensures.first in
+    err_exit c.from_residual.result c.from_residual.ensures.1 (λ trouble tells. left_out_of _ first.1 trouble tells first.3)

@@ -1,6 +1,7 @@
 use Rattle.std.proofs.Common.{ap, subst, sym, ◌∙◌}
 use Rattle.babel_dump.specs.EventsRun.{WroteLines}
 use Rattle.babel_dump.specs.Run.{output}
+use Rattle.babel_dump.proofs.EventCauses.{err_exit, fails_so, of_backwards, of_fault, of_record, piece_refused}
 use Rattle.babel_dump.proofs.TakeLaws.{followed_on}
 use Rattle.babel_dump.proofs.events.Followed.take.Goals as goal
 
@@ -13,7 +14,24 @@ returns-in-Ok-clause-followed g c fed told is =
     record {
       more = sunk.told.items;
       is_followed = followed_on c.args.events.now fed c.args.piece.now told c.args.self.now is c.feed-fed.new.self sunk c.write.new.self c.feed-fed.ensures.same.0 c.feed-fed.ensures.same.1
-          c.in-Ok.ensures.ok.1 c.in-Ok.ensures.sunk (sym said.3 ∙ sym same.3 ∙ c.in_ok-fault.ensures) same.0 (same.1 ∙ ap (λ e. e.now) said.0) (same.2 ∙ said.1) (same.3 ∙ said.3)
+          c.in-Ok.ensures.ok.1 c.in-Ok.ensures.sunk (sym said.3 ∙ sym same.3 ∙ c.in_ok-fault.ensures.none) same.0 (same.1 ∙ ap (λ e. e.now) said.0) (same.2 ∙ said.1) (same.3 ∙ said.3)
           c.in_ok-write.ensures.told;
       wrote = subst (λ t. WroteLines c.args.events.now t.items writer) said.2 c.in_ok-write.ensures.lines;
     }
+
+pub returns-in_err-in_order-clause-cause : goal.returns-in_err-in_order-clause-cause
+returns-in_err-in_order-clause-cause g c =
+    err_exit c.from_residual.result c.from_residual.ensures.1 (λ trouble same fed told is. of_backwards c.args.events.now _ _ _ _ trouble (rw same c.in_err-in_order.ensures))
+
+pub returns-in_err-write-clause-cause : goal.returns-in_err-write-clause-cause
+returns-in_err-write-clause-cause g c =
+    err_exit c.from_residual-in_err-write.result c.from_residual-in_err-write.ensures.1 (λ trouble same fed told is.
+    fails_so c.args.events.now _ _ _ _ _ _ _ _ (λ fault none. absurd none) (λ none. none) (λ none. none) (λ failed. failed) trouble (rw same c.in_err-write.ensures.cause))
+
+pub returns-in_err-fault-clause-cause : goal.returns-in_err-fault-clause-cause
+returns-in_err-fault-clause-cause g c =
+    err_exit c.from_residual-in_err-fault.result c.from_residual-in_err-fault.ensures.1 (λ trouble same fed told is. of_record c.args.events.now _ _ _ _ trouble (rw same c.in_err-fault.ensures.of_record))
+
+pub returns-in-Err-clause-cause : goal.returns-in-Err-clause-cause
+returns-in-Err-clause-cause g c fed told is =
+    of_fault c.args.events.now _ _ _ _ _ _ c.of_capture.ensures (λ not_memory. piece_refused _ fed c.args.piece.now told c.args.self.now _ _ is c.feed-fed.ensures.fed c.feed-fed.ensures.same c.in-Err.ensures.err not_memory)
