@@ -200,7 +200,63 @@ def many_tables(rng):
             yield time, frame
 
 
-TIMED = refreshed, changing, expiring, shortening, retracted, many_tables
+def nested(destination, source):
+    """An Update of the two prefixes of these lengths in which the last address is."""
+    prefix = lambda length: b"\xff" * (length // 8) + bytes(
+        (0xFF00 >> length % 8 & 0xFF,) * (length % 8 > 0)
+    )
+    octets = prefix(destination)
+    if source:
+        octets += bytes((128, 1 + len(prefix(source)), source)) + prefix(source)
+    fixed = struct.pack(">6BHHH", 8, 10 + len(octets), 2, 0, destination, 0, INTERVAL, 1, 256)
+    return fixed + octets
+
+
+def padded(rng):
+    """16,641 routes in one another, and then no route, but Pad1s and Hellos."""
+    rows = [nested(*lengths) for lengths in itertools.product(range(129), repeat=2)]
+    tlvs = bytes(686) + HELLO * 87
+    return rounds(lambda turn: [tlvs] * 100 if turn else rows)
+
+
+def said_again(rng):
+    """65,536 routes, and then one of them again and again."""
+    return rounds(lambda turn: map(update, [7] * 20_000 if turn else range(65_536)))
+
+
+def wildcards(rng):
+    """262,143 routes, all retracted at once, and announced again."""
+    return rounds(lambda turn: [WILDCARD, *map(update, range(262_143))])
+
+
+def used_again(rng):
+    """131,072 routes, announced, and each retracted, in another order each time."""
+    announce, retract = update, functools.partial(update, metric=INFINITY)
+    keys = range(131_072)
+    return rounds(lambda turn: map((announce, retract)[turn % 2], rng.sample(keys, len(keys))))
+
+
+def jumping(rng):
+    """65,536 routes, a packet each, whose times jump within 3 seconds."""
+    for turn in itertools.count():
+        for key in range(65_536):
+            time = made.TIME + rng.randrange(3 * SECOND)
+            yield time, frame_of(babel(ROUTER_ID + NEXT_HOP + update(key)))
+
+
+TIMED = (
+    refreshed,
+    changing,
+    expiring,
+    shortening,
+    retracted,
+    many_tables,
+    padded,
+    said_again,
+    wildcards,
+    used_again,
+    jumping,
+)
 
 
 def write_timed(path, records):

@@ -79,8 +79,21 @@ SIZES = (1, 4, 16, 64, 256)
 CAPTURES = ("frames.pcap", "one-sender.pcap", "small-packets.pcapng", "many-senders.pcap")
 TIMED = tuple(
     f"{name}.pcap"
-    for name in ("refreshed", "changing", "expiring", "shortening", "retracted", "many-tables")
+    for name in (
+        "refreshed",
+        "changing",
+        "expiring",
+        "shortening",
+        "retracted",
+        "many-tables",
+        "padded",
+        "said-again",
+        "wildcards",
+        "used-again",
+        "jumping",
+    )
 )
+LAST = "ffff:ffff:ffff:ffff:ffff:ffff:ffff:ffff"
 EXPIRY = ["--expiry", "3.5"]
 OF_ONE = ["--quiet", "--from", "fe80::1"]
 
@@ -127,7 +140,8 @@ def cases():
         yield capture, ["senders"]
         yield capture, ["extract", "--from", "fe80::1"]
     for capture in TIMED:
-        for options in [], EXPIRY, [*EXPIRY, "--json"], [*EXPIRY, *LOOKUP]:
+        pair = ["--to", LAST, "--src", LAST] if capture == "padded.pcap" else LOOKUP
+        for options in [], EXPIRY, [*EXPIRY, "--json"], [*EXPIRY, *pair]:
             yield capture, ["events", "--quiet", *options]
         for options in [], EXPIRY, [*EXPIRY, "--hold"]:
             yield capture, ["show", *options, *OF_ONE]

@@ -4,7 +4,7 @@ use Rattle.std.proofs.Common.{refl, sym, ap, subst, ◌∙◌, append_assoc, ari
 use Rattle.std.specs.Prelude.{IfNone, IfSome, OnOk, if◌then◌else◌, option_to_list}
 use Rattle.std.specs.declared.cmp.Ordering.{Ordering}
 use Rattle.std.specs.Cmp.{IsTotalOrder}
-use Rattle.std.specs.BTreeMap.{insert_entry}
+use Rattle.std.specs.BTreeMap.{insert_entry, is_at}
 use Rattle.std.proofs.lemmas.List.{append-nil}
 use Rattle.std.proofs.lemmas.Map.Lookups.{CmpEqualImpliesEq}
 use Rattle.babel_tlv.specs.declared.event.Event.{Event}
@@ -31,13 +31,13 @@ use Rattle.babel_timeline.specs.Accounts.{IsAccount, IsLeft, Said, said, word_on
 use Rattle.babel_timeline.specs.Changes.{TellsAnnouncement, change, ending}
 use Rattle.babel_timeline.specs.Laws.{without}
 use Rattle.babel_timeline.specs.Rows.{AllLast, HasNone, IsFirstOf, Rows, row_at, subject_cmp}
-use Rattle.babel_timeline.specs.Taking.{OthersStay, Takes, TellsAnswer, changes_told}
+use Rattle.babel_timeline.specs.Taking.{OthersStay, Passes, Takes, TellsAnswer, changes_told}
 use Rattle.babel_timeline.specs.Telling.{AskedFor, IsAnswer, IsTold, Tells, TellsEnds, counts, said_of, seen_event}
 use Rattle.babel_timeline.proofs.AccountLaws.{announcing, each, leaving, left, retracting, silence}
 use Rattle.babel_timeline.proofs.AnswerLaws.{told_anew}
 use Rattle.babel_timeline.proofs.HeldLaws.{all_other, each_other}
 use Rattle.babel_timeline.proofs.MadeLaws.{made_other}
-use Rattle.babel_timeline.proofs.TellingLaws.{changes_then, ends_tell, others_inserted, others_without, tells_then, told_no}
+use Rattle.babel_timeline.proofs.TellingLaws.{absent_remains, changes_then, ends_tell, is_told-no, others_inserted, others_without, tells_then, told_no}
 use Rattle.babel_timeline.proofs.WordLaws.{word_more}
 
 -- of a sender, of whom all is retracted, some rows went so far
@@ -121,6 +121,22 @@ module _ {S : Type 0} (cmp : S → S → Ordering) (total : IsTotalOrder cmp) (e
       subst (λ (e : Event). Takes cmp factor asked subject.sender (said subject.sender row.when e ∷ []) row.when.time rows rows old old)
       (sym (ap (λ (b : Bool). if b then events.Announce subject.key at else events.Nothing) miss))
       (silent_takes rows subject.sender row.when events.Nothing old last (λ key word. refl))
+
+  -- ---- what changes no row
+
+  pub missed_passes : (view : View) (subject : Subject S) (rows : Rows S) (ann : Announcement) → counts asked subject.key ≡ false → Passes cmp factor asked view subject.sender (events.Announce subject.key ann) rows
+  missed_passes view subject rows ann miss when told last = not_counted_takes view rows subject (record { ann = ann; when = when }) told miss last
+
+  pub unheld_passes : (view : View) (subject : Subject S) (rows : Rows S) → row_at cmp rows subject ≡ None → Passes cmp factor asked view subject.sender (events.Retract subject.key) rows
+  unheld_passes view subject rows none when told last =
+      retracted_takes rows rows subject when when.time None told told last refl (absent_remains (is_at (subject_cmp cmp subject)) rows none) (sym (ap (ending kinds.Retracted when.time subject) none))
+      (told_no cmp total exact factor asked told asked)
+
+  pub nothing_passes : (view : View) (sender : S) (rows : Rows S) → Passes cmp factor asked view sender events.Nothing rows
+  nothing_passes view sender rows when told last = silent_takes rows sender when events.Nothing told last (λ key word. refl)
+
+  pub ignored_passes : (view : View) (sender : S) (rows : Rows S) (reason : Reason) → Passes cmp factor asked view sender (events.Ignored reason) rows
+  ignored_passes view sender rows reason when told last = silent_takes rows sender when (events.Ignored reason) told last (λ key word. refl)
 
   -- ---- what retracts all
 
@@ -218,6 +234,35 @@ module _ {S : Type 0} (cmp : S → S → Ordering) (total : IsTotalOrder cmp) (e
       tells_takes view sender (told_at time context tlv).when context tlv event rows after old new is
       (subst (λ (w : Stamp). Takes cmp factor asked sender (said sender w (seen_event asked view event) ∷ []) w.time rows after old new) timed
       (subst (λ (f : Option ℕ). Takes cmp f asked sender (said sender when (seen_event asked view event) ∷ []) when.time rows after old new) same takes))
+
+  -- where what passes was said, nothing is told but what has expired
+  same_tells : (sender : S) (more : List (Said S)) (time : ℕ) (rows : Rows S) (old : List (Telling S)) → Takes cmp factor asked sender more time rows rows old old → Tells cmp factor asked more time rows rows old old
+  same_tells sender more time rows old takes = record { changes = takes.changes; account = takes.account; told = by asked takes.told }
+    where
+      by : (a : AskedFor) → old ≡ old ++ changes_told a takes.changes → IsTold cmp a takes.changes rows rows old old
+      by None is = is
+      by (Some pair) is = is_told-no cmp total exact factor asked (Some pair) rows old
+
+  pub passed_tells : (view : View) (sender : S) (time : ℕ) (its_factor : Option ℕ) (context : Context) (tlv : TlvAt) (event : Event) (rows mid : Rows S) (old ended : List (Telling S)) → its_factor ≡ factor
+      → TellsEnds cmp factor asked time rows mid old ended → AllLast cmp factor time mid → Ok event ≡ says.said context tlv → Passes cmp its_factor asked view sender event mid
+      → Tells cmp factor asked (said_of asked view sender (told_at time context tlv ∷ [])) time rows mid old ended
+  passed_tells view sender time its_factor context tlv event rows mid old ended same ends last is passes =
+      let more : List (Said S) = said_of asked view sender (told_at time context tlv ∷ []) in
+      let when : Stamp = (told_at time context tlv).when in
+      tells_then cmp total exact factor asked [] more time rows mid mid old ended ended (ends_tell cmp total exact factor asked time rows mid old ended ends)
+      (same_tells sender more time mid ended
+      (tlv_takes view sender time its_factor when context tlv event mid mid ended ended same refl is (passes when ended (subst (λ (f : Option ℕ). AllLast cmp f time mid) (sym same) last))))
+
+  -- where no addresses are asked for, what was taken is told as it is
+  pub unasked_tells : (sender : S) (more : List (Said S)) (time : ℕ) (rows mid after : Rows S) (old ended new : List (Telling S)) → asked ≡ None → TellsEnds cmp factor asked time rows mid old ended
+      → Takes cmp factor asked sender more time mid after ended new → Tells cmp factor asked more time rows after old new
+  unasked_tells sender more time rows mid after old ended new none ends takes =
+      tells_then cmp total exact factor asked [] more time rows mid after old ended new (ends_tell cmp total exact factor asked time rows mid old ended ends)
+      (record { changes = takes.changes; account = takes.account; told = by asked none takes.told })
+    where
+      by : (a : AskedFor) → a ≡ None → new ≡ ended ++ changes_told a takes.changes → IsTold cmp a takes.changes mid after ended new
+      by None is told = told
+      by (Some pair) is told = absurd cc
 
   -- what was taken is told, once what has expired was
   pub taken_tells : (sender : S) (more : List (Said S)) (time : ℕ) (rows mid after : Rows S) (before : Option BestMatch) (old ended changed new : List (Telling S))

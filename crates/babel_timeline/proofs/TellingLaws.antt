@@ -38,6 +38,14 @@ stays {X = X} test gone apart (e ∷ es) = by (stays test gone apart es) (gone e
     by again true is_b false is_c = refl
     by again false is_b c is_c = ap (λ (b : Bool). cond b (Some e.1) (lookup test (remove_entry gone es))) is_c ∙ ap (λ (o : Option X). cond c (Some e.1) o) again
 
+pub absent_remains : {K X : Type 0} (test : K → Bool) (es : List (K × X)) → lookup test es ≡ None → es ≡ remove_entry test es
+absent_remains test [] none = refl
+absent_remains {K} {X} test (e ∷ es) none = by (absent_remains test es) (test e.0) none
+  where
+    by : (lookup test es ≡ None → es ≡ remove_entry test es) → (b : Bool) → cond b (Some e.1) (lookup test es) ≡ None → (e ∷ es) ≡ cond b es (e ∷ remove_entry test es)
+    by again true none = absurd cc
+    by again false none = ap (λ (l : List (K × X)). e ∷ l) (again none)
+
 fewer : {K X : Type 0} (test : K → Bool) (es : List (K × X)) → IsSome (lookup test es) → length (remove_entry test es) < length es
 fewer test [] held = absurd cc
 fewer test (e ∷ es) held = by (fewer test es) (test e.0) held

@@ -6,9 +6,12 @@ use Rattle.babel_timeline.specs.declared.change.Change.{Change}
 use Rattle.babel_timeline.specs.declared.subject.Subject.{Subject}
 use Rattle.babel_timeline.specs.declared.telling.Telling.{Telling}
 use Rattle.babel_timeline.specs.declared.telling.Telling.TheVariants as tellings
-use Rattle.babel_timeline.specs.Accounts.{Said}
-use Rattle.babel_timeline.specs.Rows.{Held, Rows, row_at}
-use Rattle.babel_timeline.specs.Telling.{AskedFor, IsAnswer, KeepsAccount}
+use Rattle.babel_tlv.specs.declared.event.Event.{Event}
+use Rattle.babel_tlv.specs.declared.view.View.{View}
+use Rattle.babel_table.specs.Moments.{Stamp}
+use Rattle.babel_timeline.specs.Accounts.{Said, said}
+use Rattle.babel_timeline.specs.Rows.{AllLast, Held, Rows, row_at}
+use Rattle.babel_timeline.specs.Telling.{AskedFor, IsAnswer, KeepsAccount, seen_event}
 
 -- only the rows change
 abbrev pub KeepsBounds : {S : Type 0} → Held S → Held S → Type 0
@@ -41,3 +44,10 @@ module _ {S : Type 0} (cmp : S → S → Ordering) where
     pub account : KeepsAccount cmp factor more time rows changes after
     pub told : new ≡ old ++ changes_told asked changes
     pub others : OthersStay sender rows after
+
+  -- what a sender says changes no row and tells nothing, whenever it is said
+  abbrev pub Passes : Option ℕ → AskedFor → View → S → Event → Rows S → Type 0
+  Passes factor asked view sender event rows =
+      (when : Stamp) (told : List (Telling S)) → AllLast cmp factor when.time rows
+      → Takes factor asked sender (said sender when (seen_event asked view event) ∷ []) when.time
+      rows rows told told

@@ -31,7 +31,7 @@ struct Cell<S> {
 }
 
 /// The entries of many subjects. A sender repeats what it says in one order, so the cell behind the
-/// one that was found last is looked at before any search.
+/// one that was found last, and then that one, are looked at before any search.
 #[derive(Drop)]
 pub(crate) struct Cells<S: Sender> {
     places: BTreeMap<Subject<S>, usize>,
@@ -215,7 +215,12 @@ impl<S: Sender> Cells<S> {
         ensures rising { IsStrictlySortedBy (subject_cmp S.cmp) (keys_of self.new) }
     {
         let next = self.last.saturating_add(1);
-        let place = place_of(&self.places, &self.cells, next, subject)?;
+        let guess = if holds(&self.cells, next, subject) {
+            next
+        } else {
+            self.last
+        };
+        let place = place_of(&self.places, &self.cells, guess, subject)?;
         self.last = place;
         Some(self.cells[place].entry)
     }

@@ -1,6 +1,6 @@
 //! What is told of what senders hold.
 ghost use Rattle.std.specs.Prelude.{◌≡◌, ◌+◌, ◌<◌, ◌^◌, ◌∷◌, ◌++◌, [], List, Some, length};
-ghost use Rattle.std.specs.Prelude.{IfNone, IfOk, IfSome, IsSome, None, Ok, OnOk, slice_index};
+ghost use Rattle.std.specs.Prelude.{IfNone, IfOk, IfSome, IsSome, IsTrue, None, Ok, OnOk, slice_index};
 ghost use Rattle.babel_tlv.specs.declared.event.Event.TheVariants as events;
 ghost use Rattle.babel_tlv.specs.declared.start.Start.{Start as StartValue};
 ghost use Rattle.babel_tlv.specs.Context.{context_after, first_context};
@@ -19,7 +19,7 @@ ghost use Rattle.babel_timeline.specs.Hearing.{CountsMore};
 ghost use Rattle.babel_timeline.specs.Kept.{expiring};
 ghost use Rattle.babel_timeline.specs.Laws.{without};
 ghost use Rattle.babel_timeline.specs.Rows.{AllLast, row_at};
-ghost use Rattle.babel_timeline.specs.Taking.{KeepsBounds, Takes, TellsAnswer, changes_told};
+ghost use Rattle.babel_timeline.specs.Taking.{KeepsBounds, Passes, Takes, TellsAnswer, changes_told};
 ghost use Rattle.babel_timeline.specs.Telling.{IsAnswer, IsTold, Tells, TellsEnds, counts};
 ghost use Rattle.babel_timeline.specs.Telling.{said_of, seen_event};
 
@@ -178,6 +178,9 @@ impl Interest {
             timeline.old.rows timeline.new.rows told.old.items told.new.items) }
         ensures last { OnOk result (AllLast S.cmp timeline.old.factor until timeline.new.rows) }
     {
+        if timeline.is_quiet(until) {
+            return Ok(());
+        }
         while let Some(first) = timeline.first_end(until)? {
             self.end(timeline, &first, told)?;
         }
@@ -286,6 +289,29 @@ impl Interest {
         }
     }
 
+    /// Whether it is known that no row changes by what a TLV says of a route, and no answer.
+    fn passes<S: Sender>(
+        &self,
+        timeline: &Timeline<S>,
+        sender: S,
+        kind: EventKind,
+        route: &Route,
+    ) -> bool
+        ensures { IsTrue result → Passes S.cmp timeline.now.factor self.now.asked self.now.view
+            sender (event_of kind route.now) timeline.now.rows }
+    {
+        let key = route.key;
+        match kind {
+            EventKind::Announce => !self.counts(&key),
+            EventKind::Retract => {
+                !self.counts(&key) && timeline.row(&Subject { sender, key }).is_none()
+            }
+            EventKind::RetractAll => false,
+            EventKind::Nothing => true,
+            EventKind::Ignored(_) => true,
+        }
+    }
+
     /// Takes a TLV of a packet that came at this time, after the TLVs that left this state: what
     /// kind of event it is.
     fn take_tlv<S: Sender>(
@@ -312,7 +338,14 @@ impl Interest {
     {
         self.expire(timeline, time, told)?;
         let kind = state.step_into(tlv, route)?;
+        if self.passes(timeline, sender, kind, route) {
+            return Ok(kind);
+        }
         let when = Stamp::new(time, interval(tlv.body));
+        if self.asked.is_none() {
+            self.take(timeline, sender, when, kind, route, tlv.at, told)?;
+            return Ok(kind);
+        }
         let before = self.answer(timeline, sender);
         self.take(timeline, sender, when, kind, route, tlv.at, told)?;
         self.tell_answer(timeline, time, sender, before, told)?;

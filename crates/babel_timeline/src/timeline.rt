@@ -220,6 +220,13 @@ impl<S: Sender> Timeline<S> {
         Some(entry.row)
     }
 
+    /// Whether it is known that nothing ends by this time.
+    pub(crate) fn is_quiet(&self, until: u128) -> bool
+        ensures { IsTrue result → AllLast S.cmp self.now.factor until self.now.rows }
+    {
+        self.queue.is_quiet(until)
+    }
+
     /// What ends first, if by this time.
     pub(crate) fn first_end(&mut self, until: u128) -> Result<Option<Expiry<S>>, AllocError>
         ensures same { self.new ≡ self.old }

@@ -9,7 +9,7 @@ use Rattle.babel_timeline.specs.Kept.{expiring}
 use Rattle.babel_timeline.specs.Laws.{without}
 use Rattle.babel_timeline.specs.Rows.{AllLast, EndsFirst, Held, row_at}
 use Rattle.babel_timeline.specs.Telling.{IsTold, TellsEnds}
-use Rattle.babel_timeline.proofs.TellingLaws.{ends-end, ends-next, less_ends}
+use Rattle.babel_timeline.proofs.TellingLaws.{ends-begin, ends-end, ends-next, less_ends}
 use Rattle.babel_timeline.proofs.interest.Interest.expire.Goals as goal
 
 pub loop-first-smaller : goal.loop-first-smaller
@@ -36,6 +36,11 @@ loop-first-preserved g c = record {
       → Some one ≡ ending kinds.Expired c.in-Some.first.time (expiring c.in-Some.first) (row_at g.S.Ord.cmp h.rows (expiring c.in-Some.first))
       → IsTold g.S.Ord.cmp c.args.self.now.asked (one ∷ []) h.rows c.end.new.timeline.rows c.loop-first.told.items c.end.new.told.items) c.first_end.ensures.same c.in_ok-end.ensures.told);
 }
+
+pub returns-then-is_quiet-clause-ok : goal.returns-then-is_quiet-clause-ok
+returns-then-is_quiet-clause-ok g c =
+    ends-end g.S.Ord.cmp g.met.S.Ord.total g.met.S.Sender.exact c.args.timeline.now.factor c.args.self.now.asked c.args.until c.args.timeline.now.rows c.args.timeline.now.rows c.args.told.now.items c.args.told.now.items (c.is_quiet.ensures c.if-is_quiet.true)
+    (ends-begin g.S.Ord.cmp g.met.S.Ord.total g.met.S.Sender.exact c.args.timeline.now.factor c.args.self.now.asked c.args.until c.args.timeline.now.rows c.args.told.now.items)
 
 pub returns-clause-last : goal.returns-clause-last
 returns-clause-last g c =
