@@ -3,7 +3,6 @@ ghost use Rattle.std.specs.Prelude.{◌≡◌, ◌+◌, ◌^◌, ◌<◌, ◌≤
 ghost use Rattle.std.specs.Prelude.{drop, length, take, true};
 ghost use Rattle.babel_capture.specs.Sinking.{left_said, packet_said};
 ghost use Rattle.babel_tlv.specs.Framing.{framed};
-ghost use Rattle.babel_dump.specs.EventsRun.{speaker_at};
 ghost use Rattle.babel_dump.specs.Followed.{HasHeard, HearsFront, HearsTold, IsWholeTold};
 ghost use Rattle.babel_dump.specs.Followed.{RefusesTold};
 
@@ -12,12 +11,11 @@ use crate::hearing::{Hearing, Unheard};
 use crate::left_out::LeftOutDatagram;
 use crate::remarks::Remarks;
 use crate::says::Says;
-use crate::speaker::Speaker;
+use crate::speaker::{Speaker, speaker_at};
 use crate::stop::Stop;
 use crate::trouble::Trouble;
 use crate::unread_tlv::{UnreadTlv, packet_of};
 use babel_capture::{BabelPacket, Gathered, Origin, Reason, Record, Said, Sink};
-use babel_table::Report;
 use babel_timeline::Telling;
 use babel_tlv::Start;
 use std::alloc::{AllocError, Global};
@@ -89,23 +87,11 @@ impl<'a> Follower<'a> {
         ensures heard { OnOk result
             (HearsTold self.old.events.now told.now self.old self.new) }
     {
-        let before = self.report(&told.said);
         self.hearing.hear_record(self.events, told, &mut self.told)?;
         self.hearing.request(self.events, told, &mut self.told)?;
         self.hearing.lose(told, &mut self.remarks)?;
-        let now = self.report(&told.said);
-        add_remarks(&mut self.remarks, told, &before, &now)?;
+        add_remarks(&mut self.remarks, &self.hearing, told)?;
         Ok(())
-    }
-
-    /// What was heard so far of the sender of a packet, if there is to say what was not read.
-    fn report(&self, said: &Said<'_>) -> Report {
-        match said {
-            Said::Packet(packet) if !self.events.quiet => {
-                self.hearing.report(speaker_at(&packet.origin))
-            }
-            _ => Report::new(),
-        }
     }
 
     /// Says what was not read since it was said last.
@@ -212,24 +198,14 @@ impl<'a> Follower<'a> {
     }
 }
 
-/// A sender at a place, as one who speaks.
-fn speaker_at(origin: &Origin) -> Speaker
-    ensures { result ≡ speaker_at origin.now }
-{
-    let Origin { place, sender } = *origin;
-    Speaker { sender, place }
-}
-
-/// Adds what of a record was not read, where the sender of its packet had the one report before it,
-/// and has the other after it.
+/// Adds what of a record that was heard was not read.
 fn add_remarks(
     remarks: &mut Remarks,
+    hearing: &Hearing,
     told: &Record<'_>,
-    before: &Report,
-    now: &Report,
 ) -> Result<(), AllocError> {
     match &told.said {
-        Said::Packet(packet) => remarks.ignored(&packet.origin, before, now),
+        Said::Packet(packet) => remarks.ignored(hearing, packet),
         Said::LeftOut { origin, reason } => {
             let (packet, reason) = (told.number, *reason);
             remarks.left_out(*origin, LeftOutDatagram { packet, reason })
