@@ -89,8 +89,8 @@ _babel_dump_valued="--from --other-from --interface --other-interface --since --
 _babel_dump_options() {
     case $1 in
         show) echo --from --interface --since --until --expiry --hold --v4-via-v6 --quiet \
-            --accept-cut --max-routes --max-octets --within --match --source --id --summary --json \
-            --short --help ;;
+            --accept-cut --max-routes --max-octets --within --match --source --id --summary \
+            --origins --json --short --help ;;
         lookup) echo --from --interface --since --until --expiry --hold --v4-via-v6 --quiet \
             --accept-cut --max-routes --max-octets --strict --json --short --with-prefix --to \
             --src --each --help ;;
@@ -107,7 +107,8 @@ _babel_dump_options() {
             --other-until --strict --ignore --json --short --routes --all --count --help ;;
         diff) echo --from --other-from --interface --other-interface --since --until --expiry \
             --hold --v4-via-v6 --quiet --accept-cut --max-routes --max-octets --other-since \
-            --other-until --strict --ignore --stat --color --json --short --help ;;
+            --other-until --within --match --source --id --strict --ignore --origins --stat \
+            --color --json --short --help ;;
         senders) echo --since --until --strict --accept-cut --quiet --max-octets --json --short \
             --help ;;
         extract) echo --from --interface --hex --since --until --strict --accept-cut --quiet \

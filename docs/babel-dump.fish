@@ -150,12 +150,20 @@ __babel_dump_option 'compare diff' -l other-until -x \
     -d 'The same for OTHER'
 __babel_dump_option 'show pairs events' -l within -x \
     -d 'Only destinations that are PREFIX or inside it'
+__babel_dump_option 'diff' -l within -x \
+    -d 'With --origins: only destinations that are PREFIX or inside it'
 __babel_dump_option 'show pairs events' -l match -x \
     -d 'Only destinations that contain PREFIX, which may be an address'
+__babel_dump_option 'diff' -l match -x \
+    -d 'With --origins: only destinations that contain PREFIX, which may be an address'
 __babel_dump_option 'show pairs events' -l source -x \
     -d 'Only sources that are exactly PREFIX'
+__babel_dump_option 'diff' -l source -x \
+    -d 'With --origins: only sources that are exactly PREFIX'
 __babel_dump_option 'show pairs events' -l id -x \
     -d 'Only routes with this router-id: 16 hexadecimal digits, or with colons as babeld writes it'
+__babel_dump_option 'diff' -l id -x \
+    -d 'With --origins: only this router-id: 16 hexadecimal digits, or with colons as babeld writes it'
 __babel_dump_option 'lookup normalise key pairs compare diff' -l strict \
     -d 'Reject a dump in which any TLV was ignored or a datagram left out, or that has no Update'
 __babel_dump_option 'normalise key pairs compare diff' -l ignore -x -a '(__fish_append , next-hop router-id seqno metric)' \
@@ -172,6 +180,10 @@ __babel_dump_option 'normalise' -l hex \
     -d 'Write the octets as lower-case hexadecimal digits on one line'
 __babel_dump_option 'show' -l summary \
     -d 'Print only how many routes, router-ids and next hops there are'
+__babel_dump_option 'show' -l origins \
+    -d 'Print who originates what: for each destination, source and router-id the least metric over all senders in a capture, and how many announce it'
+__babel_dump_option 'diff' -l origins \
+    -d 'Compare who originates what in two captures: for each destination, source and router-id the least metric over all senders'
 __babel_dump_option 'diff' -l stat \
     -d 'Print a last line: how many routes are gone, new, changed, and alike'
 __babel_dump_option 'diff' -l color -x -a 'auto always never' \

@@ -153,6 +153,36 @@ class Stat:
 
 
 @dataclass(frozen=True)
+class Origination:
+    """Of show --origins: the least metric of all senders, and how many of them announce it."""
+
+    destination: Prefix
+    source: Prefix
+    router_id: str
+    metric: int
+    senders: int
+
+
+@dataclass(frozen=True)
+class Announced:
+    """In one of two captures; the metric is None where --ignore names it."""
+
+    metric: Optional[int]
+    senders: int
+
+
+@dataclass(frozen=True)
+class OriginationDiffers:
+    """Of diff --origins."""
+
+    destination: Prefix
+    source: Prefix
+    router_id: str
+    left: Optional[Announced]
+    right: Optional[Announced]
+
+
+@dataclass(frozen=True)
 class FileKey:
     """Of key with --from."""
 
@@ -299,6 +329,7 @@ class Note:
 
 
 KINDS = Row, Looked, Report, Summary, Counts, Same, Differ, Alone, Differences, Stat
+KINDS += Origination, OriginationDiffers
 KINDS += FileKey, SenderKey, Sender, Event, Answered, Requested, Silent, Returned
 
 # What a note has besides.

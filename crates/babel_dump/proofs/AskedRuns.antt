@@ -1,11 +1,12 @@
 -- What comes of what was asked for, over streams.
-use Rattle.std.proofs.Common.{◌≡◌, ◌≢◌, ℕ, Bool, List, Option, None, Some, Ok, Result, refl, sym, ap, subst, ◌∙◌}
-use Rattle.std.specs.Prelude.{IfOk, IfSome}
+use Rattle.std.proofs.Common.{◌≡◌, ◌≢◌, ℕ, Bool, List, Option, None, Some, Err, Ok, Result, refl, sym, ap, subst, ◌∙◌}
+use Rattle.std.specs.Prelude.{IfErr, IfOk, IfSome}
 use Rattle.std.specs.Io.KnownBytes.{Appends, Keeps}
 use Rattle.std.specs.Map.{keys_of}
 use Rattle.babel_capture.specs.Counts.{Made}
 use Rattle.babel_dump.specs.CaptureGiven.{made_in}
 use Rattle.babel_dump.specs.Device.{InputState}
+use Rattle.babel_dump.specs.EventsCause.{EventsCause}
 use Rattle.babel_dump.specs.EventsRun.{TellsEvents}
 use Rattle.babel_dump.specs.Fed.{AreWhole}
 use Rattle.babel_dump.specs.PairsMade.{heard_in}
@@ -21,7 +22,7 @@ use Rattle.babel_dump.specs.declared.events_outcome.EventsOutcome.{EventsOutcome
 use Rattle.babel_dump.specs.declared.told_senders.ToldSenders.{ToldSenders}
 use Rattle.babel_dump.specs.declared.each_sender.EachSender.{EachSender}
 use Rattle.babel_dump.specs.declared.each_sender.SendersRead.{SendersRead}
-use Rattle.babel_dump.specs.AskedRun.{Beginnings, Did, DidJob, GaveOn, ToldEvents, WrotePairs, WroteSenders, misplaced_at}
+use Rattle.babel_dump.specs.AskedRun.{Beginnings, Did, DidJob, Failed, FailedEvents, GaveOn, ToldEvents, WrotePairs, WroteSenders, misplaced_at}
 use Rattle.babel_dump.specs.Begun.{BeginsSo}
 use Rattle.babel_dump.specs.Files.{reading_of}
 use Rattle.babel_dump.specs.Given.{Reads}
@@ -36,8 +37,12 @@ use Rattle.babel_dump.specs.declared.format.Format.{Format}
 use Rattle.babel_dump.specs.declared.job.Job.{Job}
 use Rattle.babel_dump.specs.declared.job.Work.{Work}
 use Rattle.babel_dump.specs.declared.outcome.Outcome.{Outcome}
+use Rattle.babel_tlv.specs.declared.fault.Fault.TheVariants as faults
+use Rattle.babel_dump.specs.declared.input_fault.InputFault.TheVariants as input_faults
+use Rattle.babel_dump.specs.declared.run_fault.RunFault.TheVariants as run_faults
 use Rattle.babel_dump.specs.declared.run_fault.Side.TheVariants as sides
 use Rattle.babel_dump.specs.declared.trouble.Trouble.{Trouble}
+use Rattle.babel_dump.specs.declared.trouble.Trouble.TheVariants as troubles
 
 -- a device gives what a stream has
 pub keeps_left : (stream left given : Option (List ℕ)) → left ≡ given → Keeps stream given → Keeps stream left
@@ -141,7 +146,7 @@ pub wrote_pairs : (pairs : EachPair) (stream other : Option (List ℕ)) (writer 
     → ((records others : List Made) → AreWhole (packets_made records) → AreOwn pairs.left records senders.tables.entries → AreWhole (packets_made others)
     → AreOwn pairs.right others other_senders.tables.entries
     → ArePairsTold pairs (heard_in senders.read records) (heard_in other_senders.read others) (keys_of senders.tables.entries) (keys_of other_senders.tables.entries) made)
-    → done.senders ≡ made.senders → text ≡ made.lines.items → Appends writer.old.taken writer.new.taken text → done.status ≡ made.status → WrotePairs pairs stream other writer done
+    → done.senders ≡ made.senders.told → text ≡ made.lines.items → Appends writer.old.taken writer.new.taken text → done.status ≡ made.status → WrotePairs pairs stream other writer done
 wrote_pairs pairs stream other writer senders other_senders made text done first second are same lines wrote status = record {
   senders = senders;
   other_senders = other_senders;
@@ -159,3 +164,29 @@ wrote_pairs pairs stream other writer senders other_senders made text done first
 pub did_as : (asked known : Asked) (seed : ℕ) (stream other : Option (List ℕ)) (writer : Output) (result : Result Done Trouble) → asked ≡ known
     → IfOk result (Did known seed stream other writer) → IfOk result (Did asked seed stream other writer)
 did_as asked known seed stream other writer result is did = subst (λ (a : Asked). IfOk result (Did a seed stream other writer)) (sym is) did
+
+pub failed_as : (asked known : Asked) (stream : Option (List ℕ)) (writer : Output) (result : Result Done Trouble) → asked ≡ known → IfErr result (Failed known stream writer)
+    → IfErr result (Failed asked stream writer)
+failed_as asked known stream writer result is failed = subst (λ (a : Asked). IfErr result (Failed a stream writer)) (sym is) failed
+
+pub not_told : (result : Result Done Trouble) → IfErr result (λ _. Unit {0})
+not_told (Ok done) = tt
+not_told (Err trouble) = tt
+
+pub failed_so : (events : Events) (stream : Option (List ℕ)) (old new given : InputState) (writer : Output) (trouble : Trouble) → old ≡ given → given.left ≡ stream
+    → EventsCause events old new writer trouble → FailedEvents events stream writer trouble
+failed_so events stream old new given writer trouble is left cause = record {
+  reader = record { old = old; new = new };
+  keeps = keeps_left stream old.left stream (ap (λ (s : InputState). s.left) is ∙ left) (keeps_itself stream);
+  cause = cause;
+}
+
+-- before anything was read or written, and after both
+pub no_memory : (events : Events) (stream : Option (List ℕ)) (old given : InputState) (writer : Output) (trouble : Trouble) → old ≡ given → given.left ≡ stream
+    → trouble ≡ troubles.Fault (run_faults.Input sides.First (input_faults.Dump faults.Memory)) → FailedEvents events stream writer trouble
+no_memory events stream old given writer trouble is left memory = failed_so events stream old old given writer trouble is left (subst (EventsCause events old old writer) (sym memory) refl)
+
+-- where the fault that is told is this one
+pub failed_with : (events : Events) (stream : Option (List ℕ)) (old new given : InputState) (writer : Output) (error trouble : Trouble) → old ≡ given → given.left ≡ stream → trouble ≡ error
+    → EventsCause events old new writer error → FailedEvents events stream writer trouble
+failed_with events stream old new given writer error trouble is left same cause = failed_so events stream old new given writer trouble is left (subst (EventsCause events old new writer) (sym same) cause)

@@ -42,9 +42,11 @@ of_none : (asked : AskedFor) → of_rows {S = Speaker} asked [] ≡ []
 of_none None = refl
 of_none (Some pair) = refl
 
-pub suits_still : (old new : Teller Speaker) (events : Events) → (new.timeline.factor ≡ old.timeline.factor) × (new.interest ≡ old.interest) → Suits events old → Suits events new
-suits_still old new events same suits = record {
+pub suits_still : (old new : Teller Speaker) (events : Events) → (new.timeline.factor ≡ old.timeline.factor) × (new.interest ≡ old.interest) → new.timeline.limit ≡ old.timeline.limit → Suits events old
+    → Suits events new
+suits_still old new events same limit suits = record {
   factor = same.0 ∙ suits.factor;
+  limit = limit ∙ suits.limit;
   view = ap (λ i. i.view) same.1 ∙ suits.view;
   asked = ap (λ i. i.asked) same.1 ∙ suits.asked;
 }
@@ -60,14 +62,14 @@ module _ (cmp : Speaker → Speaker → Ordering) (order : cmp ≡ speaker_cmp) 
       subst (λ (k : Speaker → Speaker → Ordering). TellsSilences k more time old new teller.watch now) order (silences (watching_so watching))
 
   pub hears_packet : (origin : Origin) (via : Bool) → via ≡ events.limits.via_v6 → (time at : ℕ) (packet : List ℕ) (new : Teller Speaker) (before told : List (Telling Speaker))
-      → (new.timeline.factor ≡ teller.timeline.factor) × (new.interest ≡ teller.interest)
+      → (new.timeline.factor ≡ teller.timeline.factor) × (new.interest ≡ teller.interest) → new.timeline.limit ≡ teller.timeline.limit
       → Hears cmp teller.timeline.factor teller.interest.asked teller.interest.view (speaker_at origin)
       (record { sender = origin.sender; via_v6 = via }) time at packet teller.timeline.rows new.timeline.rows
       (of_rows teller.interest.asked before) (of_rows teller.interest.asked told)
       → CountsPacket cmp (speaker_at origin) (record { sender = origin.sender; via_v6 = via }) packet teller.heard.entries new.heard.entries
       → (watches teller.timeline.factor teller.interest.asked ≡ true → TellsSilences cmp (hellos_heard (speaker_at origin) time packet) time before told teller.watch new.watch)
       → HearsPacket events origin time packet teller new before told
-  hears_packet origin via via_is time at packet new before told same hears counts silences =
+  hears_packet origin via via_is time at packet new before told same limit hears counts silences =
       let begin : Bool → Start = λ v. record { sender = origin.sender; via_v6 = v } in
       let rows = teller.timeline.rows in
       let after = new.timeline.rows in
@@ -77,7 +79,7 @@ module _ (cmp : Speaker → Speaker → Ordering) (order : cmp ≡ speaker_cmp) 
       let three = subst (λ (a : AskedFor). Hears speaker_cmp events.expiry a teller.interest.view (speaker_at origin) (begin events.limits.via_v6) time at packet rows after (of_rows a before) (of_rows a told)) suits.asked two in
       let is = subst (λ (v : View). Hears speaker_cmp events.expiry (asked_by events) v (speaker_at origin) (begin events.limits.via_v6) time at packet rows after (of_rows (asked_by events) before) (of_rows (asked_by events) told)) suits.view three in
       record {
-        suits = suits_still teller new events same suits;
+        suits = suits_still teller new events same limit suits;
         said = said_of (asked_by events) events.view (speaker_at origin) (told_from time (first_context (begin events.limits.via_v6)) is.tlvs);
         is_said = record { at = at; tlvs = is.tlvs; rest = is.rest; whole = is.whole; placed = is.placed; is = refl };
         tells = is.tells;

@@ -356,11 +356,11 @@ module _ (events : Events) where
     }
 
     module _ (mid : Teller Speaker) where
-      pub hears_no_packet : Suits events old → (mid.timeline.factor ≡ old.timeline.factor) × (mid.interest ≡ old.interest) → mid.heard ≡ old.heard → (time : ℕ) (told : Tellings)
+      pub hears_no_packet : Suits events old → (mid.timeline.factor ≡ old.timeline.factor) × (mid.interest ≡ old.interest) → mid.timeline.limit ≡ old.timeline.limit → mid.heard ≡ old.heard → (time : ℕ) (told : Tellings)
           → time_of one.came ≡ Some time → None ≡ origin_found one.what → TellsEnds speaker_cmp events.expiry (asked_by events) time old.timeline.rows mid.timeline.rows [] (of_rows (asked_by events) told)
           → (watches events.expiry (asked_by events) ≡ true → TellsSilences speaker_cmp [] time [] told old.watch mid.watch) → HearsRecord events one old mid told
-      hears_no_packet suits same heard time told came none ends silences = record {
-        suits = suits_still old mid events same suits;
+      hears_no_packet suits same limit heard time told came none ends silences = record {
+        suits = suits_still old mid events same limit suits;
         tells = λ made before have. told_of_no_packet events made one before time old.timeline.rows mid.timeline.rows told came none ends have;
         silences = λ made before knows. knows_timed events made one before told time [] old mid came (no_hellos time one.what none) silences knows;
         heard = λ made speaker was. subst (λ h. IsHeardOf events (made ++ one ∷ []) h speaker) (ap (λ h. h.entries) (sym heard))

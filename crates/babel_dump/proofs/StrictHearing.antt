@@ -8,7 +8,8 @@ use Rattle.babel_capture.specs.declared.sink.Said.{Said}
 use Rattle.babel_capture.specs.declared.sink.Said.TheVariants as saids
 use Rattle.babel_tlv.specs.declared.start.Start.{Start}
 use Rattle.babel_tlv.specs.Framing.{framed}
-use Rattle.babel_dump.specs.Followed.{HearsFront, IsWholeTold, RefusesTold, octets_before, start_of}
+use Rattle.babel_dump.specs.Followed.{HearsFront, IsWholeTold, RefusesTold, octets_before}
+use Rattle.babel_dump.specs.EventsCause.{start_of}
 use Rattle.babel_dump.specs.StrictPackets.{IsFirstOf, IsReadTo, IsReadWholly, fault_of}
 use Rattle.babel_dump.specs.declared.events_job.Events.{Events}
 use Rattle.babel_dump.specs.declared.follower.Follower.{Follower}

@@ -46,9 +46,12 @@ given_of state extent fed none limit read =
 -- ---- more of it
 
 -- no records
-follows_none : (follower : Follower) → Follows follower follower []
-follows_none follower =
-    (refl, λ sound. (sound, λ before written heard. subst (λ (m : List Made). HasHeard follower.events.now m (written ++ follower.told.items) follower.hearing) (sym (append-nil before)) heard))
+pub follows_none : (follower : Follower) → Follows follower follower []
+follows_none follower = (
+  refl,
+  λ sound. (sound, λ before written heard. subst (λ (m : List Made). HasHeard follower.events.now m (written ++ follower.told.items) follower.hearing) (sym (append-nil before)) heard),
+  λ stop stopped sound. absurd (let bad : None ≡ Some stop = sym sound ∙ stopped in cc),
+)
 
 -- how far a capture was followed, where this is all that was told
 record IsFollowedBy (events : Events) (fed : List ℕ) (all : Tellings) (capture : State) (hearing : Hearing) : Type 0 where

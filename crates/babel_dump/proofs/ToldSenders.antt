@@ -92,6 +92,11 @@ module _ (each : EachSender) (records : List Made) (entries : Entries) (own : Ar
   are_fed [] here = tt
   are_fed (entry ∷ some) (here, later) = (fed_by entry (is_asked each.place entry.0) refl here, are_fed some later)
 
+pub all_fed : (each : EachSender) (records : List Made) (entries : Entries) → IsStrictlySortedBy ghosts.cmp (keys_of entries) → AreOwn each records entries
+    → AllByRecursion (IsFedIn each records) entries
+all_fed each records entries sorted own =
+    are_fed each records entries own entries (are_here entries (subst (λ (k : Origin → Origin → Ordering). IsStrictlySortedBy k (keys_of entries)) origin_order sorted))
+
 -- the key of one, or why it has none
 pub found_so : (each : EachSender) (moment : Option ℕ) (gathering : Gathering) (origin : Origin) (table : SenderTable) (key : Result TableText InputFault)
     → IfOk key (λ k. (records : List Made) → AreWhole (packets_made records) → IsFedIn each records (origin, table)
@@ -118,7 +123,7 @@ module _ (each : EachSender) (moment : Option ℕ) (gathering : Gathering) (entr
     found = [];
     of_each = refl;
     are_found = λ records whole own. tt;
-    fed = λ records own. are_fed each records entries own entries (are_here entries (subst (λ (k : Origin → Origin → Ordering). IsStrictlySortedBy k (keys_of entries)) origin_order sorted));
+    fed = λ records own. all_fed each records entries sorted own;
     told = told;
   })
 

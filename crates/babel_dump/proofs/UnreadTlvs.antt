@@ -1,13 +1,14 @@
 -- The TLVs of a packet, read one by one up to the first that is ignored.
 use Rattle.std.proofs.Common.{◌≡◌, ℕ, ◌+◌, ◌-◌, ◌≤◌, List, [], ◌∷◌, ◌++◌, length, take, drop, refl, sym, ap, subst, ◌∙◌, append_assoc, arith}
-use Rattle.std.specs.Prelude.{Option, Result, Ok, Some, None}
+use Rattle.std.specs.Prelude.{Option, Result, Ok, Err, Some, None}
 use Rattle.std.specs.List.{flat_map}
 use Rattle.std.proofs.lemmas.List.{length-append, take_at}
 use Rattle.std.proofs.lemmas.List.Concat.{flat_map-append}
+use Rattle.std.proofs.lemmas.List.Sums.{fold-append}
 use Rattle.babel_tlv.specs.declared.event.Event.{Event}
 use Rattle.babel_tlv.specs.declared.fault.Fault.{Fault}
 use Rattle.babel_tlv.specs.declared.start.Start.{Start}
-use Rattle.babel_tlv.specs.Context.{Context, context_after}
+use Rattle.babel_tlv.specs.Context.{Context, context_after, first_context, updated}
 use Rattle.babel_tlv.specs.FrameFaults.{AreTlvs, BeginsPacket}
 use Rattle.babel_tlv.specs.Framing.{ArePlaced, IsBody, TlvAt, framed, packet_octets, tlv_octets, tlvs_of}
 use Rattle.babel_tlv.specs.Says as says
@@ -16,6 +17,8 @@ use Rattle.babel_table.specs.Counting.{counted_with}
 use Rattle.babel_table.specs.Counts.{Counts, counts_of}
 use Rattle.babel_table.specs.Feeding.{event_at}
 use Rattle.babel_table.proofs.CountLaws.{counts-push}
+use Rattle.babel_timeline.specs.Refusing.{context_behind}
+use Rattle.babel_dump.specs.EventsCause.{RefusesTlvIn}
 use Rattle.babel_dump.specs.Ignored.{IgnoresNone, first_ignored}
 use Rattle.babel_dump.specs.StrictPackets.{IsFirstIn, IsFirstOf, IsOfTlvs, IsRefusedLast, fault_of, tlvs_report}
 use Rattle.babel_dump.specs.declared.unread_tlv.UnreadTlv.{UnreadTlv}
@@ -29,18 +32,25 @@ pub record ReadTo (start : Start) (all : List TlvAt) (context : Context) (left :
   pub earlier : List TlvAt
   pub front : List TlvAt
   pub context_is : context ≡ context_after start earlier
+  pub behind : context ≡ context_behind start front
   pub whole : all ≡ front ++ left
   pub said : (more : List TlvAt) → sayings_after start [] (front ++ more) ≡ sayings_after start [] front ++ sayings_after start earlier more
   pub counts : report ≡ tlvs_report start front
 
 pub read_none : (start : Start) (all left : List TlvAt) (context : Context) (report : Counts) → context ≡ context_after start [] → left ≡ all → report ≡ counts_of []
     → ReadTo start all context left report
-read_none start all left context report is same none = record { earlier = []; front = []; context_is = is; whole = sym same; said = λ more. refl; counts = none }
+read_none start all left context report is same none = record { earlier = []; front = []; context_is = is; behind = is; whole = sym same; said = λ more. refl; counts = none }
 
 placed_at : (at : ℕ) (front : List TlvAt) (tlv : TlvAt) (back : List TlvAt) → ArePlaced at (front ++ tlv ∷ back) → tlv.at ≡ at + length (flat_map tlv_octets front)
 placed_at at [] tlv back placed = omega (arith, placed.0)
 placed_at at (first ∷ front) tlv back placed =
     omega (arith, placed_at (at + length (tlv_octets first)) front tlv back placed.2, length-append (tlv_octets first) (flat_map tlv_octets front))
+
+-- what the next says is a fault
+pub read_refused : (start : Start) (all : List TlvAt) (context : Context) (tlv : TlvAt) (left rest : List TlvAt) (report : Counts) (fault : Fault) → ReadTo start all context left report
+    → left ≡ tlv ∷ rest → Err fault ≡ says.said context tlv → RefusesTlvIn start all fault
+read_refused start all context tlv left rest report fault to is told =
+    (to.front, tlv, rest, to.whole ∙ ap (λ (t : List TlvAt). to.front ++ t) is, ap (λ (c : Context). says.said c tlv) (sym to.behind) ∙ sym told)
 
 -- one more is read
 module _ (start : Start) (all : List TlvAt) (context : Context) (tlv : TlvAt) (event : Event) (left rest : List TlvAt) (report next : Counts) (to : ReadTo start all context left report)
@@ -64,6 +74,7 @@ module _ (start : Start) (all : List TlvAt) (context : Context) (tlv : TlvAt) (e
     earlier = tlv ∷ to.earlier;
     front = to.front ++ tlv ∷ [];
     context_is = goes start to.earlier to.context_is;
+    behind = goes start to.earlier to.context_is ∙ ap (λ (c : Context). updated c tlv) (sym to.context_is ∙ to.behind) ∙ sym (fold-append updated (first_context start) to.front (tlv ∷ []));
     whole = whole_more ∙ sym (append_assoc to.front (tlv ∷ []) rest);
     said = λ more.
         let later : List Saying = sayings_after start (tlv ∷ to.earlier) more in

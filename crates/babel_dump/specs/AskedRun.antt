@@ -1,13 +1,17 @@
 -- What comes of what was asked for, over streams: this project's own.
-use Rattle.std.specs.Prelude.{ℕ, ◌≡◌, ◌≢◌, List, Option, None, Some, IfSome}
+use Rattle.std.specs.Prelude.{ℕ, ◌≡◌, ◌≢◌, List, [], Option, None, Some, IfSome}
 use Rattle.std.specs.Io.KnownBytes.{Appends, Keeps}
 use Rattle.std.specs.Map.{keys_of}
 use Rattle.babel_dump.specs.Begun.{BeginsSo}
 use Rattle.babel_dump.specs.CaptureGiven.{made_in}
+use Rattle.babel_dump.specs.EventsCause.{EventsCause}
 use Rattle.babel_dump.specs.EventsRun.{TellsEvents}
 use Rattle.babel_dump.specs.Files.{reading_of}
 use Rattle.babel_dump.specs.Given.{Reads}
 use Rattle.babel_dump.specs.JobRun.{SaysBy}
+use Rattle.babel_dump.specs.Originated.{AreOriginated}
+use Rattle.babel_dump.specs.OriginText.{origins_in, origins_status}
+use Rattle.babel_dump.specs.ToldOrigins.{AreAllRead, OwnRoutes, rows_of_all}
 use Rattle.babel_dump.specs.ToldPairs.{ArePairsTold, Heard}
 use Rattle.babel_dump.specs.ToldSenders.{AreTexts}
 use Rattle.babel_dump.specs.Misplaced.{begun_work, misplaced_by}
@@ -22,6 +26,9 @@ use Rattle.babel_dump.specs.declared.done.Done.{Done}
 use Rattle.babel_dump.specs.declared.events_job.Events.{Events}
 use Rattle.babel_dump.specs.declared.events_outcome.EventsOutcome.{EventsOutcome}
 use Rattle.babel_dump.specs.declared.job.Job.{Job}
+use Rattle.babel_dump.specs.declared.originated.OnSides.{OnSides}
+use Rattle.babel_dump.specs.declared.originated.Origination.{Origination}
+use Rattle.babel_dump.specs.declared.origins_job.Origins.{Origins}
 use Rattle.babel_dump.specs.declared.told_pairs.ToldPairs.{ToldPairs}
 use Rattle.babel_dump.specs.declared.told_senders.ToldSenders.{ToldSenders}
 use Rattle.babel_dump.specs.declared.outcome.Outcome.{Outcome}
@@ -115,9 +122,33 @@ pub record WrotePairs (pairs : EachPair) (stream other : Option (List ℕ)) (wri
   pub are_told : ArePairsTold pairs (heard_of senders first)
       (heard_of other_senders second) (keys_of senders.tables.entries)
       (keys_of other_senders.tables.entries) made
-  pub told : done.senders ≡ made.senders
+  pub told : done.senders ≡ made.senders.told
   pub wrote : Appends writer.old.taken writer.new.taken made.lines.items
   pub status : done.status ≡ made.status
+
+-- the stream is such a capture, and these are the tables of its senders, of which none is refused
+pub record AreReadOn (each : EachSender) (stream : Option (List ℕ)) (found : List OwnRoutes) :
+    Type 0 where
+  pub senders : SendersRead
+  pub on : GaveOn each stream senders
+  pub are_read : AreAllRead each (heard_of senders on) (keys_of senders.tables.entries) found
+
+-- none where there is no capture
+abbrev pub IsReadOn : Option EachSender → (stream : Option (List ℕ)) → List OwnRoutes → Type 0
+IsReadOn None stream found = found ≡ []
+IsReadOn (Some each) stream found = AreReadOn each stream found
+
+-- What the senders in the captures originate was written: by all rows that the filter keeps.
+pub record WroteOrigins (origins : Origins) (stream other : Option (List ℕ)) (writer : Output)
+    (done : Done) : Type 0 where
+  pub left : List OwnRoutes
+  pub right : List OwnRoutes
+  pub first : AreReadOn origins.left stream left
+  pub second : IsReadOn origins.right other right
+  pub all : List (Origination × OnSides)
+  pub are : AreOriginated all (rows_of_all origins.filter left) (rows_of_all origins.filter right)
+  pub wrote : Appends writer.old.taken writer.new.taken (origins_in origins all)
+  pub status : done.status ≡ origins_status origins all
 
 -- what changed in a capture was told
 pub record ToldEvents (events : Events) (stream : Option (List ℕ)) (writer : Output)
@@ -135,6 +166,7 @@ Did (askeds.Job job) seed stream other = DidJob job seed stream other
 Did (askeds.Lone lone) seed stream other = DidJob lone.job seed stream other
 Did (askeds.EachSender each) seed stream other = WroteSenders each stream other
 Did (askeds.EachPair pairs) seed stream other = WrotePairs pairs stream other
+Did (askeds.Origins origins) seed stream other = WroteOrigins origins stream other
 Did (askeds.Events events) seed stream other = ToldEvents events stream
 
 -- the option that is told as misplaced
@@ -152,3 +184,15 @@ abbrev pub IsRefused : Asked → (stream other : Option (List ℕ)) → Trouble 
 IsRefused (askeds.Job job) stream other trouble = IsJobRefused job stream other trouble
 IsRefused (askeds.Lone lone) stream other trouble = IsJobRefused lone.job stream other trouble
 IsRefused asked stream other trouble = Unit {0}
+
+-- what changed in a capture was not told to its end, for this cause
+pub record FailedEvents (events : Events) (stream : Option (List ℕ)) (writer : Output)
+    (trouble : Trouble) : Type 0 where
+  pub reader : Reads
+  pub keeps : Keeps stream reader.old.left
+  pub cause : EventsCause events reader.old reader.new writer trouble
+
+-- why what was asked for was not done: of `events`
+abbrev pub Failed : Asked → (stream : Option (List ℕ)) → Output → Trouble → Type 0
+Failed (askeds.Events events) stream writer trouble = FailedEvents events stream writer trouble
+Failed asked stream writer trouble = Unit {0}

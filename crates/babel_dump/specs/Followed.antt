@@ -1,6 +1,6 @@
 -- How far a capture was followed, and what was heard of its senders.
-use Rattle.std.specs.Prelude.{ℕ, ◌≡◌, Bool, false, true, not, ◌&&◌, ◌||◌, List, [], ◌∷◌, ◌++◌}
-use Rattle.std.specs.Prelude.{IfSome, Option, None, Some}
+use Rattle.std.specs.Prelude.{ℕ, ◌≡◌, ◌≢◌, ◌⊎◌, Bool, false, true, not, ◌&&◌, ◌||◌, List, [], ◌∷◌}
+use Rattle.std.specs.Prelude.{◌++◌, IfSome, Option, None, Some}
 use Rattle.std.specs.Prelude.{if◌then◌else◌, length}
 use Rattle.std.specs.BTreeMap.{is_at}
 use Rattle.std.specs.BTreeSet.{BTreeSet, contains}
@@ -15,10 +15,11 @@ use Rattle.babel_capture.specs.declared.sink.BabelPacket.{BabelPacket}
 use Rattle.babel_capture.specs.declared.sink.Record.{Record}
 use Rattle.babel_capture.specs.declared.tallies.Origin.{Origin}
 use Rattle.babel_capture.specs.declared.window.Moment.{Moment}
-use Rattle.babel_tlv.specs.declared.start.Start.{Start}
 use Rattle.babel_tlv.specs.Framing.{TlvAt, packet_octets}
+use Rattle.babel_tlv.specs.declared.fault.Fault.{Fault}
+use Rattle.babel_tlv.specs.declared.fault.Fault.TheVariants as faults
 use Rattle.babel_timeline.specs.Hearing.{CountsPacket, octets_heard, report_of}
-use Rattle.babel_timeline.specs.Rows.{AllLast}
+use Rattle.babel_timeline.specs.Rows.{AllLast, Rows}
 use Rattle.babel_timeline.specs.SilencesTold.{IsWatchedWhole, TellsSilences, hellos_heard, watches}
 use Rattle.babel_timeline.specs.Telling.{Tells, TellsEnds, answered, of_rows}
 use Rattle.babel_timeline.specs.Accounts.{Said}
@@ -27,6 +28,7 @@ use Rattle.babel_timeline.specs.declared.teller.Teller.{Teller}
 use Rattle.babel_timeline.specs.declared.telling.Telling.{Telling}
 use Rattle.babel_dump.specs.Device.{GaveOctets, InputState}
 use Rattle.babel_dump.specs.EventText.{event_in, speaker_of}
+use Rattle.babel_dump.specs.EventsCause.{IsRefused, RefusesAlone, RefusesPart, start_of}
 use Rattle.babel_dump.specs.EventsRun.{AreInOrder, TellsSilent, hellos_made, last_time}
 use Rattle.babel_dump.specs.EventsRun.{HaveTold, HaveToldSo, IsReportOf, IsSaid, Step}
 use Rattle.babel_dump.specs.EventsRun.{TellsCapture, WroteLines, asked_by, followed_by}
@@ -42,16 +44,24 @@ use Rattle.babel_dump.specs.declared.events.Followed.{Followed}
 use Rattle.babel_dump.specs.declared.events_job.Events.{Events}
 use Rattle.babel_dump.specs.declared.follower.Follower.{Follower}
 use Rattle.babel_dump.specs.declared.hearing.Hearing.{Hearing}
+use Rattle.babel_dump.specs.declared.hearing.Unheard.{Unheard}
+use Rattle.babel_dump.specs.declared.hearing.Unheard.TheVariants as unheard
+use Rattle.babel_dump.specs.declared.input_fault.InputFault.{InputFault}
 use Rattle.babel_dump.specs.declared.input_fault.InputFault.TheVariants as input_faults
 use Rattle.babel_dump.specs.declared.since.Since.{Since}
 use Rattle.babel_dump.specs.declared.events_outcome.EventsOutcome.{EventsOutcome}
 use Rattle.babel_dump.specs.declared.stop.Stop.{Stop}
 use Rattle.babel_dump.specs.declared.stop.Stop.TheVariants as stops
+use Rattle.babel_dump.specs.declared.run_fault.RunFault.TheVariants as run_faults
+use Rattle.babel_dump.specs.declared.run_fault.Side.TheVariants as sides
 use Rattle.babel_dump.specs.declared.speaker.Speaker.{Speaker}
+use Rattle.babel_dump.specs.declared.trouble.Trouble.{Trouble}
+use Rattle.babel_dump.specs.declared.trouble.Trouble.TheVariants as troubles
 
 -- it tells what these words ask for
 pub record Suits (events : Events) (teller : Teller Speaker) : Type 0 where
   pub factor : teller.timeline.factor ≡ events.expiry
+  pub limit : teller.timeline.limit ≡ events.limits.entries
   pub view : teller.interest.view ≡ events.view
   pub asked : teller.interest.asked ≡ asked_by events
 
@@ -142,10 +152,7 @@ HearsTold events told old new =
     → HasHeard events made (before ++ old.told.items) old.hearing
     → HasHeard events (made ++ one ∷ []) (before ++ new.told.items) new.hearing
 
--- how the packets of a sender begin, and how many octets of them were heard
-abbrev pub start_of : Events → Origin → Start
-start_of events origin = record { sender = origin.sender; via_v6 = events.limits.via_v6 }
-
+-- how many octets of the packets of a sender were heard
 abbrev pub octets_before : Follower → Origin → ℕ
 octets_before follower origin =
     octets_heard speaker_cmp follower.hearing.teller.heard.entries (speaker_at origin)
@@ -165,8 +172,63 @@ HearsFront events told packet octets old new = (front : Record) × HearsTold eve
     × ((said : BabelPacket) × (packet_said front.said ≡ Some said)
     × (said.origin ≡ packet.origin) × (said.octets.now ≡ octets))
 
+-- The record has a packet of this sender, which a teller refuses for this, once all has ended that
+-- ends by its time.
+pub record RefusesSaid (events : Events) (told : Record) (teller : Teller Speaker) (origin : Origin)
+    (fault : Fault) : Type 0 where
+  pub packet : BabelPacket
+  pub said_is : packet_said told.said ≡ Some packet
+  pub origin_is : packet.origin ≡ origin
+  pub came : ℕ
+  pub timed : told.time ≡ Some came
+  pub rows : Rows Speaker
+  pub ended : List (Telling Speaker)
+  pub ends : TellsEnds speaker_cmp events.expiry (asked_by events) came teller.timeline.rows rows []
+      (of_rows (asked_by events) ended)
+  pub refuses : RefusesPart events origin came packet.octets.now rows
+      (octets_heard speaker_cmp teller.heard.entries (speaker_at origin))
+      (report_of speaker_cmp teller.heard.entries (speaker_at origin)).tlvs fault
+
+-- a teller can't hear this packet of a sender that comes then
+abbrev pub RefusesTeller : Events → Origin → (came : ℕ) → (packet : List ℕ) → Teller Speaker
+    → Unheard → Type 0
+RefusesTeller events origin came packet teller unheard.Memory = Unit {0}
+RefusesTeller events origin came packet teller (unheard.Sender of fault) =
+    (of ≡ origin) × RefusesPart events origin came packet teller.timeline.rows
+    (octets_heard speaker_cmp teller.heard.entries (speaker_at origin))
+    (report_of speaker_cmp teller.heard.entries (speaker_at origin)).tlvs fault
+
+-- a teller can't hear the record for this
+abbrev pub RefusesUnheard : Events → Record → Teller Speaker → Unheard → Type 0
+RefusesUnheard events told teller unheard.Memory = Unit {0}
+RefusesUnheard events told teller (unheard.Sender origin fault) =
+    RefusesSaid events told teller origin fault
+
+-- in place of the packet of the record these octets can't be heard
+abbrev pub RefusesFront : Events → Record → BabelPacket → (octets : List ℕ) → Teller Speaker
+    → Unheard → Type 0
+RefusesFront events told packet octets teller unheard.Memory = Unit {0}
+RefusesFront events told packet octets teller (unheard.Sender origin fault) =
+    (front : Record) × RefusesSaid events front teller origin fault × (front.time ≡ told.time)
+    × ((said : BabelPacket) × (packet_said front.said ≡ Some said)
+    × (said.origin ≡ packet.origin) × (said.octets.now ≡ octets))
+
+-- the record has a packet of this sender, which is refused so where it is read strictly: the TLVs
+-- before the first that is ignored; or by itself
+abbrev pub RefusesPacketRead : Events → Record → Follower → BabelPacket → Unheard → Type 0
+RefusesPacketRead events told old packet unheard.Memory = Unit {0}
+RefusesPacketRead events told old packet (unheard.Sender origin fault) =
+    (packet.origin ≡ origin)
+    × (((front : List TlvAt) × (ignored : InputFault) × IsReadTo (start_of events packet.origin)
+    (octets_before old packet.origin) packet.octets.now front ignored
+    × RefusesFront events told packet (packet_octets front) old.hearing.teller
+    (unheard.Sender origin fault))
+    ⊎ RefusesAlone (start_of events packet.origin) (octets_before old packet.origin)
+    packet.octets.now fault)
+
 -- The record, which is read strictly, is refused for this: it is a datagram that was left out; or a
--- packet, for its first TLV that is ignored, and the TLVs before that were heard.
+-- packet, for its first TLV that is ignored, and the TLVs before that were heard; or it can't be
+-- heard.
 abbrev pub RefusesTold : Events → Record → Follower → Follower → Stop → Type 0
 RefusesTold events told old new (stops.Ignored origin tlv ignores_4) =
     (packet : BabelPacket) × (front : List TlvAt) × (packet_said told.said ≡ Some packet)
@@ -176,15 +238,67 @@ RefusesTold events told old new (stops.Ignored origin tlv ignores_4) =
     × HearsFront events told packet (packet_octets front) old new
 RefusesTold events told old new (stops.LeftOut datagram) =
     (left_said told.said ≡ Some datagram.reason) × (datagram.packet ≡ told.number)
-RefusesTold events told old new fault = Unit {0}
+RefusesTold events told old new (stops.Unheard fault) =
+    Suits events old.hearing.teller → RefusesUnheard events told old.hearing.teller fault
+    ⊎ ((packet : BabelPacket) × (packet_said told.said ≡ Some packet)
+    × RefusesPacketRead events told old packet fault)
+
+-- of one that is not read strictly
+abbrev pub RefusesUsually : Events → Record → Follower → Stop → Type 0
+RefusesUsually events told old (stops.Unheard fault) =
+    Suits events old.hearing.teller → RefusesUnheard events told old.hearing.teller fault
+RefusesUsually events told old stop = ⊥
+
+-- memory ran out, or it is of this sender
+abbrev pub IsOf : Origin → Unheard → Type 0
+IsOf origin unheard.Memory = Unit {0}
+IsOf origin (unheard.Sender of fault) = of ≡ origin
+
+-- the record has a packet of this sender
+abbrev pub IsFrom : Record → Unheard → Type 0
+IsFrom told unheard.Memory = Unit {0}
+IsFrom told (unheard.Sender origin fault) =
+    (packet : BabelPacket) × (packet_said told.said ≡ Some packet) × (packet.origin ≡ origin)
+
+-- why no more is heard than the record, in one of these ways
+abbrev pub Stops : Events → Record → (old mid : Follower) → Stop → Type 0
+Stops events told old mid stop =
+    ((events.strict ≡ true) × RefusesTold events told old mid stop)
+    ⊎ RefusesUsually events told old stop
+    ⊎ ((events.is_any_source ≡ true) × ((fault : Unheard) × (stop ≡ stops.Unheard fault)
+    × IsFrom told fault))
+
+-- what is told of why no more is heard
+abbrev pub trouble_of : Stop → Trouble
+trouble_of (stops.Unheard unheard.Memory) =
+    troubles.Fault (run_faults.Input sides.First (input_faults.Dump faults.Memory))
+trouble_of (stops.Unheard (unheard.Sender origin fault)) =
+    troubles.Sender sides.First origin None (input_faults.Dump fault)
+trouble_of (stops.LeftOut datagram) =
+    troubles.Fault (run_faults.Input sides.First (input_faults.LeftOut datagram))
+trouble_of (stops.Ignored origin tlv ignores_4) =
+    troubles.Sender sides.First origin None (input_faults.Ignored tlv ignores_4)
+
+-- of these records those before one were heard, for which no more is, unless memory ran out
+pub record HasStopped (events : Events) (made : List Made) (stop : Stop) : Type 0 where
+  pub front : List Made
+  pub one : Made
+  pub back : List Made
+  pub are : made ≡ front ++ one ∷ back
+  pub refused : stop ≢ stops.Unheard unheard.Memory → IsRefused events front one (trouble_of stop)
 
 -- these records made the second of the first: of what they told this is to be written besides
+-- or it has stopped at one of them
 abbrev pub Follows : Follower → Follower → List Made → Type 0
 Follows start now made =
     (now.events.now ≡ start.events.now) × (now.fault ≡ None → (start.fault ≡ None)
     × ((before : List Made) (written : List (Telling Speaker))
     → HasHeard start.events.now before (written ++ start.told.items) start.hearing
     → HasHeard start.events.now (before ++ made) (written ++ now.told.items) now.hearing))
+    × ((stop : Stop) → now.fault ≡ Some stop → start.fault ≡ None
+    → (before : List Made) (written : List (Telling Speaker))
+    → HasHeard start.events.now before (written ++ start.told.items) start.hearing
+    → HasStopped start.events.now (before ++ made) stop)
 
 -- of what is told now, that of senders that are not lost
 abbrev pub unlost_by : BTreeSet Speaker → List (Telling Speaker) → List (Telling Speaker)

@@ -1,6 +1,6 @@
 -- Which TLVs of a dump were ignored, by its report: this project's own.
-use Rattle.std.specs.Prelude.{ℕ, Option, None, if◌then◌else◌}
-use Rattle.std.specs.Option.{is_some, option_map}
+use Rattle.std.specs.Prelude.{ℕ, nat_le, Option, None, Some, if◌then◌else◌}
+use Rattle.std.specs.Option.{option_map}
 use Rattle.babel_tlv.specs.declared.reason.Reason.{Reason}
 use Rattle.babel_table.specs.Counts.{Counts, all_reasons, count_at, reason_place}
 use Rattle.babel_dump.specs.ByReason.{CountsNone, first_of}
@@ -16,10 +16,14 @@ first_ignored counts =
     option_map (λ first. record { at = first.0; reason = first.1 })
     (first_of (ignored_for counts) all_reasons)
 
--- the first TLV that was ignored for a reason, where by the first counts none was
-abbrev pub newly_ignored : (before now : Counts) → Reason → Option IgnoredTlv
-newly_ignored before now reason = if is_some (ignored_for before reason) then None
-    else option_map (λ counted. record { at = counted.1; reason = reason }) (ignored_for now reason)
+-- the first TLV that was ignored for a reason, where it lies at this offset or behind it
+abbrev first_from : ℕ → Reason → Option (ℕ × ℕ) → Option IgnoredTlv
+first_from from reason None = None
+first_from from reason (Some counted) =
+    if nat_le from counted.1 then Some (record { at = counted.1; reason = reason }) else None
+
+abbrev pub newly_ignored : ℕ → Counts → Reason → Option IgnoredTlv
+newly_ignored from counts reason = first_from from reason (ignored_for counts reason)
 
 -- no TLV was ignored
 abbrev pub IgnoresNone : Counts → Type 0

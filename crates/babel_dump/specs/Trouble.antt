@@ -28,14 +28,14 @@ unwritten_status None = 4
 -- where nothing came of it: 2 where the words don't suit the input, or else that of the fault
 abbrev pub trouble_status : (unwritten : Option Error) → Trouble → ℕ
 trouble_status unwritten (troubles.Misplaced option) = 2
-trouble_status unwritten troubles.NoSender = 2
+trouble_status unwritten (troubles.NoSender side) = 2
 trouble_status unwritten (troubles.NotOneSender senders) = 2
 trouble_status unwritten troubles.ReadOnce = 2
 trouble_status unwritten (troubles.Backwards since until) = 2
 trouble_status unwritten troubles.TooManyRoutes = 3
 trouble_status unwritten (troubles.Fault run_faults.Write) = unwritten_status unwritten
 trouble_status unwritten (troubles.Fault fault) = fault_status fault
-trouble_status unwritten (troubles.Sender origin name fault) = input_status fault
+trouble_status unwritten (troubles.Sender side origin name fault) = input_status fault
 
 -- by the capture's first packet `--since` is later than `--until`
 abbrev pub is_empty_window : InputFault → Bool

@@ -6,6 +6,7 @@ use crate::format::Format;
 use crate::job::{DumpFile, Job, Work};
 use crate::key_text::Named;
 use crate::lone_sender::{Lone, LoneSender};
+use crate::origins_job::Origins;
 use crate::reading::capture_limit;
 use crate::spelling::Spelling;
 use babel_table::Limits;
@@ -22,6 +23,8 @@ pub enum Asked {
     /// What is found of the senders in two captures, of each with its fellow, where there is no
     /// `--from`.
     EachPair(EachPair),
+    /// What the senders in a capture originate, or those in two: `--origins`.
+    Origins(Origins),
     /// `events`: what changed in a capture, and when.
     Events(Events),
 }
@@ -33,6 +36,7 @@ impl Asked {
             Asked::Job(job) | Asked::Lone(Lone { job, .. }) => job.file(),
             Asked::EachSender(each) => &each.file,
             Asked::EachPair(pairs) => &pairs.left.file,
+            Asked::Origins(origins) => &origins.left.file,
             Asked::Events(events) => &events.file,
         }
     }
@@ -43,6 +47,10 @@ impl Asked {
             Asked::Job(job) => job.other(),
             Asked::EachSender(each) => each.pairs(),
             Asked::EachPair(pairs) => Some(&pairs.right.file),
+            Asked::Origins(origins) => match &origins.right {
+                Some(right) => Some(&right.file),
+                None => None,
+            },
             Asked::Lone(_) | Asked::Events(_) => None,
         }
     }
@@ -53,9 +61,7 @@ impl Asked {
         match self {
             Asked::Job(job) => job.named(),
             Asked::EachSender(each) if each.has_keys() => Named(Some(each.file.name())),
-            Asked::EachSender(_) | Asked::Lone(_) | Asked::EachPair(_) | Asked::Events(_) => {
-                Named(None)
-            }
+            _ => Named(None),
         }
     }
 
@@ -64,6 +70,7 @@ impl Asked {
         match self {
             Asked::Job(job) => matches!(job.work, Work::Two { .. }),
             Asked::EachPair(_) => true,
+            Asked::Origins(origins) => origins.right.is_some(),
             Asked::EachSender(_) | Asked::Lone(_) | Asked::Events(_) => false,
         }
     }
@@ -72,7 +79,7 @@ impl Asked {
     pub(crate) fn names_sender(&self) -> bool {
         match self {
             Asked::Job(_) | Asked::Lone(_) => true,
-            Asked::EachSender(_) | Asked::EachPair(_) => false,
+            Asked::EachSender(_) | Asked::EachPair(_) | Asked::Origins(_) => false,
             Asked::Events(events) => events.sender.is_some(),
         }
     }
@@ -91,6 +98,7 @@ impl Asked {
             Asked::Job(job) | Asked::Lone(Lone { job, .. }) => job.quiet,
             Asked::EachSender(each) => each.quiet,
             Asked::EachPair(pairs) => pairs.left.quiet,
+            Asked::Origins(origins) => origins.left.quiet,
             Asked::Events(events) => events.quiet,
         }
     }
@@ -102,6 +110,7 @@ impl Asked {
             Asked::Job(job) | Asked::Lone(Lone { job, .. }) => job.format,
             Asked::EachSender(each) => each.format,
             Asked::EachPair(pairs) => pairs.left.format,
+            Asked::Origins(origins) => origins.left.format,
             Asked::Events(events) => events.format,
         };
         let is_key = self.named().0.is_some();
@@ -120,6 +129,7 @@ impl Asked {
             },
             Asked::EachSender(each) => Some(each.limits),
             Asked::EachPair(pairs) => Some(pairs.left.limits),
+            Asked::Origins(origins) => Some(origins.left.limits),
             Asked::Events(events) => Some(events.limits),
         }
     }

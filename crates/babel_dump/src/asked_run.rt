@@ -1,11 +1,14 @@
 //! Does what is asked for, over streams: whether one is a capture is seen by its first octets.
-ghost use Rattle.std.specs.Prelude.{IfErr, IfOk, IfSome};
+ghost use Rattle.std.specs.Prelude.{IfErr, IfOk, IfSome, OnOk, Some};
 ghost use Rattle.std.specs.Io.KnownBytes.{Keeps};
 ghost use Rattle.babel_dump.specs.Begun.{BeginsSo};
 ghost use Rattle.babel_dump.specs.Device.{HasRoomToWrite};
 ghost use Rattle.babel_dump.specs.Run.{output};
-ghost use Rattle.babel_dump.specs.AskedRun.{Did, DidJob, GaveOn, IsJobRefused, IsRefused};
-ghost use Rattle.babel_dump.specs.AskedRun.{ToldEvents, WrotePairs, WroteSenders};
+ghost use Rattle.babel_dump.specs.AskedRun.{Did, DidJob, Failed, FailedEvents, GaveOn};
+ghost use Rattle.babel_dump.specs.AskedRun.{IsJobRefused, IsRefused, ToldEvents, WroteOrigins};
+ghost use Rattle.babel_dump.specs.AskedRun.{WrotePairs, WroteSenders};
+ghost use Rattle.babel_dump.specs.OriginText.{capture_on};
+ghost use Rattle.babel_dump.specs.OriginsMade.{TakesOn};
 ghost use Rattle.babel_dump.specs.Files.{reading_of};
 ghost use Rattle.babel_dump.specs.declared.run_fault.Side.TheVariants as sides;
 
@@ -19,12 +22,17 @@ use crate::each_pair::EachPair;
 use crate::each_sender::{EachSender, SendersRead};
 use crate::events::run_events;
 use crate::events_job::Events;
+use crate::filter::Filter;
 use crate::input_fault::InputFault;
 use crate::job::Job;
 use crate::job_run::run_job;
+use crate::origins_job::Origins;
+use crate::origins_text::{OriginsText, origins_text};
+use crate::read_senders::Captured;
 use crate::run_fault::{RunFault, Side};
 use crate::says::Says;
 use crate::statuses::status_of_all;
+use crate::told_origins::ToldOrigins;
 use crate::told_pairs::ToldPairs;
 use crate::told_senders::ToldSenders;
 use crate::trouble::Trouble;
@@ -52,12 +60,15 @@ pub fn run_asked<R: Read + Drop, S: Read + Drop, W: ByteOut, T: Says>(
         (output (W.state writer.old) (W.state writer.new))) }
     ensures refused { IfErr result
         (IsRefused asked.old (R.remaining reader) (S.remaining other)) }
+    ensures failed { IfErr result (Failed asked.old (R.remaining reader)
+        (output (W.state writer.old) (W.state writer.new))) }
 {
     match asked {
         Asked::Job(job) => do_job(alloc, seed, job, reader, other, writer),
         Asked::Lone(lone) => do_job(alloc, seed, &mut lone.job, reader, other, writer),
         Asked::EachSender(each) => tell_senders(alloc, seed, each, reader, other, writer),
         Asked::EachPair(pairs) => tell_pairs(alloc, seed, pairs, reader, other, writer),
+        Asked::Origins(origins) => tell_origins(alloc, seed, origins, reader, other, writer),
         Asked::Events(events) => tell_events(alloc, events, reader, writer, says),
     }
 }
@@ -118,7 +129,7 @@ fn tell_senders<R: Read + Drop, S: Read + Drop, W: ByteOut>(
 {
     let begun = Begun::new(reader);
     if let Begins::Dump = begun.begins() {
-        return Err(Trouble::NoSender);
+        return Err(Trouble::NoSender(Side::First));
     }
     let mut pairs = FromReader::new(other);
     each.ask(alloc, &mut pairs)?;
@@ -165,11 +176,101 @@ fn tell_pairs<R: Read + Drop, S: Read + Drop, W: ByteOut>(
         senders,
         lines,
         status,
-        ..
     } = ToldPairs::of(alloc, pairs, &read, &other_read, tables, other_tables)?;
-    let done = done.of_pairs(pairs, &read, &other_read, senders, status)?;
+    let done = done.of_pairs(pairs, &read, &other_read, senders.told, status)?;
     write_text(writer, &lines)?;
     Ok(done)
+}
+
+/// Reads captures, the first to its end before the other, and writes what their senders originate.
+fn tell_origins<R: Read + Drop, S: Read + Drop, W: ByteOut>(
+    alloc: Global,
+    seed: u128,
+    origins: &Origins,
+    reader: R,
+    other: S,
+    writer: &mut W,
+) -> Result<Done, Trouble>
+    requires { HasRoomToWrite (W.state writer.old) }
+    ensures { IfOk result (WroteOrigins origins.now (R.remaining reader) (S.remaining other)
+        (output (W.state writer.old) (W.state writer.new))) }
+{
+    let mut done = Done::new(alloc)?;
+    let mut told = ToldOrigins::new(alloc);
+    take_on(
+        alloc,
+        seed,
+        origins,
+        Side::First,
+        reader,
+        &mut told,
+        &mut done,
+    )?;
+    take_on(
+        alloc,
+        seed,
+        origins,
+        Side::Other,
+        other,
+        &mut told,
+        &mut done,
+    )?;
+    let ToldOrigins {
+        senders,
+        originated,
+    } = told;
+    let OriginsText { lines, status } = origins_text(alloc, origins, &originated.all)?;
+    let done = done.of_origins(senders.told, status);
+    write_text(writer, &lines)?;
+    Ok(done)
+}
+
+/// Takes what the senders in the capture on a side originate, if there is one.
+fn take_on<R: Read + Drop>(
+    alloc: Global,
+    seed: u128,
+    origins: &Origins,
+    side: Side,
+    reader: R,
+    told: &mut ToldOrigins,
+    done: &mut Done,
+) -> Result<(), Trouble>
+    ensures { OnOk result (TakesOn origins.now.filter side (capture_on side origins.now)
+        (R.remaining reader) told.old.originated.all.entries told.new.originated.all.entries) }
+{
+    match origins.on(side) {
+        Some(each) => {
+            let options = origins.moment_options(side);
+            let filter = &origins.filter;
+            take_capture(alloc, seed, each, filter, side, options, reader, told, done)
+        }
+        None => Ok(()),
+    }
+}
+
+/// Takes what the senders in a capture originate.
+fn take_capture<R: Read + Drop>(
+    alloc: Global,
+    seed: u128,
+    each: &EachSender,
+    filter: &Filter,
+    side: Side,
+    options: (&'static str, &'static str),
+    reader: R,
+    told: &mut ToldOrigins,
+    done: &mut Done,
+) -> Result<(), Trouble>
+    ensures { OnOk result (TakesOn filter.now side (Some each.now) (R.remaining reader)
+        told.old.originated.all.entries told.new.originated.all.entries) }
+{
+    let SendersRead { read, tables } = gather_on(alloc, seed, each, side, options, reader)?;
+    done.add_capture(side, each, &read)?;
+    let captured = Captured {
+        side,
+        each,
+        read: &read,
+    };
+    told.take(alloc, filter, &captured, tables)
 }
 
 /// Reads the capture on a side, which is to have a sender that is asked for; these options have it
@@ -186,7 +287,7 @@ fn gather_on<R: Read + Drop>(
 {
     let begun = Begun::new(reader);
     if let Begins::Dump = begun.begins() {
-        return Err(Trouble::NoSender);
+        return Err(Trouble::NoSender(side));
     }
     match each.gather(alloc, seed, &mut begun.into_device()) {
         Ok(read) => {
@@ -209,7 +310,9 @@ fn tell_events<R: Read + Drop, W: ByteOut, T: Says>(
     says: &mut T,
 ) -> Result<Done, Trouble>
     requires { HasRoomToWrite (W.state writer.old) }
-    ensures { IfOk result (ToldEvents events.now (R.remaining reader)
+    ensures told { IfOk result (ToldEvents events.now (R.remaining reader)
+        (output (W.state writer.old) (W.state writer.new))) }
+    ensures failed { IfErr result (FailedEvents events.now (R.remaining reader)
         (output (W.state writer.old) (W.state writer.new))) }
 {
     let done = Done::new(alloc)?;

@@ -194,7 +194,7 @@ fn new_count(list: &[Difference]) -> usize
 }
 
 /// Appends how many rows are gone, new, changed, and alike: a line.
-fn push_stat(buffer: &mut Vec<u8>, gone: usize, new: usize, changed: usize, alike: usize)
+pub(crate) fn push_stat(buffer: &mut Vec<u8>, gone: usize, new: usize, changed: usize, alike: usize)
     requires { HasRoom buffer.old 110 }
     ensures text { buffer.new.items ≡ buffer.old.items ++ stat_text gone new changed alike }
     ensures room { TookRoom buffer.old buffer.new 110 }
@@ -210,7 +210,13 @@ fn push_stat(buffer: &mut Vec<u8>, gone: usize, new: usize, changed: usize, alik
 }
 
 /// Appends these: an object.
-fn push_stat_json(buffer: &mut Vec<u8>, gone: usize, new: usize, changed: usize, alike: usize)
+pub(crate) fn push_stat_json(
+    buffer: &mut Vec<u8>,
+    gone: usize,
+    new: usize,
+    changed: usize,
+    alike: usize,
+)
     requires { HasRoom buffer.old 119 }
     ensures text { buffer.new.items ≡ buffer.old.items ++ stat_json gone new changed alike }
     ensures room { TookRoom buffer.old buffer.new 119 }

@@ -107,7 +107,7 @@ fn push_row(
 }
 
 /// The text before a row.
-fn row_mark(coloured: bool, side: Side) -> &'static str
+pub(crate) fn row_mark(coloured: bool, side: Side) -> &'static str
     ensures text { result.now ≡ row_mark coloured side }
     ensures short { length result.now ≤ 6 }
 {
@@ -120,7 +120,7 @@ fn row_mark(coloured: bool, side: Side) -> &'static str
 }
 
 /// The text after a row.
-fn row_end(coloured: bool) -> &'static str
+pub(crate) fn row_end(coloured: bool) -> &'static str
     ensures text { result.now ≡ row_end coloured }
     ensures short { length result.now ≤ 5 }
 {

@@ -1,18 +1,23 @@
 //! `events`: what the senders in a capture announce, change and retract, and what expires, told as
 //! the capture is read.
 ghost use Rattle.std.specs.Prelude.{◌≡◌, ◌+◌, ◌-◌, ◌++◌, ◌^◌, ◌<◌, ◌≤◌, ℕ, List, []};
-ghost use Rattle.std.specs.Prelude.{None, IfOk, OnOk, false, map, true, vec_capacity};
+ghost use Rattle.std.specs.Prelude.{None, IfErr, IfOk, OnOk, false, map, true, vec_capacity};
 ghost use Rattle.std.specs.List.{flat_map};
 ghost use Rattle.babel_capture.specs.Capture.{HasRead, IsReadToCut, moment_read};
 ghost use Rattle.babel_timeline.specs.declared.telling.Telling.{Telling as TellingSaid};
 ghost use Rattle.babel_dump.specs.CaptureText.{senders_status};
 ghost use Rattle.babel_dump.specs.Device.{HasRoomToCount, HasRoomToWrite};
+ghost use Rattle.babel_dump.specs.EventsCause.{EventsCause, Fails, HasNobody, HasUnread};
+ghost use Rattle.babel_dump.specs.EventsCause.{IsBackwards, IsTooLate, IsUnreadIn, RefusesOctets};
+ghost use Rattle.babel_dump.specs.EventsCause.{RefusesPiece, RefusesWhole, TellsFault, nameless};
 ghost use Rattle.babel_dump.specs.EventsRun.{AreReadWhole, TellsEvents, WroteLines};
 ghost use Rattle.babel_dump.specs.Followed.{Ends, EndsAt, Goes, HasFollowed, IsFollowed};
 ghost use Rattle.babel_dump.specs.Followed.{Suits, named_event};
 ghost use Rattle.babel_dump.specs.HeardSenders.{heard_of, heard_told, sender_heard};
 ghost use Rattle.babel_dump.specs.Run.{output};
 ghost use Rattle.babel_dump.specs.Slices.{WroteFront};
+ghost use Rattle.babel_dump.specs.declared.input_fault.InputFault.TheVariants as input_faults;
+ghost use Rattle.babel_dump.specs.declared.run_fault.Side.TheVariants as sides;
 ghost use Rattle.babel_dump.specs.declared.speaker.Speaker.{Speaker as SpeakerSaid};
 
 use crate::absence::Absence;
@@ -42,8 +47,11 @@ use std::alloc::{AllocError, Global};
 /// How many octets one read asks for.
 const PIECE: usize = 65_536;
 
-/// How many octets a capture has at most, and how often it is read: no file is longer.
+/// How many octets a capture has at most: no file is longer.
 const MOST: u64 = 1 << 62;
+
+/// How many octets a block has at most before its length is known.
+const LONGEST_HEADER: u64 = 24;
 
 /// A capture that is followed: how far it was read, and what its senders hold.
 #[derive(Drop)]
@@ -66,8 +74,10 @@ pub fn run_events<R: ByteIn, W: ByteOut, S: Says>(
 ) -> Result<EventsOutcome, Trouble>
     requires reader { HasRoomToCount (R.state reader.old) }
     requires writer { HasRoomToWrite (W.state writer.old) }
-    ensures { IfOk result (λ answer. TellsEvents events.now (R.state reader.old)
+    ensures tells { IfOk result (λ answer. TellsEvents events.now (R.state reader.old)
         (R.state reader.new) (output (W.state writer.old) (W.state writer.new)) answer) }
+    ensures cause { IfErr result (EventsCause events.now (R.state reader.old)
+        (R.state reader.new) (output (W.state writer.old) (W.state writer.new))) }
 {
     let mut followed = Followed::new(alloc, events)?;
     match followed.run(alloc, events, reader, writer, says) {
@@ -86,6 +96,7 @@ impl<'a> Followed<'a> {
         ensures told { IfOk result (λ followed. followed.follower.told.items ≡ []) }
         ensures empty { IfOk result (λ followed. followed.buffer.items ≡ []) }
         ensures room { IfOk result (λ followed. 512 ≤ vec_capacity followed.buffer) }
+        ensures memory { IfErr result (Fails events.now (λ _. ⊥) ⊥ ⊥ ⊥ (λ _. ⊥)) }
     {
         let buffer = slice_buffer(alloc)?;
         let (sender, place) = (events.sender, events.place);
@@ -114,8 +125,10 @@ impl<'a> Followed<'a> {
         requires told { self.old.follower.told.items ≡ [] }
         requires empty { self.old.buffer.items ≡ [] }
         requires room { 512 ≤ vec_capacity self.old.buffer }
-        ensures { IfOk result (λ answer. TellsEvents events.now (R.state reader.old)
+        ensures tells { IfOk result (λ answer. TellsEvents events.now (R.state reader.old)
             (R.state reader.new) (output (W.state writer.old) (W.state writer.new)) answer) }
+        ensures cause { IfErr result (EventsCause events.now (R.state reader.old)
+            (R.state reader.new) (output (W.state writer.old) (W.state writer.new))) }
     {
         self.follow(events, reader, writer, says)?;
         self.end(alloc, events, writer)
@@ -141,19 +154,23 @@ impl<'a> Followed<'a> {
         ensures failures { OnOk result ((W.state writer.new).failures
             ≡ (W.state writer.old).failures) }
         ensures flushes { OnOk result ((W.state writer.new).flushes
-            ≤ (W.state writer.old).flushes + 2 ^ 62) }
+            ≤ (W.state writer.old).flushes + 2 ^ 62 + 24) }
         ensures followed { OnOk result (HasFollowed events.now (R.state reader.old)
             (R.state reader.new) (output (W.state writer.old) (W.state writer.new)) self.new) }
+        ensures cause { IfErr result (EventsCause events.now (R.state reader.old)
+            (R.state reader.new) (output (W.state writer.old) (W.state writer.new))) }
     {
         let mut piece = [0; PIECE];
-        'reads: for _ in 0..MOST {
+        // Each read gives an octet at least, but for the last, and the capture refuses the first
+        // block past the limit.
+        'reads: for _ in 0..MOST + LONGEST_HEADER {
             match reader.read(&mut piece) {
                 Ok(0) => return Ok(()),
                 Ok(n) => self.take(events, &piece[..n], writer, says)?,
                 Err(_) => return Err(Trouble::from(InputFault::Read)),
             }
         }
-        Err(Trouble::from(InputFault::Read))
+        unreachable!()
     }
 
     /// Takes the next octets of the capture, and writes what their packets tell, also where they
@@ -180,6 +197,11 @@ impl<'a> Followed<'a> {
         ensures followed { OnOk result ((fed : List ℕ) (told : List (TellingSaid SpeakerSaid))
             → IsFollowed events.now fed told self.old → Goes events.now (fed ++ piece.now) told
             (output (W.state writer.old) (W.state writer.new)) self.new) }
+        ensures cause { IfErr result (λ trouble. (fed : List ℕ)
+            (told : List (TellingSaid SpeakerSaid)) → IsFollowed events.now fed told self.old
+            → Fails events.now (RefusesPiece events.now (fed ++ piece.now)) ⊥ ⊥
+            ((W.state writer.old).failures < (W.state writer.new).failures)
+            (RefusesOctets events.now (fed ++ piece.now)) trouble) }
     {
         let fed = self.capture.feed(piece, &mut self.follower);
         self.in_order(events)?;
@@ -193,7 +215,9 @@ impl<'a> Followed<'a> {
     }
 
     /// Whether `--since` is no later than `--until`, by the capture's first packet.
-    fn in_order(&self, events: &Events) -> Result<(), Trouble> {
+    fn in_order(&self, events: &Events) -> Result<(), Trouble>
+        ensures { IfErr result (λ trouble. IsBackwards trouble × IsTooLate events.now) }
+    {
         let (_, until) = moments_of(&events.window);
         if let (Some(since), Some(until), Some(first)) = (
             events.since,
@@ -229,6 +253,8 @@ impl<'a> Followed<'a> {
             ≡ (W.state writer.old).flushes + 1) }
         ensures lines { OnOk result (WroteLines events.now self.old.follower.told.items
             (output (W.state writer.old) (W.state writer.new))) }
+        ensures cause { IfErr result (Fails events.now (λ _. ⊥) ⊥ ⊥
+            ((W.state writer.old).failures < (W.state writer.new).failures) (λ _. ⊥)) }
     {
         let gathered = self.capture.gathered();
         let told = &self.follower.told;
@@ -252,9 +278,14 @@ impl<'a> Followed<'a> {
         requires told { self.old.follower.told.items ≡ [] }
         requires empty { self.old.buffer.items ≡ [] }
         requires room { 512 ≤ vec_capacity self.old.buffer }
-        ensures { IfOk result (λ answer. (fed : List ℕ) (told : List (TellingSaid SpeakerSaid))
+        ensures ends { IfOk result (λ answer. (fed : List ℕ) (told : List (TellingSaid SpeakerSaid))
             → IsFollowed events.now fed told self.old → Ends events.now fed told
             (output (W.state writer.old) (W.state writer.new)) answer) }
+        ensures cause { IfErr result (λ trouble. (fed : List ℕ)
+            (told : List (TellingSaid SpeakerSaid)) → IsFollowed events.now fed told self.old
+            → Fails events.now (RefusesWhole events.now fed) (HasNobody events.now fed) ⊥
+            ((W.state writer.old).failures < (W.state writer.new).failures)
+            (HasUnread events.now fed) trouble) }
     {
         let cut = self.cut(events)?;
         let status = self.status(events)?;
@@ -312,7 +343,9 @@ impl<'a> Followed<'a> {
     }
 
     /// Adds the name of the interface to a trouble, where it is a sender's.
-    fn add_name(&self, alloc: Global, trouble: &mut Trouble) -> Result<(), AllocError> {
+    fn add_name(&self, alloc: Global, trouble: &mut Trouble) -> Result<(), AllocError>
+        ensures { nameless trouble.new ≡ nameless trouble.old }
+    {
         if let Trouble::Sender { origin, name, .. } = trouble {
             let heard = self.heard(alloc, *origin)?;
             *name = Some(heard.name);
@@ -342,6 +375,9 @@ impl<'a> Followed<'a> {
             → IsReadToCut self.now.capture.limit fed
             self.now.capture.progress.gathering cut) }
         ensures accepted { IfOk result (λ cut. events.now.accept_cut ≡ false → cut ≡ None) }
+        ensures cause { IfErr result (λ trouble. (fed : List ℕ)
+            (told : List (TellingSaid SpeakerSaid)) → IsFollowed events.now fed told self.now
+            → Fails events.now (RefusesWhole events.now fed) ⊥ ⊥ ⊥ (λ _. ⊥) trouble) }
     {
         match self.capture.cut() {
             Ok(Some(at)) if !events.accept_cut => Err(of_capture(Fault::CutShort { at })),
@@ -352,8 +388,10 @@ impl<'a> Followed<'a> {
 
     /// The exit status: 1 where no sender has packets, and none is named.
     fn status(&self, events: &Events) -> Result<u8, Trouble>
-        ensures { IfOk result (λ status. status
+        ensures status { IfOk result (λ status. status
             ≡ senders_status self.now.capture.progress.gathering.senders) }
+        ensures cause { IfErr result (Fails events.now (λ _. ⊥)
+            (self.now.capture.progress.gathering.senders ≡ []) ⊥ ⊥ (λ _. ⊥)) }
     {
         if !self.capture.gathered().senders().is_empty() {
             return Ok(0);
@@ -421,7 +459,9 @@ fn write_kept<W: ByteOut>(
 /// Refuses a capture that is read strictly where a datagram was left out, or of a sender a TLV was
 /// ignored, or it has no Update: the first of these senders.
 fn refuse_senders(strict: bool, report: &Report, senders: &[HeardSender]) -> Result<(), Trouble>
-    ensures { OnOk result (strict ≡ true → AreReadWhole report.now senders.now) }
+    ensures whole { OnOk result (strict ≡ true → AreReadWhole report.now senders.now) }
+    ensures unread { IfErr result
+        (λ trouble. (strict ≡ true) × IsUnreadIn report.now senders.now trouble) }
 {
     refuse_left_out(strict, report)?;
     for heard in senders {
@@ -433,6 +473,8 @@ fn refuse_senders(strict: bool, report: &Report, senders: &[HeardSender]) -> Res
 }
 
 /// The fault of a capture.
-fn of_capture(fault: Fault) -> Trouble {
+fn of_capture(fault: Fault) -> Trouble
+    ensures { TellsFault sides.First (input_faults.Capture fault) result }
+{
     Trouble::from(InputFault::Capture(fault))
 }

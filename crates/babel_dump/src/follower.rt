@@ -1,11 +1,12 @@
 //! What the records of a capture tell, heard as they are read.
 ghost use Rattle.std.specs.Prelude.{◌≡◌, ◌+◌, ◌^◌, ◌<◌, ◌≤◌, [], IfErr, IsErr, None, OnOk, Some};
-ghost use Rattle.std.specs.Prelude.{drop, length, take, true};
+ghost use Rattle.std.specs.Prelude.{drop, false, length, take, true};
 ghost use Rattle.babel_capture.specs.Sinking.{left_said, packet_said};
 ghost use Rattle.babel_tlv.specs.Framing.{framed};
-ghost use Rattle.babel_dump.specs.EventsRun.{speaker_at};
 ghost use Rattle.babel_dump.specs.Followed.{HasHeard, HearsFront, HearsTold, IsWholeTold};
-ghost use Rattle.babel_dump.specs.Followed.{RefusesTold};
+ghost use Rattle.babel_dump.specs.Followed.{IsFrom, RefusesFront, RefusesTold, RefusesUnheard};
+ghost use Rattle.babel_dump.specs.Followed.{RefusesUsually, Stops, Suits, trouble_of};
+ghost use Rattle.babel_dump.specs.declared.stop.Stop.{Stop as StopSaid};
 
 use crate::events_job::Events;
 use crate::hearing::{Hearing, Unheard};
@@ -13,12 +14,11 @@ use crate::left_out::LeftOutDatagram;
 use crate::other_sources::OtherSources;
 use crate::remarks::Remarks;
 use crate::says::Says;
-use crate::speaker::Speaker;
+use crate::speaker::{Speaker, speaker_at};
 use crate::stop::Stop;
 use crate::trouble::Trouble;
 use crate::unread_tlv::{UnreadTlv, packet_of};
 use babel_capture::{BabelPacket, Gathered, Origin, Reason, Record, Said, Sink};
-use babel_table::Report;
 use babel_timeline::Telling;
 use babel_tlv::Start;
 use std::alloc::{AllocError, Global};
@@ -60,7 +60,9 @@ impl<'a> Follower<'a> {
 
     /// Why no more is heard, if a record had a fault.
     pub(crate) fn fault(&self) -> Result<(), Trouble>
-        ensures { OnOk result (self.now.fault ≡ None) }
+        ensures none { OnOk result (self.now.fault ≡ None) }
+        ensures some { IfErr result (λ trouble. (stop : StopSaid)
+            × (self.now.fault ≡ Some stop) × (trouble ≡ trouble_of stop)) }
     {
         match self.fault {
             None => Ok(()),
@@ -74,15 +76,20 @@ impl<'a> Follower<'a> {
             × (self.new.fault ≡ self.old.fault) }
         ensures heard { OnOk result
             (HearsTold self.old.events.now told.now self.old self.new) }
+        ensures stops { IfErr result (Stops self.old.events.now told.now self.old self.new) }
     {
         self.hear(told)?;
+        if !self.events.is_any_source {
+            return Ok(());
+        }
         Ok(self.hear_others(told)?)
     }
 
-    /// Hears the routes for other sources, if they are asked for.
+    /// Hears the routes for other sources.
     fn hear_others(&mut self, told: &Record<'_>) -> Result<(), Unheard>
-        ensures { (self.new.events ≡ self.old.events) × (self.new.hearing ≡ self.old.hearing)
+        ensures same { (self.new.events ≡ self.old.events) × (self.new.hearing ≡ self.old.hearing)
             × (self.new.told ≡ self.old.told) × (self.new.fault ≡ self.old.fault) }
+        ensures from { IfErr result (IsFrom told.now) }
     {
         let Some(others) = &mut self.other_sources else {
             return Ok(());
@@ -117,6 +124,8 @@ impl<'a> Follower<'a> {
             → IsWholeTold self.old.events.now told.now self.old) }
         ensures refused { IfErr result
             (RefusesTold self.old.events.now told.now self.old self.new) }
+        ensures usually { self.old.events.now.strict ≡ false → IfErr result
+            (RefusesUsually self.old.events.now told.now self.old) }
     {
         if self.events.strict {
             self.hear_strictly(told)
@@ -131,24 +140,14 @@ impl<'a> Follower<'a> {
             × (self.new.fault ≡ self.old.fault) }
         ensures heard { OnOk result
             (HearsTold self.old.events.now told.now self.old self.new) }
+        ensures refused { Suits self.old.events.now self.old.hearing.teller → IfErr result
+            (RefusesUnheard self.old.events.now told.now self.old.hearing.teller) }
     {
-        let before = self.report(&told.said);
         self.hearing.hear_record(self.events, told, &mut self.told)?;
         self.hearing.request(self.events, told, &mut self.told)?;
         self.hearing.lose(told, &mut self.remarks)?;
-        let now = self.report(&told.said);
-        add_remarks(&mut self.remarks, told, &before, &now)?;
+        add_remarks(&mut self.remarks, &self.hearing, told)?;
         Ok(())
-    }
-
-    /// What was heard so far of the sender of a packet, if there is to say what was not read.
-    fn report(&self, said: &Said<'_>) -> Report {
-        match said {
-            Said::Packet(packet) if !self.events.quiet => {
-                self.hearing.report(speaker_at(&packet.origin))
-            }
-            _ => Report::new(),
-        }
     }
 
     /// Says what was not read since it was said last.
@@ -242,6 +241,9 @@ impl<'a> Follower<'a> {
             × (self.new.fault ≡ self.old.fault) }
         ensures heard { OnOk result (HearsFront self.old.events.now told.now packet.now
             (framed (take before (drop 4 packet.now.octets.now))) self.old self.new) }
+        ensures refused { Suits self.old.events.now self.old.hearing.teller → IfErr result
+            (RefusesFront self.old.events.now told.now packet.now
+            (framed (take before (drop 4 packet.now.octets.now))) self.old.hearing.teller) }
     {
         let octets = packet_of(self.alloc, &packet.octets[4..4 + before])?;
         let front = BabelPacket {
@@ -263,24 +265,14 @@ fn other_sources(alloc: Global, events: &Events) -> Option<OtherSources> {
     Some(OtherSources::new(alloc, events, events.pair?))
 }
 
-/// A sender at a place, as one who speaks.
-fn speaker_at(origin: &Origin) -> Speaker
-    ensures { result ≡ speaker_at origin.now }
-{
-    let Origin { place, sender } = *origin;
-    Speaker { sender, place }
-}
-
-/// Adds what of a record was not read, where the sender of its packet had the one report before it,
-/// and has the other after it.
+/// Adds what of a record that was heard was not read.
 fn add_remarks(
     remarks: &mut Remarks,
+    hearing: &Hearing,
     told: &Record<'_>,
-    before: &Report,
-    now: &Report,
 ) -> Result<(), AllocError> {
     match &told.said {
-        Said::Packet(packet) => remarks.ignored(&packet.origin, before, now),
+        Said::Packet(packet) => remarks.ignored(hearing, packet),
         Said::LeftOut { origin, reason } => {
             let (packet, reason) = (told.number, *reason);
             remarks.left_out(*origin, LeftOutDatagram { packet, reason })

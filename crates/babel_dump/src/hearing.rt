@@ -1,6 +1,6 @@
 //! What the senders of a capture say, heard record by record, and what is told of it.
-ghost use Rattle.std.specs.Prelude.{◌≡◌, ◌++◌, ◌||◌, ◌^◌, ◌<◌, ◌≤◌, ◌∷◌, List, [], IfOk};
-ghost use Rattle.std.specs.Prelude.{IfSome, OnOk, Some, None, ◌&&◌, not};
+ghost use Rattle.std.specs.Prelude.{◌≡◌, ◌≢◌, ◌++◌, ◌||◌, ◌^◌, ◌<◌, ◌≤◌, ◌∷◌, List, [], IfOk};
+ghost use Rattle.std.specs.Prelude.{IfErr, IfSome, OnOk, Some, None, ◌&&◌, not};
 ghost use Rattle.std.specs.BTreeSet.{contains};
 ghost use Rattle.std.specs.Option.{option_map};
 ghost use Rattle.babel_capture.specs.declared.missed.Missed.{Missed as MissedSaid};
@@ -11,7 +11,8 @@ ghost use Rattle.babel_timeline.specs.declared.telling.Telling.{Telling as Telli
 ghost use Rattle.babel_dump.specs.EventsRun.{is_from, is_of, requests_asked, requests_made};
 ghost use Rattle.babel_dump.specs.EventsRun.{told_from};
 ghost use Rattle.babel_dump.specs.Followed.{EndsBy, HasHeard, HearsPacket, HearsRecord, Suits};
-ghost use Rattle.babel_dump.specs.Followed.{TellsNext, TellsThen, unlost_by};
+ghost use Rattle.babel_dump.specs.Followed.{RefusesTeller, RefusesUnheard, TellsNext, TellsThen};
+ghost use Rattle.babel_dump.specs.Followed.{unlost_by};
 ghost use Rattle.babel_dump.specs.Speakers.{speaker_cmp};
 ghost use Rattle.babel_dump.specs.declared.speaker.Speaker.{Speaker as SpeakerSaid};
 
@@ -47,6 +48,19 @@ impl From<AllocError> for Unheard {
 
     fn from(_error: AllocError) -> Unheard {
         Unheard::Memory
+    }
+}
+
+impl Unheard {
+    /// That of a packet of this sender which has this fault.
+    pub(crate) fn of(origin: Origin, fault: DumpFault) -> Unheard
+        ensures memory { fault ≡ DumpFault.Memory → result ≡ Unheard.Memory }
+        ensures sender { fault ≢ DumpFault.Memory → result ≡ Unheard.Sender origin fault }
+    {
+        match fault {
+            DumpFault::Memory => Unheard::Memory,
+            fault => Unheard::Sender { origin, fault },
+        }
     }
 }
 
@@ -121,6 +135,8 @@ impl Hearing {
             self.new.heard.items self.new.since self.new.printed.items) }
         ensures told { OnOk result (told.new.items
             ≡ told.old.items ++ unlost_by self.old.lost self.new.printed.items) }
+        ensures refused { Suits events.now self.old.teller → IfErr result
+            (RefusesUnheard events.now said.now self.old.teller) }
     {
         self.since.begin(events.since, said.time);
         self.heard.clear();
@@ -137,6 +153,8 @@ impl Hearing {
         ensures heard { OnOk result ((one : Made) → Suits events.now self.old.teller
             → IsTold one said.now
             → HearsRecord events.now one self.old.teller self.new.teller self.new.heard.items) }
+        ensures refused { Suits events.now self.old.teller → IfErr result
+            (RefusesUnheard events.now said.now self.old.teller) }
     {
         let Some(time) = said.time else {
             return Ok(());
@@ -161,6 +179,8 @@ impl Hearing {
         ensures heard { Suits events.now self.old.teller → OnOk result (HearsPacket events.now
             packet.now.origin time packet.now.octets.now self.old.teller self.new.teller
             self.old.heard.items self.new.heard.items) }
+        ensures refused { Suits events.now self.old.teller → IfErr result (RefusesTeller events.now
+            packet.now.origin time packet.now.octets.now self.old.teller) }
     {
         let Origin { place, sender } = packet.origin;
         let start = Start {
@@ -173,11 +193,7 @@ impl Hearing {
             .hear(speaker, start, time, packet.octets, &mut self.heard)
         {
             Ok(()) => Ok(()),
-            Err(DumpFault::Memory) => Err(Unheard::Memory),
-            Err(fault) => Err(Unheard::Sender {
-                origin: packet.origin,
-                fault,
-            }),
+            Err(fault) => Err(Unheard::of(packet.origin, fault)),
         }
     }
 
@@ -243,7 +259,7 @@ impl Hearing {
     ) -> Result<(), AllocError>
         ensures { OnOk result (told.new.items ≡ told.old.items ++ unlost_by self.now.lost
             (told_from self.now.since.moment
-            (requests_asked events.now time packet.now.origin packet.now.destination
+            (requests_asked events.now time packet.now.origin packet.now.destination.now
             packet.now.octets.now))) }
     {
         let Origin { place, sender } = packet.origin;
@@ -251,7 +267,7 @@ impl Hearing {
         if !self.tells_requests(events, time, &speaker) {
             return Ok(());
         }
-        let to = unicast(packet.destination);
+        let to = unicast(*packet.destination);
         tell_requests(
             events.limits.via_v6(),
             speaker,

@@ -23,15 +23,14 @@ impl fmt::Display for IgnoredTlv {
     }
 }
 
-/// The first TLV that was ignored for a reason, where by the one report of a sender none was, and by
-/// the other one was.
-pub(crate) fn newly_ignored(before: &Report, now: &Report, reason: Reason) -> Option<IgnoredTlv>
-    ensures { result ≡ newly_ignored before.now now.now reason }
+/// The first TLV that was ignored for a reason, where it lies at this offset or behind it.
+pub(crate) fn newly_ignored(from: u64, report: &Report, reason: Reason) -> Option<IgnoredTlv>
+    ensures { result ≡ newly_ignored from report.now reason }
 {
-    if before.ignored(reason).is_some() {
+    let (_count, at) = report.ignored(reason)?;
+    if at < from {
         return None;
     }
-    let (_count, at) = now.ignored(reason)?;
     Some(IgnoredTlv { at, reason })
 }
 

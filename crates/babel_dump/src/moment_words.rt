@@ -1,6 +1,7 @@
 //! The words of `--since` and `--until`.
 ghost use Rattle.std.specs.Prelude.{◌≡◌};
 ghost use Rattle.babel_capture.specs.Window.{moment_from};
+ghost use Rattle.babel_dump.specs.EventsCause.{until_in};
 
 use crate::given_words::GivenWords;
 use crate::reading::TimeOption;
@@ -74,7 +75,9 @@ impl Moments {
 }
 
 /// The moments of a window, where they are named.
-pub(crate) fn moments_of(window: &Window) -> (Option<Moment>, Option<Moment>) {
+pub(crate) fn moments_of(window: &Window) -> (Option<Moment>, Option<Moment>)
+    ensures { result.1 ≡ until_in window.now }
+{
     match window {
         Window::Whole => (None, None),
         Window::Between { since, until } => (*since, *until),

@@ -207,6 +207,26 @@ const WITHIN: OptionRow = OptionRow {
     ..FLAG
 };
 
+const MATCH: OptionRow = OptionRow {
+    id: "match",
+    help: "Only destinations that contain PREFIX, which may be an address",
+    ..WITHIN
+};
+
+const SOURCE: OptionRow = OptionRow {
+    id: "source",
+    help: "Only sources that are exactly PREFIX",
+    ..WITHIN
+};
+
+const ID: OptionRow = OptionRow {
+    id: "id",
+    takes: Takes::Word("ROUTERID"),
+    help: "Only routes with this router-id: 16 hexadecimal digits, or with colons as babeld \
+           writes it",
+    ..WITHIN
+};
+
 const FILE: OptionRow = OptionRow {
     id: "file",
     takes: Takes::File("FILE"),
@@ -400,22 +420,32 @@ pub(crate) static KEPT: &[OptionRow] = &[
     },
     WITHIN,
     OptionRow {
-        id: "match",
-        help: "Only destinations that contain PREFIX, which may be an address",
+        help: "With --origins: only destinations that are PREFIX or inside it",
+        commands: &["diff"],
+        needs: Some("origins"),
         ..WITHIN
     },
+    MATCH,
     OptionRow {
-        id: "source",
-        help: "Only sources that are exactly PREFIX",
-        ..WITHIN
+        help: "With --origins: only destinations that contain PREFIX, which may be an address",
+        commands: &["diff"],
+        needs: Some("origins"),
+        ..MATCH
     },
+    SOURCE,
     OptionRow {
-        id: "id",
-        takes: Takes::Word("ROUTERID"),
-        help: "Only routes with this router-id: 16 hexadecimal digits, or with colons as babeld \
-               writes it",
-        commands: &FILTERED,
-        ..FLAG
+        help: "With --origins: only sources that are exactly PREFIX",
+        commands: &["diff"],
+        needs: Some("origins"),
+        ..SOURCE
+    },
+    ID,
+    OptionRow {
+        help: "With --origins: only this router-id: 16 hexadecimal digits, or with colons as \
+               babeld writes it",
+        commands: &["diff"],
+        needs: Some("origins"),
+        ..ID
     },
     STRICT,
     IGNORE,
@@ -446,6 +476,22 @@ pub(crate) static PRINTED: &[OptionRow] = &[
         id: "summary",
         help: "Print only how many routes, router-ids and next hops there are",
         commands: &["show"],
+        ..FLAG
+    },
+    OptionRow {
+        id: "origins",
+        help: "Print who originates what: for each destination, source and router-id the least \
+               metric over all senders in a capture, and how many announce it",
+        commands: &["show"],
+        conflicts: &["from", "hold", "summary"],
+        ..FLAG
+    },
+    OptionRow {
+        id: "origins",
+        help: "Compare who originates what in two captures: for each destination, source and \
+               router-id the least metric over all senders",
+        commands: &["diff"],
+        conflicts: &["from", "hold"],
         ..FLAG
     },
     OptionRow {

@@ -1,5 +1,6 @@
 //! Routes for other sources than that of an answer.
-ghost use Rattle.std.specs.Prelude.{◌^◌, ◌<◌};
+ghost use Rattle.std.specs.Prelude.{◌^◌, ◌<◌, IfErr};
+ghost use Rattle.babel_dump.specs.Followed.{IsOf};
 
 use crate::addr_pair::AddrPair;
 use crate::any_source::is_source_specific;
@@ -13,7 +14,7 @@ use crate::spelling::Spelling;
 use babel_capture::{BabelPacket, Origin};
 use babel_prefix::Addr;
 use babel_timeline::{Change, Subject, Teller, Telling};
-use babel_tlv::{Fault, Start};
+use babel_tlv::Start;
 use std::alloc::{AllocError, Global};
 use std::collections::BTreeSet;
 
@@ -99,6 +100,7 @@ impl OtherSources {
         since: &Since,
     ) -> Result<(), Unheard>
         requires { time < 2 ^ 96 }
+        ensures { IfErr result (IsOf packet.now.origin) }
     {
         let origin = packet.origin;
         let Origin { place, sender } = origin;
@@ -113,8 +115,7 @@ impl OtherSources {
             .hear(speaker, start, time, packet.octets, &mut self.told);
         match heard {
             Ok(()) => Ok(self.keep(since)?),
-            Err(Fault::Memory) => Err(Unheard::Memory),
-            Err(fault) => Err(Unheard::Sender { origin, fault }),
+            Err(fault) => Err(Unheard::of(origin, fault)),
         }
     }
 

@@ -1,14 +1,15 @@
 //! What was not read of a capture, as there is to say at once.
 use crate::events_job::Events;
+use crate::hearing::Hearing;
 use crate::hint::Hint;
-use crate::ignored::newly_ignored;
+use crate::ignored::{first_ignored, newly_ignored};
 use crate::left_out::LeftOutDatagram;
 use crate::reason_text::REASONS;
 use crate::remark::{NamedRemark, Remark, Unread};
 use crate::says::Says;
-use crate::speaker::Speaker;
+use crate::speaker::{Speaker, speaker_at};
 use crate::trouble::say_hint;
-use babel_capture::{Gathered, Origin, Reason};
+use babel_capture::{BabelPacket, Gathered, Origin, Reason};
 use babel_table::Report;
 use babel_tlv::Reason as IgnoredFor;
 use std::alloc::{AllocError, Global};
@@ -80,35 +81,44 @@ impl Remarks {
         }
     }
 
-    /// A sender had the one report, and now has the other: the first TLV for each reason for which
-    /// none was ignored before.
+    /// A packet of a sender was heard: the first TLV for each reason for which none was ignored
+    /// before it.
     pub(crate) fn ignored(
         &mut self,
-        origin: &Origin,
-        before: &Report,
-        now: &Report,
+        hearing: &Hearing,
+        packet: &BabelPacket<'_>,
     ) -> Result<(), AllocError> {
+        if self.is_quiet {
+            return Ok(());
+        }
+        let report = hearing.report(speaker_at(&packet.origin));
+        if first_ignored(&report).is_none() {
+            return Ok(());
+        }
+        let octets = packet.octets.len() as u64;
+        let heard = hearing.octets(speaker_at(&packet.origin));
+        let from = heard.saturating_sub(octets);
         for reason in &REASONS {
-            self.ignored_for(origin, before, now, *reason)?;
+            self.ignored_for(&packet.origin, from, &report, *reason)?;
         }
         Ok(())
     }
 
-    /// The same for one reason.
+    /// Of the packet whose octets begin at this offset, the same for one reason.
     fn ignored_for(
         &mut self,
         origin: &Origin,
-        before: &Report,
-        now: &Report,
+        from: u64,
+        report: &Report,
         reason: IgnoredFor,
     ) -> Result<(), AllocError> {
-        let Some(tlv) = newly_ignored(before, now, reason) else {
+        let Some(tlv) = newly_ignored(from, report, reason) else {
             return Ok(());
         };
         self.add(Remark {
             origin: *origin,
             unread: Unread::Ignored(tlv),
-            ignores_encoding_4: now.ignores_encoding_4(),
+            ignores_encoding_4: report.ignores_encoding_4(),
         })
     }
 

@@ -1,4 +1,7 @@
-use babel_capture::Place;
+ghost use Rattle.std.specs.Prelude.{◌≡◌};
+ghost use Rattle.babel_dump.specs.EventsRun.{speaker_at};
+
+use babel_capture::{Origin, Place};
 use babel_prefix::Addr;
 use babel_timeline::Sender;
 
@@ -15,4 +18,12 @@ impl Sender for Speaker {
     ghost use Rattle.babel_dump.specs.Speakers.{exact_by};
 
     ghost exact = { exact_by _ (λ a b. Prim.search rules) };
+}
+
+/// A sender at a place, as one who speaks.
+pub(crate) fn speaker_at(origin: &Origin) -> Speaker
+    ensures { result ≡ speaker_at origin.now }
+{
+    let Origin { place, sender } = *origin;
+    Speaker { sender, place }
 }

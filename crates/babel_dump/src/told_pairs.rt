@@ -2,7 +2,6 @@
 ghost use Rattle.std.specs.Prelude.{ℕ, ◌≡◌, ◌++◌, List, IfOk, OnOk, Some, max};
 ghost use Rattle.std.specs.Map.{keys_of};
 ghost use Rattle.babel_capture.specs.Counts.{Made};
-ghost use Rattle.babel_capture.specs.Gathering.{name_of};
 ghost use Rattle.babel_dump.specs.EachSender.{AreOwn, IsFedOwn, first_missed, own_packets};
 ghost use Rattle.babel_dump.specs.EachSender.{table_at};
 ghost use Rattle.babel_dump.specs.Fed.{AreWhole};
@@ -12,18 +11,16 @@ ghost use Rattle.babel_dump.specs.ToldPairs.{ArePairsTold, IsOwnRead, IsPairTold
 ghost use Rattle.babel_dump.specs.ToldPairs.{TellsBoth};
 
 use crate::capture_input::CaptureRead;
-use crate::done::{DumpRead, ToldSender};
+use crate::done::ToldSender;
 use crate::each_pair::{EachPair, PairText};
-use crate::each_sender::EachSender;
 use crate::fellows::{Fellows, fellows_of};
-use crate::input_fault::InputFault;
-use crate::own_table::{OwnTable, read_own};
+use crate::note::Note;
+use crate::read_senders::{Captured, ReadSenders};
 use crate::run_fault::Side;
 use crate::sender_tables::SenderTable;
 use crate::trouble::Trouble;
 use babel_capture::Origin;
 use babel_table::Table;
-use babel_tlv::Fault;
 use std::alloc::{AllocError, Global};
 use std::collections::BTreeMap;
 
@@ -31,30 +28,11 @@ use std::collections::BTreeMap;
 #[derive(Drop)]
 pub struct ToldPairs {
     /// The senders of both captures.
-    pub senders: Vec<ToldSender>,
+    pub senders: ReadSenders,
     /// The lines of the pairs, one after another.
     pub lines: Vec<u8>,
     /// The greatest of their statuses.
     pub status: u8,
-    /// How many rows their tables have in all.
-    rows: u32,
-}
-
-/// One of the captures.
-#[derive(Clone, Copy)]
-struct Captured<'a> {
-    side: Side,
-    each: &'a EachSender,
-    read: &'a CaptureRead,
-}
-
-impl Captured<'_> {
-    /// The name of the interface of a sender.
-    fn name(&self, origin: &Origin) -> &[u8]
-        ensures { result.now ≡ name_of self.now.read.now.gathered origin.now.place.interface }
-    {
-        self.read.gathered.name(origin.place.interface)
-    }
 }
 
 /// The tables of the senders in both captures that are not told yet.
@@ -91,10 +69,9 @@ impl ToldPairs {
             right: other_tables,
         };
         let mut told = ToldPairs {
-            senders: Vec::new(alloc),
+            senders: ReadSenders::new(alloc),
             lines: Vec::new(alloc),
             status: 0,
-            rows: 0,
         };
         for fellows in &list {
             told.tell(alloc, pairs, read, other_read, *fellows, &mut left)?;
@@ -180,61 +157,13 @@ impl ToldPairs {
             (first_missed origin made) table
             → IsOwnRead captured.now.each.now (heard_in captured.now.read.now made) origin own) }
     {
-        match read_own(captured.each, captured.read.moment, table) {
-            Ok(
-                OwnTable {
-                    table,
-                    expired_rows,
-                },
-            ) => {
-                self.count(captured.each, &table)?;
-                let report = *table.report();
-                let read = Ok(DumpRead {
-                    report,
-                    expired_rows,
-                    source: None,
-                });
-                self.push(alloc, captured, &origin, read)?;
-                Ok(Some(table))
-            }
-            Err(InputFault::Dump(Fault::TooManyRoutes { .. })) => Err(Trouble::TooManyRoutes),
-            Err(InputFault::Dump(Fault::Memory)) => Err(Trouble::from(AllocError)),
+        let own = self.senders.own(alloc, captured, origin, table)?;
+        match own {
+            Ok(table) => Ok(Some(table)),
             Err(fault) => {
-                self.push(alloc, captured, &origin, Err(fault))?;
+                self.senders.push(alloc, captured, &origin, Err(fault))?;
                 Ok(None)
             }
-        }
-    }
-
-    /// Counts the rows of a table.
-    fn count(&mut self, each: &EachSender, table: &Table) -> Result<(), Trouble>
-        ensures { OnOk result ((self.new.lines ≡ self.old.lines)
-            × (self.new.status ≡ self.old.status)) }
-    {
-        match each.rows_with(self.rows, table.rows().len()) {
-            Some(rows) => {
-                self.rows = rows;
-                Ok(())
-            }
-            None => Err(Trouble::TooManyRoutes),
-        }
-    }
-
-    /// Notes what was read of a sender, or why it is refused.
-    fn push(
-        &mut self,
-        alloc: Global,
-        captured: &Captured<'_>,
-        origin: &Origin,
-        read: Result<DumpRead, InputFault>,
-    ) -> Result<(), Trouble>
-        ensures { OnOk result ((self.new.lines ≡ self.old.lines)
-            × (self.new.status ≡ self.old.status)) }
-    {
-        let sender = ToldSender::new(alloc, &captured.read.gathered, origin, read)?;
-        match self.senders.push(sender.on(captured.side)) {
-            Ok(()) => Ok(()),
-            Err(error) => Err(Trouble::from(AllocError::from(error))),
         }
     }
 
@@ -259,7 +188,20 @@ impl ToldPairs {
             return Ok(());
         };
         let text = pairs.text_of_both(alloc, left, right, name, table, other)?;
+        self.note_routes(text.routes);
         self.take(&text)
+    }
+
+    /// Notes how many routes differ of the last two senders that were noted, if any.
+    fn note_routes(&mut self, routes: Option<Note>)
+        ensures { (self.new.lines ≡ self.old.lines) × (self.new.status ≡ self.old.status) }
+    {
+        let Some(left) = self.senders.told.len().checked_sub(2) else {
+            return;
+        };
+        if let Some(ToldSender { read: Ok(read), .. }) = self.senders.told.get_mut(left) {
+            read.note = routes;
+        }
     }
 
     /// Tells of a sender that has no fellow, unless it is refused.

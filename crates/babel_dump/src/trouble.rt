@@ -2,6 +2,7 @@
 ghost use Rattle.std.specs.Prelude.{◌≡◌, None};
 ghost use Rattle.std.specs.Option.{option_copied};
 ghost use Rattle.babel_dump.specs.AskedRun.{misplaced_told};
+ghost use Rattle.babel_dump.specs.EventsCause.{TellsFault};
 ghost use Rattle.babel_dump.specs.Trouble.{refused_status, trouble_status, unwritten_status};
 
 use crate::asked::Asked;
@@ -27,8 +28,8 @@ use std::io::ErrorKind;
 pub enum Trouble {
     /// This option is for captures alone, and was given for a dump.
     Misplaced(&'static str),
-    /// What has no `--from` is a dump.
-    NoSender,
+    /// What has no `--from` on this side is a dump.
+    NoSender(Side),
     /// What has no `--from` is a capture in which not one sender alone announces, but so many do.
     NotOneSender(usize),
     /// What has no `--from` can't be read twice, to find the sender first.
@@ -44,6 +45,8 @@ pub enum Trouble {
     Fault(RunFault),
     /// The TLVs of a sender in a capture are refused.
     Sender {
+        /// The capture that has it, of two.
+        side: Side,
         origin: Origin,
         /// The name of its interface, as the capture has it, once that is told.
         name: Option<Vec<u8>>,
@@ -52,10 +55,15 @@ pub enum Trouble {
 }
 
 impl From<AllocError> for Trouble {
-    ghost use Rattle.std.specs.Prelude.{◌≡◌, None};
-    ghost use Rattle.babel_dump.specs.AskedRun.{misplaced_told};
+    ghost use Rattle.std.specs.Prelude.{◌≡◌};
+    ghost use Rattle.babel_tlv.specs.declared.fault.Fault.TheVariants as faults;
+    ghost use Rattle.babel_dump.specs.declared.input_fault.InputFault.TheVariants as input_faults;
+    ghost use Rattle.babel_dump.specs.declared.run_fault.RunFault.TheVariants as run_faults;
+    ghost use Rattle.babel_dump.specs.declared.run_fault.Side.TheVariants as sides;
+    ghost use Rattle.babel_dump.specs.declared.trouble.Trouble.TheVariants as troubles;
 
-    ghost from_gives = { λ _ trouble. misplaced_told trouble ≡ None };
+    ghost from_gives = { λ _ trouble. trouble
+        ≡ troubles.Fault (run_faults.Input sides.First (input_faults.Dump faults.Memory)) };
 
     fn from(error: AllocError) -> Trouble {
         Trouble::Fault(RunFault::from(error))
@@ -69,18 +77,35 @@ impl From<RunFault> for Trouble {
 }
 
 impl From<InputFault> for Trouble {
+    ghost use Rattle.babel_dump.specs.EventsCause.{TellsFault};
+    ghost use Rattle.babel_dump.specs.declared.run_fault.Side.TheVariants as sides;
+
+    ghost from_gives = { TellsFault sides.First };
+
     fn from(fault: InputFault) -> Trouble {
         Trouble::of_input(Side::First, fault, ("--since", "--until"))
     }
 }
 
 impl From<WriteFailed> for Trouble {
+    ghost use Rattle.std.specs.Prelude.{◌≡◌};
+    ghost use Rattle.babel_dump.specs.declared.run_fault.RunFault.TheVariants as run_faults;
+    ghost use Rattle.babel_dump.specs.declared.trouble.Trouble.TheVariants as troubles;
+
+    ghost from_gives = { λ _ trouble. trouble ≡ troubles.Fault run_faults.Write };
+
     fn from(failed: WriteFailed) -> Trouble {
         Trouble::Fault(RunFault::from(failed))
     }
 }
 
 impl From<Unheard> for Trouble {
+    ghost use Rattle.std.specs.Prelude.{◌≡◌};
+    ghost use Rattle.babel_dump.specs.Followed.{trouble_of};
+    ghost use Rattle.babel_dump.specs.declared.stop.Stop.TheVariants as stops;
+
+    ghost from_gives = { λ fault trouble. trouble ≡ trouble_of (stops.Unheard fault) };
+
     fn from(fault: Unheard) -> Trouble {
         match fault {
             Unheard::Memory => Trouble::from(AllocError),
@@ -92,6 +117,11 @@ impl From<Unheard> for Trouble {
 }
 
 impl From<Stop> for Trouble {
+    ghost use Rattle.std.specs.Prelude.{◌≡◌};
+    ghost use Rattle.babel_dump.specs.Followed.{trouble_of};
+
+    ghost from_gives = { λ stop trouble. trouble ≡ trouble_of stop };
+
     fn from(fault: Stop) -> Trouble {
         match fault {
             Stop::Unheard(fault) => Trouble::from(fault),
@@ -113,8 +143,11 @@ impl From<Stop> for Trouble {
 
 impl Trouble {
     /// That of a sender whose TLVs are refused; the name of its interface is not told yet.
-    pub(crate) fn of_sender(origin: Origin, fault: InputFault) -> Trouble {
+    pub(crate) fn of_sender(origin: Origin, fault: InputFault) -> Trouble
+        ensures { result ≡ Trouble.Sender Side.First origin None fault }
+    {
         Trouble::Sender {
+            side: Side::First,
             origin,
             name: None,
             fault,
@@ -138,6 +171,7 @@ impl Trouble {
     ) -> Trouble
         ensures status { trouble_status None result ≡ refused_status fault }
         ensures placed { misplaced_told result ≡ None }
+        ensures tells { TellsFault side fault result }
     {
         if fault.is_empty_window() {
             let (since, until) = options;
@@ -154,7 +188,7 @@ impl Trouble {
     {
         match self {
             Trouble::Misplaced(_)
-            | Trouble::NoSender
+            | Trouble::NoSender(_)
             | Trouble::NotOneSender(_)
             | Trouble::ReadOnce
             | Trouble::Backwards { .. } => 2,
@@ -173,10 +207,17 @@ impl Trouble {
         match self {
             Trouble::Fault(RunFault::Input(_, InputFault::Dump(Fault::TooManyPairs)))
                 if asked.compares() => None,
-            Trouble::Fault(RunFault::Input(Side::First, _)) | Trouble::Sender { .. } => {
-                Some(asked.file())
-            }
-            Trouble::Fault(RunFault::Input(Side::Other, _) | RunFault::Pairs(_)) => asked.other(),
+            Trouble::Fault(RunFault::Input(Side::First, _))
+            | Trouble::Sender {
+                side: Side::First,
+                ..
+            } => Some(asked.file()),
+            Trouble::NoSender(Side::Other)
+            | Trouble::Fault(RunFault::Input(Side::Other, _) | RunFault::Pairs(_))
+            | Trouble::Sender {
+                side: Side::Other,
+                ..
+            } => asked.other(),
             _ => None,
         }
     }
@@ -212,8 +253,13 @@ pub fn say_trouble<S: Says, R: Watched>(
             explain(says, asked, *side, fault, reader);
         }
         Trouble::Fault(RunFault::Pairs(fault)) => explain_pairs(says, asked, fault, other),
-        Trouble::Sender { origin, fault, .. } => {
-            say_hint(says, &Hint::of(asked, Side::First, fault, &[]));
+        Trouble::Sender {
+            side,
+            origin,
+            fault,
+            ..
+        } => {
+            say_hint(says, &Hint::of(asked, *side, fault, &[]));
             say_hint(says, &Hint::of_offset_in(*origin, fault));
         }
         Trouble::TooManyRoutes => say_hint(says, &Hint::of_routes(asked)),
@@ -252,7 +298,7 @@ fn say_line<S: Says>(says: &mut S, asked: &Asked, trouble: &Trouble) {
         Trouble::Misplaced(option) => {
             says.say(&format_args!("{file}{option} is for captures, and this is a dump"));
         }
-        Trouble::NoSender => says.say(&format_args!("{file}a dump needs --from")),
+        Trouble::NoSender(side) => says.say(&format_args!("{file}{side}a dump needs --from")),
         Trouble::NotOneSender(0) => says.say(&"--from is needed: no sender announces here"),
         Trouble::NotOneSender(senders) => {
             says.say(&format_args!("--from is needed: {senders} senders announce here"));
@@ -264,6 +310,7 @@ fn say_line<S: Says>(says: &mut S, asked: &Asked, trouble: &Trouble) {
         Trouble::TooManyRoutes => says.say(&format_args!("{file}too many routes")),
         Trouble::Fault(fault) => says.say(&format_args!("{file}{fault}")),
         Trouble::Sender {
+            side,
             origin,
             name,
             fault,
@@ -271,7 +318,7 @@ fn say_line<S: Says>(says: &mut S, asked: &Asked, trouble: &Trouble) {
             let name = name.as_deref().unwrap_or(&[]);
             let origin = *origin;
             let sender = NamedOrigin { origin, name };
-            says.say(&format_args!("{file}{sender}: {fault}"));
+            says.say(&format_args!("{file}{side}{sender}: {fault}"));
         }
         Trouble::Sender { fault, .. } => says.say(&format_args!("{file}{fault}")),
     }

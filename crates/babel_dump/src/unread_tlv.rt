@@ -1,7 +1,9 @@
 //! The first TLV of a packet that is ignored, and the packet up to there.
-ghost use Rattle.std.specs.Prelude.{◌≡◌, ◌+◌, ◌^◌, ◌<◌, ◌≤◌, IfOk, drop, length, take};
+ghost use Rattle.std.specs.Prelude.{◌≡◌, ◌+◌, ◌^◌, ◌<◌, ◌≤◌, IfErr, IfOk, drop, length};
+ghost use Rattle.std.specs.Prelude.{take};
 ghost use Rattle.babel_tlv.specs.FrameFaults.{AreTlvs};
 ghost use Rattle.babel_tlv.specs.Framing.{framed, tlvs_of};
+ghost use Rattle.babel_dump.specs.EventsCause.{RefusesAlone, RefusesTlvIn};
 ghost use Rattle.babel_dump.specs.StrictPackets.{IsFirstIn, IsFirstOf};
 
 use crate::ignored::{IgnoredTlv, first_ignored};
@@ -24,13 +26,16 @@ impl UnreadTlv {
     /// The first TLV of a packet that is ignored, where the packet's first octet lies at this
     /// offset; or why the packet is refused, by itself, before it.
     pub(crate) fn first(start: &Start, at: u64, packet: &[u8]) -> Result<Option<UnreadTlv>, Fault>
-        ensures { IfOk result (IsFirstOf start.now at packet.now) }
+        ensures first { IfOk result (IsFirstOf start.now at packet.now) }
+        ensures refused { IfErr result (RefusesAlone start.now at packet.now) }
     {
         let Some(_end) = at.checked_add(packet.len() as u64) else {
             return Err(Fault::TooLong);
         };
-        let Frame::Whole { body, .. } = frame(packet, at) else {
-            return Err(Fault::Truncated { at });
+        let body = match frame(packet, at) {
+            Frame::Whole { body, .. } => body,
+            Frame::More => return Err(Fault::Truncated { at }),
+            Frame::Bad(fault) => return Err(fault),
         };
         check_body(body, at + 4)?;
         UnreadTlv::first_in(start, at + 4, body)
@@ -40,7 +45,8 @@ impl UnreadTlv {
     fn first_in(start: &Start, at: u64, body: &[u8]) -> Result<Option<UnreadTlv>, Fault>
         requires fits { at + length body.now < 2 ^ 64 }
         requires whole { AreTlvs at body.now (tlvs_of at body.now) }
-        ensures { IfOk result (IsFirstIn start.now at body.now) }
+        ensures first { IfOk result (IsFirstIn start.now at body.now) }
+        ensures refused { IfErr result (RefusesTlvIn start.now (tlvs_of at body.now)) }
     {
         let mut report = Report::new();
         let mut state = State::at(*start);

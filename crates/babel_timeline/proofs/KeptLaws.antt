@@ -5,7 +5,7 @@ use Rattle.std.specs.declared.cmp.Ordering.{Ordering}
 use Rattle.std.specs.declared.cmp.Ordering.TheVariants.{Less, Equal, Greater}
 use Rattle.std.specs.Ordering.{is_eq, is_gt, match_ordering, nat_cmp, ordering_reverse, ordering_then}
 use Rattle.std.specs.Cmp.{IsTotalOrder}
-use Rattle.std.specs.BTreeMap.{insert_entry, is_at}
+use Rattle.std.specs.BTreeMap.{BTreeMap, get, insert_entry, is_at}
 use Rattle.std.specs.BTreeSet.{BTreeSet, contains}
 use Rattle.std.specs.List.{list_any}
 use Rattle.std.specs.List.Sorted.{IsStrictlySortedBy}
@@ -18,7 +18,7 @@ use Rattle.std.proofs.lemmas.List.{length-map}
 use Rattle.std.proofs.lemmas.Map.{length-set_value, lookup-set_value}
 use Rattle.std.proofs.lemmas.Map.Entries.{sum_by-set_value}
 use Rattle.std.proofs.lemmas.Map.Lookups.{CmpEqualImpliesEq}
-use Rattle.std.proofs.lemmas.Map.Made.{lookup-map_values}
+use Rattle.std.proofs.lemmas.Map.Made.{is_some-lookup, lookup-map_values}
 use Rattle.std.proofs.lemmas.Map.Steps.{set_value_same}
 use Rattle.babel_prefix.proofs.Insertion.{below_all, equal_of}
 use Rattle.babel_tlv.specs.Keys.{key_cmp}
@@ -28,7 +28,7 @@ use Rattle.babel_timeline.specs.declared.entry.Entry.{Entry}
 use Rattle.babel_timeline.specs.declared.queue.Expiry.{Expiry}
 use Rattle.babel_timeline.specs.declared.row.Row.{Row}
 use Rattle.babel_timeline.specs.declared.subject.Subject.{Subject}
-use Rattle.babel_timeline.specs.Kept.{AreQueued, IsBy, IsInTime, IsKept, IsSoonest, NoneBy, Waiting, entry_of, expiring, is_due, is_expiry, is_time, queued_at}
+use Rattle.babel_timeline.specs.Kept.{AreQueued, IsBy, IsInTime, IsKept, IsSoonest, NoneBy, Waiting, entry_of, expiring, is_due, is_expiry, is_time, keys_in, queued_at}
 use Rattle.babel_timeline.specs.Places.{Entries, rows_of}
 use Rattle.babel_timeline.specs.Rows.{AllLast, Ends, EndsFirst, Rows, end_of, expiry_cmp, expiry_of, row_at, subject_cmp}
 use Rattle.babel_timeline.proofs.Subjects.{Becomes, becomes_cases, becomes_inserted, becomes_removed, same_of, same_self, subject_exact, subject_total}
@@ -143,6 +143,35 @@ module _ {K X : Type 0} (R : K → K → Ordering) (key : K) where
       by again Greater o =
           ap (λ (es : List (K × X)). e ∷ es)
           (again (sym (ap (λ (b : Bool). cond b (Some e.1) (lookup (is_at (R key)) entries)) (ap is_eq o)) ∙ is))
+
+  -- one that is put where there was none, and taken out again, leaves the entries as they were
+  pub remove_inserted : is_at (R key) key ≡ true → (entries : List (K × X)) (value : X) → lookup (is_at (R key)) entries ≡ None → remove_entry (is_at (R key)) (insert_entry R entries key value) ≡ entries
+  remove_inserted here [] value none = ap (λ (b : Bool). cond b [] ((key, value) ∷ [])) here
+  remove_inserted here (e ∷ entries) value none = by (remove_inserted here entries value) (R key e.0) refl
+    where
+      by : (lookup (is_at (R key)) entries ≡ None → remove_entry (is_at (R key)) (insert_entry R entries key value) ≡ entries) → (o : Ordering) → R key e.0 ≡ o
+          → remove_entry (is_at (R key)) (match_ordering o ((key, value) ∷ e ∷ entries) ((e.0, value) ∷ entries) (e ∷ insert_entry R entries key value)) ≡ e ∷ entries
+      by again Less o = ap (λ (b : Bool). cond b (e ∷ entries) ((key, value) ∷ remove_entry (is_at (R key)) (e ∷ entries))) here
+      by again Equal o = let is : Some e.1 ≡ None = sym (ap (λ (b : Bool). cond b (Some e.1) (lookup (is_at (R key)) entries)) (ap is_eq o)) ∙ none in absurd cc
+      by again Greater o =
+          ap (λ (b : Bool). cond b (insert_entry R entries key value) (e ∷ remove_entry (is_at (R key)) (insert_entry R entries key value))) (ap is_eq o)
+          ∙ ap (λ (es : List (K × X)). e ∷ es) (again (sym (ap (λ (b : Bool). cond b (Some e.1) (lookup (is_at (R key)) entries)) (ap is_eq o)) ∙ none))
+
+-- ---- the keys of a map
+
+module _ {K X : Type 0} (R : K → K → Ordering) where
+  pub keys_have : (map : BTreeMap K X) (key : K) → is_some (get R map key) ≡ contains R (keys_in map) key
+  keys_have map key = is_some-lookup (is_at (R key)) map.entries
+
+  -- what a map has besides, or has no more, its keys have, or have no more
+  pub keys_updated : (old new : BTreeMap K X) (key : K) (value : Option X) → ((q : K) → get R new q ≡ cond (is_at (R key) q) value (get R old q)) → (other : K)
+      → contains R (keys_in new) other ≡ cond (is_at (R key) other) (is_some value) (contains R (keys_in old) other)
+  keys_updated old new key value updates other =
+      sym (keys_have new other) ∙ ap is_some (updates other) ∙ by (is_at (R key) other) ∙ ap (λ (b : Bool). cond (is_at (R key) other) (is_some value) b) (keys_have old other)
+    where
+      by : (b : Bool) → is_some (cond b value (get R old other)) ≡ cond b (is_some value) (is_some (get R old other))
+      by true = refl
+      by false = refl
 
 -- ---- rows of entries
 
@@ -421,24 +450,12 @@ module _ {S : Type 0} (cmp : S → S → Ordering) (total : IsTotalOrder cmp) (e
       ];
     }
 
-    -- an entry that could not be added is taken out of the queue
-    pub undone : (entries : Entries S) (old between new : BTreeSet (Expiry S)) (subject : Subject S) (entry : Entry) → AreQueued cmp factor entries old
-        → entry_of cmp entries subject ≡ None → Moves cmp subject None entry.queued old between → TakesOut cmp subject entry.queued between new → AreQueued cmp factor entries new
-    undone entries old between new subject entry queue absent moves takes =
-        let more : Entries S = insert_entry (subject_cmp cmp) entries subject entry in
-        let becomes : Becomes cmp entries subject (Some entry) more = becomes_inserted cmp total entries subject entry in
-        let here : entry_of cmp more subject ≡ Some entry = becomes subject ∙ ap (λ (b : Bool). cond b (Some entry) (entry_of cmp entries subject)) (same_self cmp total subject) in
-        let back : Becomes cmp more subject None entries = λ other. elim (becomes_cases cmp exact entries subject (Some entry) more becomes other) [
-          | inl hit ↦
-              ap (λ (s : Subject S). entry_of cmp entries s) (sym hit.0) ∙ absent
-              ∙ sym (ap (λ (b : Bool). cond b None (entry_of cmp more other)) (same_of cmp total subject other hit.0))
-          | inr miss ↦ sym miss.1 ∙ sym (ap (λ (b : Bool). cond b None (entry_of cmp more other)) miss.0)
-        ] in
-        record {
-          queued = taken more entries between new subject entry.queued (moved entries more old between subject entry None queue.queued (sym (ap queued_at absent)) moves becomes)
-              (sym (ap queued_at here)) takes back;
-          in_time = queue.in_time;
-        }
+    -- an entry that was added is taken out again
+    pub put_back : (entries found added taken : Entries S) (subject : Subject S) (entry : Entry) → entry_of cmp entries subject ≡ None → found ≡ entries
+        → added ≡ insert_entry (subject_cmp cmp) found subject entry → taken ≡ remove_entry (is_at (subject_cmp cmp subject)) added → taken ≡ entries
+    put_back entries found added taken subject entry none same adds takes =
+        takes ∙ ap (λ (es : Entries S). remove_entry (is_at (subject_cmp cmp subject)) es) (adds ∙ ap (λ (es : Entries S). insert_entry (subject_cmp cmp) es subject entry) same)
+        ∙ remove_inserted (subject_cmp cmp) subject (same_self cmp total subject) entries entry none
 
     -- ---- what ends first
 

@@ -2,9 +2,9 @@
 -- is queued, and is queued for its own end once it comes first.
 use Rattle.std.specs.Prelude.{◌≡◌, ℕ, ◌<◌, ◌≤◌, Bool, true, false, ◌==◌, ◌&&◌, length, Option, Some, None}
 use Rattle.std.specs.declared.cmp.Ordering.{Ordering}
-use Rattle.std.specs.BTreeMap.{is_at}
+use Rattle.std.specs.BTreeMap.{BTreeMap, is_at}
 use Rattle.std.specs.BTreeSet.{BTreeSet, contains}
-use Rattle.std.specs.Map.{lookup}
+use Rattle.std.specs.Map.{keys_of, lookup}
 use Rattle.babel_timeline.specs.declared.entry.Entry.{Entry}
 use Rattle.babel_timeline.specs.declared.queue.Expiry.{Expiry}
 use Rattle.babel_timeline.specs.declared.subject.Subject.{Subject}
@@ -34,6 +34,10 @@ IsInTime factor entry =
 -- the subject of an expiry
 abbrev pub expiring : {S : Type 0} → Expiry S → Subject S
 expiring expiry = subject_of expiry.sender expiry.key
+
+-- the keys of a map
+abbrev pub keys_in : {K X : Type 0} → BTreeMap K X → BTreeSet K
+keys_in map = record { keys = keys_of map.entries }
 
 -- what is queued
 pub record Waiting (S : Type 0) : Type 0 where

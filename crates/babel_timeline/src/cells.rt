@@ -215,11 +215,19 @@ impl<S: Sender> Cells<S> {
         ensures rising { IsStrictlySortedBy (subject_cmp S.cmp) (keys_of self.new) }
     {
         let next = self.last.saturating_add(1);
-        let guess = if holds(&self.cells, next, subject) {
-            next
-        } else {
-            self.last
-        };
+        if holds(&self.cells, next, subject) {
+            self.last = next;
+            return Some(self.cells[next].entry);
+        }
+        self.find_at(self.last, subject)
+    }
+
+    /// The same where it is looked for at this place first.
+    pub(crate) fn find_at(&mut self, guess: usize, subject: &Subject<S>) -> Option<Entry>
+        ensures entry { result ≡ lookup (is_at (subject_cmp S.cmp subject.now)) self.old }
+        ensures same { self.new ≡ self.old }
+        ensures rising { IsStrictlySortedBy (subject_cmp S.cmp) (keys_of self.new) }
+    {
         let place = place_of(&self.places, &self.cells, guess, subject)?;
         self.last = place;
         Some(self.cells[place].entry)

@@ -10,7 +10,7 @@ use crate::sender::Sender;
 use crate::subject::Subject;
 use babel_tlv::Key;
 use std::alloc::{AllocError, Global};
-use std::collections::BTreeSet;
+use std::collections::BTreeMap;
 use std::marker::Model;
 
 /// When a subject is looked at. Ordered by time, then by key, then by sender.
@@ -47,19 +47,22 @@ impl<S: Sender> Expiry<S> {
 /// The subjects that are to be looked at, each at one time.
 #[derive(Drop)]
 pub(crate) struct Queue<S: Sender> {
-    expiries: BTreeSet<Expiry<S>>,
+    /// With the place at which the entry of each most likely stands.
+    places: BTreeMap<Expiry<S>, usize>,
     /// Before this time there is none.
     soonest: u128,
+    /// The place at which the entry of the first that was found most likely stands.
+    place: usize,
 }
 
 impl<S: Sender> Model for Queue<S> {
-    ghost use Rattle.babel_timeline.specs.Kept.{IsSoonest, Waiting};
+    ghost use Rattle.babel_timeline.specs.Kept.{IsSoonest, Waiting, keys_in};
 
     ghost Value = { Waiting S };
 
-    ghost view = { λ q. record { expiries = q.expiries } };
+    ghost view = { λ q. record { expiries = keys_in q.places } };
 
-    ghost invariant = { λ q. IsSoonest S.cmp q.soonest q.expiries };
+    ghost invariant = { λ q. IsSoonest S.cmp q.soonest (keys_in q.places) };
 }
 
 impl<S: Sender> Queue<S> {
@@ -68,8 +71,9 @@ impl<S: Sender> Queue<S> {
         ensures { IsEmpty result.expiries }
     {
         Queue {
-            expiries: BTreeSet::new(alloc),
+            places: BTreeMap::new(alloc),
             soonest: u128::MAX,
+            place: 0,
         }
     }
 
@@ -94,7 +98,9 @@ impl<S: Sender> Queue<S> {
         if self.is_quiet(until) {
             return None;
         }
-        let first = *self.expiries.first()?;
+        let (expiry, place) = self.places.first_key_value()?;
+        let first = *expiry;
+        self.place = *place;
         self.soonest = first.time;
         if until < first.time {
             return None;
@@ -102,8 +108,19 @@ impl<S: Sender> Queue<S> {
         Some(first)
     }
 
-    /// The subject is looked at at this time, if any, besides when it is already.
-    pub(crate) fn put(&mut self, subject: &Subject<S>, time: Option<u128>) -> Result<(), AllocError>
+    /// The place at which the entry most likely stands of what was found to be first.
+    pub(crate) fn place(&self) -> usize {
+        self.place
+    }
+
+    /// The subject is looked at at this time, if any, besides when it is already. Its entry most
+    /// likely stands at this place.
+    pub(crate) fn put(
+        &mut self,
+        subject: &Subject<S>,
+        time: Option<u128>,
+        place: usize,
+    ) -> Result<(), AllocError>
         ensures ok { OnOk result ((other : Queued S)
             → contains (expiry_cmp S.cmp) self.new.expiries other
             ≡ is_expiry S.cmp subject.now time other
@@ -111,8 +128,10 @@ impl<S: Sender> Queue<S> {
         ensures err { OnErr result (self.new.expiries.keys ≡ self.old.expiries.keys) }
     {
         if let Some(time) = time {
-            self.expiries.insert(Expiry::new(time, subject))?;
-            self.soonest = self.soonest.min(time);
+            match self.places.insert(Expiry::new(time, subject), place) {
+                Ok(_) => self.soonest = self.soonest.min(time),
+                Err(_) => return Err(AllocError),
+            }
         }
         Ok(())
     }
@@ -124,16 +143,18 @@ impl<S: Sender> Queue<S> {
             && contains (expiry_cmp S.cmp) self.old.expiries other }
     {
         if let Some(time) = time {
-            self.expiries.remove(&Expiry::new(time, subject));
+            self.places.remove(&Expiry::new(time, subject));
         }
     }
 
-    /// The subject is looked at at the second time, if any, in place of the first, if any.
+    /// The subject is looked at at the second time, if any, in place of the first, if any. Its
+    /// entry most likely stands at this place.
     pub(crate) fn move_to(
         &mut self,
         subject: &Subject<S>,
         from: Option<u128>,
         to: Option<u128>,
+        place: usize,
     ) -> Result<(), AllocError>
         requires { (other : Queued S) → is_expiry S.cmp subject.now from other ≡ true
             → contains (expiry_cmp S.cmp) self.old.expiries other ≡ true }
@@ -145,7 +166,7 @@ impl<S: Sender> Queue<S> {
         ensures err { OnErr result (self.new.expiries.keys ≡ self.old.expiries.keys) }
     {
         if from != to {
-            self.put(subject, to)?;
+            self.put(subject, to, place)?;
             self.take_out(subject, from);
         }
         Ok(())

@@ -67,12 +67,18 @@ fn are_one<S: Sender>(sender: S, other: S) -> bool
     sender == other
 }
 
-/// The earlier of two times, where there are two, or the one that there is.
-fn earlier(end: Option<u128>, queued: Option<u128>) -> Option<u128>
+/// For when a row is queued that is announced at this time and ends then, where it was queued
+/// before. It stays where it is, if that is no later than its end; else it comes half the way
+/// earlier than it must, so that ends that come ever sooner don't move it each time.
+fn queued_for(now: u128, end: Option<u128>, queued: Option<u128>) -> Option<u128>
     ensures { (time : ℕ) → end ≡ Some time → IsBy time result }
 {
     match (end, queued) {
-        (Some(end), Some(queued)) => Some(end.min(queued)),
+        (Some(end), Some(queued)) => Some(if queued <= end {
+            queued
+        } else {
+            end - end.saturating_sub(now) / 2
+        }),
         (None, queued) => queued,
         (end, None) => end,
     }
@@ -96,13 +102,13 @@ fn settle<S: Sender>(
 {
     while let Some(first) = queue.first_by(until) {
         let subject = first.subject();
-        let entry = cells.find(&subject).unwrap();
+        let entry = cells.find_at(queue.place(), &subject).unwrap();
         let row = entry.row;
         let end = row.end(factor);
         if entry.queued == end {
             return Ok(Some(first));
         }
-        queue.move_to(&subject, entry.queued, end)?;
+        queue.move_to(&subject, entry.queued, end, cells.last())?;
         cells.replace(&subject, &Entry { row, queued: end });
     }
     Ok(None)
@@ -193,17 +199,19 @@ impl<S: Sender> Timeline<S> {
         let row = *row;
         let end = row.end(self.factor);
         let Some(before) = self.cells.find(subject) else {
-            self.queue.put(subject, end)?;
-            return match self.cells.add(subject, &Entry { row, queued: end }) {
+            self.cells.add(subject, &Entry { row, queued: end })?;
+            let place = self.cells.last();
+            return match self.queue.put(subject, end, place) {
                 Ok(()) => Ok(None),
                 Err(_) => {
-                    self.queue.take_out(subject, end);
+                    self.cells.take(subject);
                     Err(AllocError)
                 }
             };
         };
-        let queued = earlier(end, before.queued);
-        self.queue.move_to(subject, before.queued, queued)?;
+        let queued = queued_for(row.when.time(), end, before.queued);
+        let place = self.cells.last();
+        self.queue.move_to(subject, before.queued, queued, place)?;
         self.cells.replace(subject, &Entry { row, queued });
         Ok(Some(before.row))
     }

@@ -6,7 +6,7 @@ use Rattle.babel_dump.proofs.events.Followed.follow.Given as goal
 
 abbrev pub invariant-reads : goal.invariant-reads
 invariant-reads g l = record {
-  followed : IsFollowedSoFar l.events (g.R.ByteIn.state l.initial.reader) (g.R.ByteIn.state l.reader) (output (g.W.ByteOut.state l.initial.writer) (g.W.ByteOut.state l.writer)) l.self;
+  followed : IsFollowedSoFar l.events (g.R.ByteIn.state l.initial.reader) (g.R.ByteIn.state l.reader) (output (g.W.ByteOut.state l.initial.writer) (g.W.ByteOut.state l.writer)) l.counter l.self;
   told : l.self.follower.told.items ≡ [];
   empty : l.self.buffer.items ≡ [];
   room : 512 ≤ vec_capacity l.self.buffer;

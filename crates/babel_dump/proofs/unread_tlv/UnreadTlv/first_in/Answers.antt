@@ -7,7 +7,9 @@ use Rattle.babel_tlv.specs.Left.{tlvs_left}
 use Rattle.babel_table.specs.Counts.{Counts}
 use Rattle.babel_table.proofs.TookLaws.{length-tlvs_of}
 use Rattle.babel_dump.specs.Ignored.{IgnoresNone}
-use Rattle.babel_dump.proofs.UnreadTlvs.{none_of_none, not_before, read_more, read_none, refused_here}
+use Rattle.babel_dump.proofs.UnreadTlvs.{none_of_none, not_before, read_more, read_none, read_refused, refused_here}
+use Rattle.babel_dump.proofs.EventCauses.{err_exit}
+use Rattle.babel_dump.specs.EventsCause.{RefusesTlvIn}
 use Rattle.babel_dump.proofs.unread_tlv.UnreadTlv.first_in.Goals as goal
 
 pub loop-next-init : goal.loop-next-init
@@ -26,8 +28,8 @@ overflow_sub-result c =
     not_before c.args.start.now (tlvs_of c.args.at c.args.body.now) c.loop-next.state (tlv_value c.in-Some.next) (event_of c.in_ok-kind.kind c.step_into.new.route) (tlvs_left c.loop-next.tlvs) (tlvs_left c.advance.new.self) c.loop-next.report c.count.new.self
     c.loop-next.invariant.to c.in-Some.ensures.next c.in_ok-kind.ensures.said (c.count.ensures c.step_into.new.route) c.args.at c.requires.whole.placed
 
-pub returns-in-Some-first_ignored : goal.returns-in-Some-first_ignored
-returns-in-Some-first_ignored c =
+pub returns-in-Some-first_ignored-clause-first : goal.returns-in-Some-first_ignored-clause-first
+returns-in-Some-first_ignored-clause-first c =
     refused_here c.args.start.now (tlvs_of c.args.at c.args.body.now) c.loop-next.state (tlv_value c.in-Some.next) (event_of c.in_ok-kind.kind c.step_into.new.route) (tlvs_left c.loop-next.tlvs) (tlvs_left c.advance.new.self) c.loop-next.report c.count.new.self
     c.loop-next.invariant.to c.in-Some.ensures.next c.in_ok-kind.ensures.said (c.count.ensures c.step_into.new.route) c.args.at c.requires.whole.placed c.loop-next.invariant.none
     (record { before = c.in-Some.next.at - c.args.at; tlv = c.in-Some-first_ignored.tlv; ignores_encoding_4 = c.ignores_encoding_4.result }) (search rules) c.ignores_encoding_4.ensures refl
@@ -39,3 +41,9 @@ loop-next-preserved c = record {
   none = search rules;
   room = omega (arith, ap length c.in-Some.ensures.next, ap (λ (n : Counts). n.tlvs) (c.count.ensures c.step_into.new.route), c.loop-next.invariant.room);
 }
+
+pub returns-in_err-kind-clause-refused : goal.returns-in_err-kind-clause-refused
+returns-in_err-kind-clause-refused c =
+    err_exit c.from_residual.result c.from_residual.ensures.1 (λ fault same. subst (RefusesTlvIn c.args.start.now (tlvs_of c.args.at c.args.body.now)) (sym same)
+    (read_refused c.args.start.now (tlvs_of c.args.at c.args.body.now) c.loop-next.state (tlv_value c.in-Some.next) (tlvs_left c.loop-next.tlvs) (tlvs_left c.advance.new.self) c.loop-next.report _
+    c.loop-next.invariant.to c.in-Some.ensures.next c.in_err-kind.ensures.said))

@@ -1,30 +1,16 @@
--- The entry stands in the subject's place.
-use Rattle.std.proofs.Common.{arith, subst, sym, ◌∙◌}
-use Rattle.std.specs.List.Sorted.{IsStrictlySortedBy}
-use Rattle.std.specs.Map.{keys_of}
-use Rattle.babel_timeline.specs.Places.{Entries}
-use Rattle.babel_timeline.specs.Rows.{subject_cmp}
-use Rattle.babel_timeline.proofs.PlaceLaws.{absent, present, rising_entries, within}
+-- The entry stands in the next place, or is found.
+use Rattle.std.proofs.Common.{List, subst, sym}
+use Rattle.babel_timeline.specs.Places.{Holds}
+use Rattle.babel_timeline.specs.declared.cells.Cell.{Cell}
+use Rattle.babel_timeline.proofs.PlaceLaws.{present, rising_entries}
 use Rattle.babel_timeline.proofs.cells.Cells.find.Goals as goal
 
-pub returns-in_err-place-clause-entry : goal.returns-in_err-place-clause-entry
-returns-in_err-place-clause-entry g c =
-    c.from_residual.ensures
-    ∙ sym (absent g.met.S.Ord.total g.met.S.Sender.exact c.self.invariant c.self.view_is c.args.subject.now (sym c.in_err-place.ensures))
+pub returns-then-holds-clause-entry : goal.returns-then-holds-clause-entry
+returns-then-holds-clause-entry g c =
+    let here : Holds c.self.inside.cells.items c.args.subject.now c.saturating_add-next.result =
+    subst (λ (cells : List (Cell g.row.S.Denot)). Holds cells c.args.subject.now c.saturating_add-next.result) c.deref.ensures.value (c.holds.ensures.0 c.if-holds.true) in
+    sym (present g.met.S.Ord.total g.met.S.Sender.exact c.self.invariant c.self.view_is c.args.subject.now c.saturating_add-next.result
+    ((c.self.invariant.held c.args.subject.now c.saturating_add-next.result).1 here) c.index.result.now c.index.ensures)
 
-pub returns-in_err-place-clause-rising : goal.returns-in_err-place-clause-rising
-returns-in_err-place-clause-rising g c =
-    subst (λ (entries : Entries g.row.S.Denot). IsStrictlySortedBy (subject_cmp g.S.Ord.cmp) (keys_of entries)) c.self.view_is
-    (rising_entries g.met.S.Ord.total g.met.S.Sender.exact c.self.inside.cells.items c.self.inside.places.entries c.self.invariant.rising)
-
-pub index-requires : goal.index-requires
-index-requires g c =
-    omega (arith, c.self.inside.cells.ok.0, within g.met.S.Ord.total g.met.S.Sender.exact c.self.invariant c.args.subject.now c.in_ok-place.place (sym c.in_ok-place.ensures))
-
-pub returns-clause-entry : goal.returns-clause-entry
-returns-clause-entry g c =
-    sym (present g.met.S.Ord.total g.met.S.Sender.exact c.self.invariant c.self.view_is c.args.subject.now c.in_ok-place.place (sym c.in_ok-place.ensures)
-    c.index.result.now c.index.ensures)
-
-pub returns-clause-rising : goal.returns-clause-rising
-returns-clause-rising g c = rising_entries g.met.S.Ord.total g.met.S.Sender.exact c.self.inside.cells.items c.self.inside.places.entries c.self.invariant.rising
+pub returns-then-holds-clause-rising : goal.returns-then-holds-clause-rising
+returns-then-holds-clause-rising g c = rising_entries g.met.S.Ord.total g.met.S.Sender.exact c.self.inside.cells.items c.self.inside.places.entries c.self.invariant.rising

@@ -1,0 +1,170 @@
+-- What `show --origins` and `diff --origins` write. These are this project's own.
+use Rattle.std.specs.Prelude.{ℕ, Bool, true, ◌&&◌, not, ◌==◌, ◌-◌, if◌then◌else◌}
+use Rattle.std.specs.Prelude.{List, [], ◌∷◌, ◌++◌, codes, filter, is_none, is_some, length}
+use Rattle.std.specs.Prelude.{Option, None, Some}
+use Rattle.std.specs.List.{flat_map}
+use Rattle.std.specs.Fmt.{decimal}
+use Rattle.hex.specs.Hex.{encode_lower}
+use Rattle.babel_dump.specs.DiffText.{row_end, row_mark, stat_json, stat_text}
+use Rattle.babel_dump.specs.Files.{name_of}
+use Rattle.babel_dump.specs.InFormat.{in_format}
+use Rattle.babel_dump.specs.JsonText.{addressed_json, kept_json, line_end, quoted}
+use Rattle.babel_dump.specs.KeyText.{file_text}
+use Rattle.babel_dump.specs.RunText.{differences_status, kept_text, newline}
+use Rattle.babel_dump.specs.Spelling.{from_prefix, prefix_text}
+use Rattle.babel_dump.specs.declared.each_sender.EachSender.{EachSender}
+use Rattle.babel_dump.specs.declared.format.Format.{Format}
+use Rattle.babel_dump.specs.declared.format.Format.TheVariants as formats
+use Rattle.babel_dump.specs.declared.job.DiffStyle.{DiffStyle}
+use Rattle.babel_dump.specs.declared.originated.Announced.{Announced}
+use Rattle.babel_dump.specs.declared.originated.OnSides.{OnSides}
+use Rattle.babel_dump.specs.declared.originated.Origination.{Origination}
+use Rattle.babel_dump.specs.declared.origins_job.Origins.{Origins}
+use Rattle.babel_dump.specs.declared.run_fault.Side.{Side}
+use Rattle.babel_dump.specs.declared.run_fault.Side.TheVariants as sides
+use Rattle.babel_dump.specs.declared.spelling.Spelling.{Spelling}
+
+-- the capture on this side, if there is one
+abbrev pub capture_on : Side → Origins → Option EachSender
+capture_on sides.First origins = Some origins.left
+capture_on sides.Other origins = origins.right
+
+-- `DST from SRC id ROUTERID metric N senders N`
+abbrev pub origin_text : Spelling → (has_metric : Bool) → Origination → Announced → List ℕ
+origin_text spelling has_metric one announced =
+    prefix_text spelling one.key.dst ++ from_prefix spelling one.key.src
+    ++ codes " id " ++ encode_lower one.router_id
+    ++ codes " metric " ++ kept_text has_metric (decimal announced.metric)
+    ++ codes " senders " ++ decimal announced.senders
+
+-- `{"destination":"DST","source":"SRC","router_id":"ROUTERID",`
+abbrev pub origin_front : Spelling → Origination → List ℕ
+origin_front spelling one =
+    codes "{" ++ addressed_json (prefix_text spelling one.key.dst) (prefix_text spelling one.key.src)
+    ++ codes ",\"router_id\":\"" ++ encode_lower one.router_id ++ codes "\","
+
+-- `"metric":N,"senders":N`
+abbrev pub origin_members : (has_metric : Bool) → Announced → List ℕ
+origin_members has_metric announced =
+    codes "\"metric\":" ++ kept_json has_metric (decimal announced.metric)
+    ++ codes ",\"senders\":" ++ decimal announced.senders
+
+abbrev pub origin_json : Spelling → Origination → Announced → List ℕ
+origin_json spelling one announced =
+    origin_front spelling one ++ origin_members true announced ++ line_end
+
+-- ---- of one capture
+
+-- a line of what it has
+abbrev pub shown_by : Format → Origination → Option Announced → List ℕ
+shown_by format one None = []
+shown_by (formats.Text spelling) one (Some announced) =
+    origin_text spelling true one announced ++ newline
+shown_by (formats.Json spelling) one (Some announced) = origin_json spelling one announced
+
+abbrev pub shown_in : Format → Origination × OnSides → List ℕ
+shown_in format one = shown_by format one.0 one.1.left
+
+-- ---- of two
+
+-- one has it alone, or another metric counts
+abbrev pub differ_by : (has_metric : Bool) → (left right : Option Announced) → Bool
+differ_by has_metric None right = is_some right
+differ_by has_metric (Some left) None = true
+differ_by has_metric (Some left) (Some right) = has_metric && not (left.metric == right.metric)
+
+abbrev pub differs : (has_metric : Bool) → OnSides → Bool
+differs has_metric one = differ_by has_metric one.left one.right
+
+abbrev pub changes_of : (has_metric : Bool) → List (Origination × OnSides)
+    → List (Origination × OnSides)
+changes_of has_metric all = filter (λ one. differs has_metric one.1) all
+
+-- `-ORIGIN`, `+ORIGIN`, or nothing where the capture on this side does not have it
+abbrev pub marked_origin :
+    DiffStyle → (has_metric : Bool) → Side → Origination → Option Announced → List ℕ
+marked_origin style has_metric side one None = []
+marked_origin style has_metric side one (Some announced) =
+    row_mark style.coloured side ++ origin_text style.spelling has_metric one announced
+    ++ row_end style.coloured
+
+abbrev pub change_line : DiffStyle → (has_metric : Bool) → Origination → OnSides → List ℕ
+change_line style has_metric one on =
+    marked_origin style has_metric sides.First one on.left
+    ++ marked_origin style has_metric sides.Other one on.right
+
+-- `{"metric":N,"senders":N}`, or `null`
+abbrev pub side_json : (has_metric : Bool) → Option Announced → List ℕ
+side_json has_metric None = codes "null"
+side_json has_metric (Some announced) =
+    codes "{" ++ origin_members has_metric announced ++ codes "}"
+
+-- `{"destination":"DST","source":"SRC","router_id":"ROUTERID","left":SIDE,"right":SIDE}`
+abbrev pub change_json : Spelling → (has_metric : Bool) → Origination → OnSides → List ℕ
+change_json spelling has_metric one on =
+    origin_front spelling one ++ codes "\"left\":" ++ side_json has_metric on.left
+    ++ codes ",\"right\":" ++ side_json has_metric on.right ++ line_end
+
+abbrev pub change_in :
+    Format → DiffStyle → (has_metric : Bool) → Origination × OnSides → List ℕ
+change_in (formats.Text spelling) style has_metric one =
+    change_line style has_metric one.0 one.1
+change_in (formats.Json spelling) style has_metric one =
+    change_json spelling has_metric one.0 one.1
+
+-- how many the first has alone, the other alone, both with another metric, and both alike
+abbrev pub numbers_in : Format → (count : ℕ) → List (Origination × OnSides) → List ℕ
+numbers_in format count changes =
+    let gone = length (filter (λ (one : Origination × OnSides). is_none one.1.right) changes) in
+    let new = length (filter (λ (one : Origination × OnSides). is_none one.1.left) changes) in
+    let changed = length changes - gone - new in
+    let alike = count - length changes in
+    in_format format (stat_text gone new changed alike) (stat_json gone new changed alike)
+
+abbrev pub numbers_after :
+    Format → (stat : Bool) → (count : ℕ) → List (Origination × OnSides) → List ℕ
+numbers_after format stat count changes = if stat then numbers_in format count changes else []
+
+-- `--- FILE`, `+++ FILE`
+abbrev pub origin_head : (mark file : List ℕ) → List ℕ
+origin_head mark file = mark ++ file_text file ++ newline
+
+abbrev pub origin_changes : Origins → (count : ℕ) → List (Origination × OnSides) → List ℕ
+origin_changes origins count changes =
+    flat_map (change_in origins.left.format origins.style origins.has_metric) changes
+    ++ numbers_after origins.left.format origins.style.stat count changes
+
+-- nothing where there is no change
+abbrev pub changed_text :
+    Origins → (other_file : List ℕ) → (count : ℕ) → List (Origination × OnSides) → List ℕ
+changed_text origins other_file count [] = []
+changed_text origins other_file count changes =
+    origin_head (codes "--- ") (name_of origins.left.file)
+    ++ origin_head (codes "+++ ") other_file ++ origin_changes origins count changes
+
+-- as JSON an object for each change, and the numbers also where there is none
+abbrev pub changed_in :
+    Format → Origins → (other_file : List ℕ) → (count : ℕ) → List (Origination × OnSides) → List ℕ
+changed_in (formats.Text spelling) origins other_file count changes =
+    changed_text origins other_file count changes
+changed_in (formats.Json spelling) origins other_file count changes =
+    origin_changes origins count changes
+
+-- ---- of either
+
+abbrev pub origins_by : Option EachSender → Origins → List (Origination × OnSides) → List ℕ
+origins_by None origins all = flat_map (shown_in origins.left.format) all
+origins_by (Some right) origins all = changed_in origins.left.format origins (name_of right.file)
+    (length all) (changes_of origins.has_metric all)
+
+abbrev pub origins_in : Origins → List (Origination × OnSides) → List ℕ
+origins_in origins all = origins_by origins.right origins all
+
+-- 1 where there is a change
+abbrev pub status_by : Option EachSender → Origins → List (Origination × OnSides) → ℕ
+status_by None origins all = 0
+status_by (Some right) origins all =
+    differences_status (length (changes_of origins.has_metric all))
+
+abbrev pub origins_status : Origins → List (Origination × OnSides) → ℕ
+origins_status origins all = status_by origins.right origins all
