@@ -18,10 +18,10 @@ use Rattle.babel_dump.proofs.SliceLaws.{broke_on, took_more}
 pub note_parts : (spelling : Spelling) (name : List ℕ) (origin : Origin) (told : SideNote)
     → note_of_sender spelling origin name told
     ≡ (note_front spelling origin told.note ++ opening (formats.Json spelling) name)
-    ++ (escaped (escape (formats.Json spelling)) name ++ (closing (formats.Json spelling) name ++ note_rest told.note))
-note_parts spelling [] origin told = name_between (note_front spelling origin told.note) (codes "null") [] [] (note_rest told.note)
+    ++ (escaped (escape (formats.Json spelling)) name ++ (closing (formats.Json spelling) name ++ note_rest told))
+note_parts spelling [] origin told = name_between (note_front spelling origin told.note) (codes "null") [] [] (note_rest told)
 note_parts spelling (octet ∷ octets) origin told =
-    name_between (note_front spelling origin told.note) (codes "\"") (escaped json_escape (octet ∷ octets)) (codes "\"") (note_rest told.note)
+    name_between (note_front spelling origin told.note) (codes "\"") (escaped json_escape (octet ∷ octets)) (codes "\"") (note_rest told)
 
 -- what was left was written, or the write failed
 pub wrote_rest : {T E : Type 0} (a b c : OutputState) (text left : List ℕ) (r : Result T E) → Took (output a b) text left → WroteFront (output b c) left [] r

@@ -82,11 +82,14 @@ abbrev pub side_member : Side → List ℕ
 side_member sides.First = []
 side_member sides.Other = codes ",\"other\":true"
 
+-- what stands after the name of a note, or of the interface of its sender
+abbrev pub note_rest : SideNote → List ℕ
+note_rest told = note_members told.note ++ side_member told.side ++ codes "}" ++ newline
+
 -- `{"note":"NAME",..}`
 abbrev pub note_json : SideNote → List ℕ
 note_json told =
-    codes "{\"note\":\"" ++ note_name told.note ++ codes "\"" ++ note_members told.note
-    ++ side_member told.side ++ codes "}" ++ newline
+    codes "{\"note\":\"" ++ note_name told.note ++ codes "\"" ++ note_rest told
 
 -- ---- of a sender at its place, whose interface has this name
 
@@ -96,10 +99,7 @@ note_front spelling origin note =
     codes "{\"note\":\"" ++ note_name note ++ codes "\",\"sender\":\""
     ++ address_text spelling origin.sender ++ place_json origin.place
 
-abbrev pub note_rest : Note → List ℕ
-note_rest note = note_members note ++ codes "}" ++ newline
-
 -- `{"note":"NAME","sender":"ADDRESS","interface":N,"link":N,"vlans":[N,N],"name":"NAME",..}`
 abbrev pub note_of_sender : Spelling → Origin → (name : List ℕ) → SideNote → List ℕ
 note_of_sender spelling origin name told =
-    note_front spelling origin told.note ++ name_json name ++ note_rest told.note
+    note_front spelling origin told.note ++ name_json name ++ note_rest told

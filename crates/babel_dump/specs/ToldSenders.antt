@@ -54,7 +54,7 @@ abbrev pub read_of : Result TableText InputFault → Result DumpRead InputFault
 read_of (Ok key) = Ok (record {
   report = key.report;
   expired_rows = key.expired_rows;
-  source = key.source;
+  note = key.source;
 })
 read_of (Err fault) = Err fault
 

@@ -28,7 +28,7 @@ unwritten_status None = 4
 -- where nothing came of it: 2 where the words don't suit the input, or else that of the fault
 abbrev pub trouble_status : (unwritten : Option Error) → Trouble → ℕ
 trouble_status unwritten (troubles.Misplaced option) = 2
-trouble_status unwritten troubles.NoSender = 2
+trouble_status unwritten (troubles.NoSender side) = 2
 trouble_status unwritten (troubles.NotOneSender senders) = 2
 trouble_status unwritten troubles.ReadOnce = 2
 trouble_status unwritten (troubles.Backwards since until) = 2

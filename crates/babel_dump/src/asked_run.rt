@@ -118,7 +118,7 @@ fn tell_senders<R: Read + Drop, S: Read + Drop, W: ByteOut>(
 {
     let begun = Begun::new(reader);
     if let Begins::Dump = begun.begins() {
-        return Err(Trouble::NoSender);
+        return Err(Trouble::NoSender(Side::First));
     }
     let mut pairs = FromReader::new(other);
     each.ask(alloc, &mut pairs)?;
@@ -186,7 +186,7 @@ fn gather_on<R: Read + Drop>(
 {
     let begun = Begun::new(reader);
     if let Begins::Dump = begun.begins() {
-        return Err(Trouble::NoSender);
+        return Err(Trouble::NoSender(side));
     }
     match each.gather(alloc, seed, &mut begun.into_device()) {
         Ok(read) => {

@@ -68,8 +68,9 @@ pub struct DumpRead {
     pub report: Report,
     /// How many rows of its table were not announced again in time, if none was left out for that.
     pub expired_rows: usize,
-    /// That it has routes for other sources than that of its answers.
-    pub source: Option<Note>,
+    /// That it has routes for other sources than that of its answers, or how many differ from those
+    /// of its fellow, which answers the same.
+    pub note: Option<Note>,
 }
 
 impl ToldSender {
@@ -182,7 +183,7 @@ impl Done {
             let read = Ok(DumpRead {
                 report,
                 expired_rows: 0,
-                source: source_note(&other_sources, spelling, &origin),
+                note: source_note(&other_sources, spelling, &origin),
             });
             self.senders.push(ToldSender {
                 origin,
@@ -280,7 +281,7 @@ impl Done {
         for sender in &self.senders {
             if let Ok(read) = sender.read {
                 let notes = &mut self.sender_notes;
-                notes.gather_sender(read)?;
+                notes.gather_sender(sender.side, read)?;
                 notes.write_json_of(&mut FromWriter::new(&mut writer), spelling, sender)?;
             }
         }
@@ -326,7 +327,7 @@ fn say_sender<S: Says>(says: &mut S, asked: &Asked, told: &ToldSender, notes: &m
     };
     match &told.read {
         Ok(read) => {
-            if asked.is_quiet() || notes.gather_sender(*read).is_err() {
+            if asked.is_quiet() || notes.gather_sender(side, *read).is_err() {
                 return;
             }
             for note in notes.list() {

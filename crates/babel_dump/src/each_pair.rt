@@ -13,6 +13,7 @@ use crate::each_sender::EachSender;
 use crate::format::Format;
 use crate::job::{Comparison, other_moment_options};
 use crate::led::{lead_output, push_led};
+use crate::note::Note;
 use crate::run_fault::{RunFault, Side};
 use crate::slices::Found;
 use crate::tasks::found_of_both;
@@ -40,6 +41,8 @@ pub struct EachPair {
 pub(crate) struct PairText {
     pub lines: Vec<u8>,
     pub status: u8,
+    /// How many routes differ where their answers are the same, if any.
+    pub routes: Option<Note>,
 }
 
 impl EachPair {
@@ -136,16 +139,22 @@ impl EachPair {
         ensures status { IfOk result (λ text. text.status ≡ found.outcome.status) }
     {
         let (format, status) = (self.left.format, found.outcome.status);
+        let routes = found.outcome.routes_note();
         let text = text_of(alloc, found)?;
         if let (Comparison::Diff(_), Format::Text(_)) = (self.task, format) {
             return Ok(PairText {
                 lines: text,
                 status,
+                routes,
             });
         }
         let lead = lead_output(alloc, format, origin, name)?;
         let mut lines = Vec::new(alloc);
         push_led(&mut lines, format, &lead, &text)?;
-        Ok(PairText { lines, status })
+        Ok(PairText {
+            lines,
+            status,
+            routes,
+        })
     }
 }

@@ -11,6 +11,7 @@ use crate::key_name::push_name_json;
 use crate::push::push_text;
 use crate::push_addr::push_addr;
 use crate::push_json::push_place_json;
+use crate::run_fault::Side;
 use crate::spelling::Spelling;
 use crate::trouble::Trouble;
 use babel_capture::{Gathered, NoSink, Origin, Place, Wanted};
@@ -52,7 +53,7 @@ impl Lone {
     {
         let begun = Begun::new(reader);
         if let Begins::Dump = begun.begins() {
-            return Err(Trouble::NoSender);
+            return Err(Trouble::NoSender(Side::First));
         }
         let wanted = Wanted {
             sender: None,

@@ -78,15 +78,10 @@ impl Notes {
                 let note = ran.outcome.source_note(job.format.spelling());
                 self.add(Side::First, note)
             }
-            Reports::Dumps(report, other) => {
-                self.add_dump(Side::First, report, capture)?;
-                self.add_dump(Side::Other, other, other_capture)
-            }
-            Reports::Alike(report, other, routes) => {
+            Reports::Dumps(report, other) | Reports::Alike(report, other, _) => {
                 self.add_dump(Side::First, report, capture)?;
                 self.add_dump(Side::Other, other, other_capture)?;
-                let routes = routes as u64;
-                self.add(Side::First, above(routes, 0, Note::RoutesDiffer(routes)))
+                self.add(Side::First, ran.outcome.routes_note())
             }
             Reports::Capture { report, cut } => {
                 self.add_whole(report, cut)?;
@@ -126,14 +121,15 @@ impl Notes {
         }
     }
 
-    /// What there is to know of the dump of a sender in a capture, in place of what was.
-    pub(crate) fn gather_sender(&mut self, read: DumpRead) -> Result<(), AllocError>
+    /// What there is to know of the dump of a sender in the capture on this side, in place of what
+    /// was.
+    pub(crate) fn gather_sender(&mut self, side: Side, read: DumpRead) -> Result<(), AllocError>
         ensures { OnOk result ((ignored : Option IgnoredNote) × (self.new.list.items
-            ≡ flat_map (told sides.First)
-            (about_sender ignored read.report read.expired_rows read.source))) }
+            ≡ flat_map (told side)
+            (about_sender ignored read.report read.expired_rows read.note))) }
     {
         self.list.clear();
-        self.add_all(Side::First, &about_sender(&read))
+        self.add_all(side, &about_sender(&read))
     }
 
     /// Adds a note, if there is one.
@@ -276,15 +272,15 @@ fn above(count: u64, most: u64, note: Note) -> Option<Note>
 }
 
 /// What was ignored of the dump of a sender in a capture, how many rows of its table were not
-/// announced again in time, that it has no Update, and routes for other sources, as far as there is
-/// each.
+/// announced again in time, that it has no Update, and what there is to know of its answers, as far
+/// as there is each.
 fn about_sender(read: &DumpRead) -> [Option<Note>; 4]
     ensures { (ignored : Option IgnoredNote) × (result
-        ≡ about_sender ignored read.now.report read.now.expired_rows read.now.source) }
+        ≡ about_sender ignored read.now.report read.now.expired_rows read.now.note) }
 {
     let report = read.report;
     let expired = expired(read.expired_rows as u64);
-    [ignored(report), expired, no_updates(report), read.source]
+    [ignored(report), expired, no_updates(report), read.note]
 }
 
 /// How many rows were not announced again in time, if any.

@@ -57,6 +57,14 @@ impl Outcome {
         }
     }
 
+    /// How many routes differ of two dumps that answer the same, if any.
+    pub(crate) fn routes_note(&self) -> Option<Note> {
+        match self.reports {
+            Reports::Alike(_, _, routes) if routes > 0 => Some(Note::RoutesDiffer(routes as u64)),
+            _ => None,
+        }
+    }
+
     /// That of a capture of which this was gathered, and which is cut short there: the status is 1
     /// if no packets were found.
     pub(crate) fn of_capture(gathered: &Gathered, cut: Option<u64>) -> Outcome

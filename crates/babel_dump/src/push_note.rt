@@ -27,10 +27,7 @@ pub(crate) fn push_note_json(buffer: &mut Vec<u8>, told: SideNote)
     push_text(buffer, r#"{"note":""#);
     push_text(buffer, name(&told.note));
     push_text(buffer, "\"");
-    push_members(buffer, &told.note);
-    push_text(buffer, side_member(told.side));
-    push_text(buffer, "}");
-    push_octet(buffer, b'\n');
+    push_note_rest(buffer, told);
 }
 
 /// Appends a note about a sender, up to the name of its interface.
@@ -47,13 +44,14 @@ pub(crate) fn push_note_front(buffer: &mut Vec<u8>, spelling: Spelling, origin: 
     push_place_json(buffer, origin.place);
 }
 
-/// Appends the rest of a note about a sender.
-pub(crate) fn push_note_rest(buffer: &mut Vec<u8>, note: &Note)
-    requires { HasRoom buffer.old 1502 }
-    ensures text { buffer.new.items ≡ buffer.old.items ++ note_rest note.now }
-    ensures room { TookRoom buffer.old buffer.new 1502 }
+/// Appends what stands after the name of a note, or of the interface of its sender.
+pub(crate) fn push_note_rest(buffer: &mut Vec<u8>, told: SideNote)
+    requires { HasRoom buffer.old 1515 }
+    ensures text { buffer.new.items ≡ buffer.old.items ++ note_rest told }
+    ensures room { TookRoom buffer.old buffer.new 1515 }
 {
-    push_members(buffer, note);
+    push_members(buffer, &told.note);
+    push_text(buffer, side_member(told.side));
     push_text(buffer, "}");
     push_octet(buffer, b'\n');
 }

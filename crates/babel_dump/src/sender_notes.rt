@@ -62,6 +62,6 @@ fn write_sender_note<W: ByteOut>(
     write_all(writer, line)?;
     line.clear();
     push_text(line, closing(format, name));
-    push_note_rest(line, &told.note);
+    push_note_rest(line, *told);
     write_all(writer, line)
 }

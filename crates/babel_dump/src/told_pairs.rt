@@ -17,6 +17,7 @@ use crate::each_pair::{EachPair, PairText};
 use crate::each_sender::EachSender;
 use crate::fellows::{Fellows, fellows_of};
 use crate::input_fault::InputFault;
+use crate::note::Note;
 use crate::own_table::{OwnTable, read_own};
 use crate::run_fault::Side;
 use crate::sender_tables::SenderTable;
@@ -192,7 +193,7 @@ impl ToldPairs {
                 let read = Ok(DumpRead {
                     report,
                     expired_rows,
-                    source: None,
+                    note: None,
                 });
                 self.push(alloc, captured, &origin, read)?;
                 Ok(Some(table))
@@ -259,7 +260,20 @@ impl ToldPairs {
             return Ok(());
         };
         let text = pairs.text_of_both(alloc, left, right, name, table, other)?;
+        self.note_routes(text.routes);
         self.take(&text)
+    }
+
+    /// Notes how many routes differ of the last two senders that were noted, if any.
+    fn note_routes(&mut self, routes: Option<Note>)
+        ensures { (self.new.lines ≡ self.old.lines) × (self.new.status ≡ self.old.status) }
+    {
+        let Some(left) = self.senders.len().checked_sub(2) else {
+            return;
+        };
+        if let Some(ToldSender { read: Ok(read), .. }) = self.senders.get_mut(left) {
+            read.note = routes;
+        }
     }
 
     /// Tells of a sender that has no fellow, unless it is refused.

@@ -134,7 +134,7 @@ impl ToldSenders {
         Ok(DumpRead {
             report: key.report,
             expired_rows: key.expired_rows,
-            source: key.source,
+            note: key.source,
         })
     }
 }

@@ -27,8 +27,8 @@ use std::io::ErrorKind;
 pub enum Trouble {
     /// This option is for captures alone, and was given for a dump.
     Misplaced(&'static str),
-    /// What has no `--from` is a dump.
-    NoSender,
+    /// What has no `--from` on this side is a dump.
+    NoSender(Side),
     /// What has no `--from` is a capture in which not one sender alone announces, but so many do.
     NotOneSender(usize),
     /// What has no `--from` can't be read twice, to find the sender first.
@@ -154,7 +154,7 @@ impl Trouble {
     {
         match self {
             Trouble::Misplaced(_)
-            | Trouble::NoSender
+            | Trouble::NoSender(_)
             | Trouble::NotOneSender(_)
             | Trouble::ReadOnce
             | Trouble::Backwards { .. } => 2,
@@ -176,7 +176,8 @@ impl Trouble {
             Trouble::Fault(RunFault::Input(Side::First, _)) | Trouble::Sender { .. } => {
                 Some(asked.file())
             }
-            Trouble::Fault(RunFault::Input(Side::Other, _) | RunFault::Pairs(_)) => asked.other(),
+            Trouble::NoSender(Side::Other)
+            | Trouble::Fault(RunFault::Input(Side::Other, _) | RunFault::Pairs(_)) => asked.other(),
             _ => None,
         }
     }
@@ -252,7 +253,7 @@ fn say_line<S: Says>(says: &mut S, asked: &Asked, trouble: &Trouble) {
         Trouble::Misplaced(option) => {
             says.say(&format_args!("{file}{option} is for captures, and this is a dump"));
         }
-        Trouble::NoSender => says.say(&format_args!("{file}a dump needs --from")),
+        Trouble::NoSender(side) => says.say(&format_args!("{file}{side}a dump needs --from")),
         Trouble::NotOneSender(0) => says.say(&"--from is needed: no sender announces here"),
         Trouble::NotOneSender(senders) => {
             says.say(&format_args!("--from is needed: {senders} senders announce here"));

@@ -5,6 +5,4 @@ pub returns-clause-text : goal.returns-clause-text
 returns-clause-text c =
     let before = c.args.buffer.now.items in
     let name = appended before _ _ _ _ c.push_text.ensures.text (rw c.name.ensures.text at c.push_text-2.ensures.text) in
-    let members = appended before _ _ _ _ (appended before _ _ _ _ name c.push_text-3.ensures.text) c.push_members.ensures.text in
-    let side = appended before _ _ _ _ members (rw c.side_member.ensures.text at c.push_text-4.ensures.text) in
-    appended before _ _ _ _ (appended before _ _ _ _ side c.push_text-5.ensures.text) c.push_octet.ensures.text
+    appended before _ _ _ _ (appended before _ _ _ _ name c.push_text-3.ensures.text) c.push_note_rest.ensures.text

@@ -4,4 +4,5 @@ use Rattle.babel_dump.proofs.push_note.push_note_rest.Goals as goal
 pub returns-clause-text : goal.returns-clause-text
 returns-clause-text c =
     let before = c.args.buffer.now.items in
-    appended before _ _ _ _ (appended before _ _ _ _ c.push_members.ensures.text c.push_text.ensures.text) c.push_octet.ensures.text
+    let side = appended before _ _ _ _ c.push_members.ensures.text (rw c.side_member.ensures.text at c.push_text.ensures.text) in
+    appended before _ _ _ _ (appended before _ _ _ _ side c.push_text-2.ensures.text) c.push_octet.ensures.text
