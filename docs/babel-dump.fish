@@ -45,7 +45,7 @@ end
 function __babel_dump_is_valued
     contains -- $argv[1] --from --other-from --interface --other-interface --since --until \
         --expiry --ignore --to --src --max-routes --max-octets --other-since --other-until \
-        --within --match --source --id --body --color --each
+        --within --match --source --id --body --color --names --each
 end
 
 complete -c babel-dump -n 'not __fish_seen_subcommand_from show lookup normalise key pairs compare diff senders extract events help' -f
@@ -178,6 +178,8 @@ __babel_dump_option 'diff' -l color -x -a 'auto always never' \
     -d 'When to colour routes'
 __babel_dump_option 'show lookup key pairs compare diff senders' -l json \
     -d 'Print one JSON object per line'
+__babel_dump_option 'show lookup pairs compare diff events' -l names -r \
+    -d 'Print the names that the lines of FILE give addresses and router-ids, as '\''fe80::1 b1'\'', after senders, next hops and router-ids'
 __babel_dump_option 'show lookup pairs compare diff senders events' -l short \
     -d 'Write addresses as RFC 5952 does, fe80::1, and leave out a source prefix of length 0'
 __babel_dump_option 'compare' -l routes \

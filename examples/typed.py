@@ -20,12 +20,14 @@ Prefix = Union[IPv4Network, IPv6Network]
 
 @dataclass(frozen=True)
 class Route:
-    """Each field is None where --ignore names it."""
+    """Each field is None where --ignore names it. The names are of --names."""
 
     next_hop: Optional[Address]
     router_id: Optional[str]
     seqno: Optional[int]
     metric: Optional[int]
+    next_hop_name: Optional[str] = None
+    router_name: Optional[str] = None
 
 
 @dataclass(frozen=True)
@@ -193,7 +195,7 @@ class Sender:
 
 @dataclass(frozen=True)
 class Event:
-    """Of events."""
+    """Of events; the name of the sender is of --names."""
 
     time: str
     sender: Address
@@ -206,6 +208,7 @@ class Event:
     source: Prefix
     answer: Optional[Route]
     before: Optional[Route]
+    sender_name: Optional[str] = None
 
 
 @dataclass(frozen=True)
@@ -232,6 +235,7 @@ class Answered:
     route: Optional[Prefixes]
     answer: Optional[Route]
     before: Optional[Route]
+    sender_name: Optional[str] = None
 
 
 @dataclass(frozen=True)
@@ -250,6 +254,8 @@ class Requested:
     source: Optional[Prefix]
     router_id: Optional[str]
     seqno: Optional[int]
+    sender_name: Optional[str] = None
+    router_name: Optional[str] = None
 
 
 @dataclass(frozen=True)
@@ -265,6 +271,7 @@ class Silent:
     event: Literal["silent"]
     since: str
     routes: int
+    sender_name: Optional[str] = None
 
 
 @dataclass(frozen=True)
@@ -278,6 +285,7 @@ class Returned:
     vlans: List[int]
     name: Optional[str]
     event: Literal["returns"]
+    sender_name: Optional[str] = None
 
 
 @dataclass(frozen=True)
@@ -325,6 +333,8 @@ ORIGIN = {
     "vlans": List[int],
     "name": Optional[str],
 }
+# What comes first in a line of a sender: its name with --names alone.
+LED = {**ORIGIN, "sender_name": Optional[str]}
 
 
 def members(types, found):
@@ -381,8 +391,8 @@ def line(text):
     try:
         return first(KINDS, found)
     except ValueError:
-        origin = {each: found.pop(each) for each in ORIGIN}
-        return Told(members(ORIGIN, origin), first(KINDS, found))
+        origin = {each: found.pop(each) for each in LED if each in found or each in ORIGIN}
+        return Told(members(LED, origin), first(KINDS, found))
 
 
 if __name__ == "__main__":

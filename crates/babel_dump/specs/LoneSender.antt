@@ -9,14 +9,16 @@ use Rattle.babel_capture.specs.declared.tallies.Origin.{Origin}
 use Rattle.babel_capture.specs.declared.tallies.Tally.{Tally}
 use Rattle.babel_dump.specs.Begun.{BeginsSo}
 use Rattle.babel_dump.specs.CaptureGiven.{CaptureInput, GaveSound, capture_from}
-use Rattle.babel_dump.specs.CaptureText.{name_json, place_json}
+use Rattle.babel_dump.specs.CaptureText.{place_json}
+use Rattle.babel_dump.specs.JsonText.{quoted}
+use Rattle.babel_dump.specs.NameText.{name_json}
+use Rattle.babel_dump.specs.Names.{style_of}
 use Rattle.babel_dump.specs.Given.{Reads}
 use Rattle.babel_dump.specs.RunText.{newline}
 use Rattle.babel_dump.specs.Spelling.{address_text}
 use Rattle.babel_dump.specs.declared.begun.Begins.{Begins}
 use Rattle.babel_dump.specs.declared.begun.Begins.TheVariants as beginnings
 use Rattle.babel_dump.specs.declared.format.Format.{Format}
-use Rattle.babel_dump.specs.declared.format.Format.TheVariants as formats
 use Rattle.babel_dump.specs.declared.job.CaptureTask.{CaptureTask}
 use Rattle.babel_dump.specs.declared.job.CaptureTask.TheVariants as capture_tasks
 use Rattle.babel_dump.specs.declared.job.DumpSource.{DumpSource}
@@ -34,13 +36,12 @@ announcing = flat_map (λ entry. if is_some entry.1.interval then entry.0 ∷ []
 -- `{"note":"from","sender":"ADDRESS","interface":N,"link":N,"vlans":[N,N],"name":"NAME"}`
 abbrev pub from_note : Spelling → Origin → (name : List ℕ) → List ℕ
 from_note spelling origin name =
-    codes "{\"note\":\"from\",\"sender\":\"" ++ address_text spelling origin.sender
+    codes "{\"note\":\"from\",\"sender\":" ++ quoted (address_text spelling origin.sender)
     ++ place_json origin.place ++ name_json name ++ codes "}" ++ newline
 
 -- how a format writes addresses
 abbrev pub spelling_of : Format → Spelling
-spelling_of (formats.Text spelling) = spelling
-spelling_of (formats.Json spelling) = spelling
+spelling_of format = (style_of format).spelling
 
 -- one alone announces, and is told so
 pub record IsLoneIn (spelling : Spelling) (gathering : Gathering) (lone : LoneSender) : Type 0 where

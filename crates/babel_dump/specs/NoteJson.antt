@@ -5,7 +5,8 @@ use Rattle.std.specs.Fmt.{decimal}
 use Rattle.babel_prefix.specs.Address.{Address}
 use Rattle.babel_capture.specs.declared.tallies.Origin.{Origin}
 use Rattle.babel_table.specs.Counts.{Counts}
-use Rattle.babel_dump.specs.CaptureText.{name_json, place_json, seconds_text}
+use Rattle.babel_dump.specs.CaptureText.{place_json, seconds_text}
+use Rattle.babel_dump.specs.NameText.{name_json}
 use Rattle.babel_dump.specs.JsonText.{comma_separated, counted_objects, quoted, report_members}
 use Rattle.babel_dump.specs.LeftOut.{left_out_for, left_out_name, told_reasons}
 use Rattle.babel_dump.specs.RunText.{newline}
@@ -96,8 +97,8 @@ note_json told =
 -- `{"note":"NAME","sender":"ADDRESS","interface":N,"link":N,"vlans":[N,N],"name":`
 abbrev pub note_front : Spelling → Origin → Note → List ℕ
 note_front spelling origin note =
-    codes "{\"note\":\"" ++ note_name note ++ codes "\",\"sender\":\""
-    ++ address_text spelling origin.sender ++ place_json origin.place
+    codes "{\"note\":\"" ++ note_name note ++ codes "\",\"sender\":"
+    ++ quoted (address_text spelling origin.sender) ++ place_json origin.place
 
 -- `{"note":"NAME","sender":"ADDRESS","interface":N,"link":N,"vlans":[N,N],"name":"NAME",..}`
 abbrev pub note_of_sender : Spelling → Origin → (name : List ℕ) → SideNote → List ℕ

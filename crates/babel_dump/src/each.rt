@@ -44,19 +44,19 @@ pub(crate) fn read_pairs<S: ByteIn>(
 pub(crate) fn found_answers(
     alloc: Global,
     with_prefix: bool,
-    format: Format,
+    format: &Format,
     asked: &[AddrPair],
     table: &Table,
 ) -> Result<(Found, Vec<u8>), AllocError>
     ensures found { IfOk result
-        (λ found. Says (LooksUpEach format with_prefix asked.now table.now) found.0) }
+        (λ found. Says format.now (LooksUpEach format.now with_prefix asked.now table.now) found.0) }
     ensures statuses { IfOk result
         (λ found. found.1.items ≡ map (pair_status table.now) asked.now) }
 {
     let (answers, statuses) = answers(alloc, with_prefix, table, asked)?;
     let outcome = Outcome::of_dump(status_of_all(&statuses), *table.report());
     let rows = Rows::Answers(answers);
-    let found = Found::rows(format, rows, Vec::new(alloc), outcome);
+    let found = Found::rows(rows, Vec::new(alloc), outcome);
     Ok((found, statuses))
 }
 

@@ -85,7 +85,7 @@ impl<'a> Followed<'a> {
         ensures none { IfOk result (IsFollowed events.now [] []) }
         ensures told { IfOk result (λ followed. followed.follower.told.items ≡ []) }
         ensures empty { IfOk result (λ followed. followed.buffer.items ≡ []) }
-        ensures room { IfOk result (λ followed. 512 ≤ vec_capacity followed.buffer) }
+        ensures room { IfOk result (λ followed. 2048 ≤ vec_capacity followed.buffer) }
     {
         let buffer = slice_buffer(alloc)?;
         let (sender, place) = (events.sender, events.place);
@@ -113,7 +113,7 @@ impl<'a> Followed<'a> {
         requires none { IsFollowed events.now [] [] self.old }
         requires told { self.old.follower.told.items ≡ [] }
         requires empty { self.old.buffer.items ≡ [] }
-        requires room { 512 ≤ vec_capacity self.old.buffer }
+        requires room { 2048 ≤ vec_capacity self.old.buffer }
         ensures { IfOk result (λ answer. TellsEvents events.now (R.state reader.old)
             (R.state reader.new) (output (W.state writer.old) (W.state writer.new)) answer) }
     {
@@ -134,10 +134,10 @@ impl<'a> Followed<'a> {
         requires none { IsFollowed events.now [] [] self.old }
         requires told { self.old.follower.told.items ≡ [] }
         requires empty { self.old.buffer.items ≡ [] }
-        requires room { 512 ≤ vec_capacity self.old.buffer }
+        requires room { 2048 ≤ vec_capacity self.old.buffer }
         ensures told { OnOk result (self.new.follower.told.items ≡ []) }
         ensures empty { OnOk result (self.new.buffer.items ≡ []) }
-        ensures room { OnOk result (512 ≤ vec_capacity self.new.buffer) }
+        ensures room { OnOk result (2048 ≤ vec_capacity self.new.buffer) }
         ensures failures { OnOk result ((W.state writer.new).failures
             ≡ (W.state writer.old).failures) }
         ensures flushes { OnOk result ((W.state writer.new).flushes
@@ -169,10 +169,10 @@ impl<'a> Followed<'a> {
         requires few_flushes { (W.state writer.old).flushes < 2 ^ 64 - 1 }
         requires told { self.old.follower.told.items ≡ [] }
         requires empty { self.old.buffer.items ≡ [] }
-        requires room { 512 ≤ vec_capacity self.old.buffer }
+        requires room { 2048 ≤ vec_capacity self.old.buffer }
         ensures told { OnOk result (self.new.follower.told.items ≡ []) }
         ensures empty { OnOk result (self.new.buffer.items ≡ []) }
-        ensures room { OnOk result (512 ≤ vec_capacity self.new.buffer) }
+        ensures room { OnOk result (2048 ≤ vec_capacity self.new.buffer) }
         ensures failures { OnOk result ((W.state writer.new).failures
             ≡ (W.state writer.old).failures) }
         ensures flushes { OnOk result ((W.state writer.new).flushes
@@ -215,14 +215,14 @@ impl<'a> Followed<'a> {
         requires few_failures { (W.state writer.old).failures < 2 ^ 64 - 1 }
         requires few_flushes { (W.state writer.old).flushes < 2 ^ 64 - 1 }
         requires empty { self.old.buffer.items ≡ [] }
-        requires room { 512 ≤ vec_capacity self.old.buffer }
+        requires room { 2048 ≤ vec_capacity self.old.buffer }
         ensures same { (self.new.capture ≡ self.old.capture)
             × (self.new.follower.events.now ≡ self.old.follower.events.now)
             × (self.new.follower.hearing ≡ self.old.follower.hearing)
             × (self.new.follower.fault ≡ self.old.follower.fault) }
         ensures told { OnOk result (self.new.follower.told.items ≡ []) }
         ensures empty { OnOk result (self.new.buffer.items ≡ []) }
-        ensures room { OnOk result (512 ≤ vec_capacity self.new.buffer) }
+        ensures room { OnOk result (2048 ≤ vec_capacity self.new.buffer) }
         ensures failures { OnOk result ((W.state writer.new).failures
             ≡ (W.state writer.old).failures) }
         ensures flushes { OnOk result ((W.state writer.new).flushes
@@ -251,7 +251,7 @@ impl<'a> Followed<'a> {
         requires few_flushes { (W.state writer.old).flushes < 2 ^ 64 - 1 }
         requires told { self.old.follower.told.items ≡ [] }
         requires empty { self.old.buffer.items ≡ [] }
-        requires room { 512 ≤ vec_capacity self.old.buffer }
+        requires room { 2048 ≤ vec_capacity self.old.buffer }
         ensures { IfOk result (λ answer. (fed : List ℕ) (told : List (TellingSaid SpeakerSaid))
             → IsFollowed events.now fed told self.old → Ends events.now fed told
             (output (W.state writer.old) (W.state writer.new)) answer) }
@@ -377,10 +377,10 @@ fn write_told<W: ByteOut>(
 ) -> Result<(), WriteFailed>
     requires few_failures { (W.state writer.old).failures < 2 ^ 64 - 1 }
     requires empty { buffer.old.items ≡ [] }
-    requires room { 512 ≤ vec_capacity buffer.old }
+    requires room { 2048 ≤ vec_capacity buffer.old }
     ensures front { WroteFront (output (W.state writer.old) (W.state writer.new))
         (flat_map (named_event events.now gathered.now) told.now) buffer.new.items result }
-    ensures room { OnOk result (512 ≤ vec_capacity buffer.new) }
+    ensures room { OnOk result (2048 ≤ vec_capacity buffer.new) }
 {
     for telling in told {
         write_kept(writer, events, gathered, telling, buffer)?;
@@ -398,16 +398,16 @@ fn write_kept<W: ByteOut>(
     buffer: &mut Vec<u8>,
 ) -> Result<(), WriteFailed>
     requires few_failures { (W.state writer.old).failures < 2 ^ 64 - 1 }
-    requires room { 512 ≤ vec_capacity buffer.old }
+    requires room { 2048 ≤ vec_capacity buffer.old }
     ensures front { WroteFront (output (W.state writer.old) (W.state writer.new))
         (buffer.old.items ++ named_event events.now gathered.now told.now) buffer.new.items result }
-    ensures room { OnOk result (512 ≤ vec_capacity buffer.new) }
+    ensures room { OnOk result (2048 ≤ vec_capacity buffer.new) }
 {
     if keeps_told(&events.filter, told) {
         let name = gathered.name(speaker_of(told).place.interface);
         write_event(
             writer,
-            events.format,
+            &events.format,
             events.view,
             events.pair,
             name,

@@ -16,7 +16,6 @@ use crate::misplaced::misplaced;
 use crate::moment_words::moments_of;
 use crate::reading::Reading;
 use crate::run_fault::Side;
-use crate::spelling::Spelling;
 use babel_canon::Body;
 use babel_capture::{Origin, Place, Window};
 use babel_prefix::Addr;
@@ -183,8 +182,6 @@ pub struct DiffStyle {
     pub stat: bool,
     /// Whether rows of its text are in colour: `--color`.
     pub coloured: bool,
-    /// How addresses are written: `--short`.
-    pub spelling: Spelling,
 }
 
 /// Where a dump, a capture, or the pairs of `--each`, are read from.

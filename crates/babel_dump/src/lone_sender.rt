@@ -136,6 +136,7 @@ fn from_note(
     note.reserve(220)?;
     push_text(&mut note, r#"{"note":"from","sender":""#);
     push_addr(&mut note, spelling, origin.sender);
+    push_text(&mut note, "\"");
     push_place_json(&mut note, origin.place);
     push_name_json(&mut note, name)?;
     note.extend_from_slice(b"}\n")?;

@@ -463,6 +463,14 @@ pub(crate) static PRINTED: &[OptionRow] = &[
     },
     JSON,
     OptionRow {
+        id: "names",
+        takes: Takes::Word("FILE"),
+        help: "Print the names that the lines of FILE give addresses and router-ids, as \
+               'fe80::1 b1', after senders, next hops and router-ids",
+        commands: &["show", "lookup", "pairs", "compare", "diff", "events"],
+        ..FLAG
+    },
+    OptionRow {
         id: "short",
         help: "Write addresses as RFC 5952 does, fe80::1, and leave out a source prefix of length \
                0",

@@ -41,6 +41,7 @@ pub(crate) fn push_note_front(buffer: &mut Vec<u8>, spelling: Spelling, origin: 
     push_text(buffer, name(note));
     push_text(buffer, r#"","sender":""#);
     push_addr(buffer, spelling, origin.sender);
+    push_text(buffer, "\"");
     push_place_json(buffer, origin.place);
 }
 

@@ -12,6 +12,6 @@ loop-line-preserved g c =
     let left = c.make_room.new.buffer.items in
     let took = took_more _ _ _ _ c.loop-line.buffer.items left _ c.loop-line.invariant.took c.in_ok-make_room.ensures.front in
     record {
-      took = pushed_next (g.L.Line.text c.args.format c.args.view) c.args.lines.now c.loop-line.line-index c.line-item.result _ _ left _ took (omega arith) c.line-item.is c.push.ensures.text;
+      took = pushed_next (g.L.Line.text c.args.format.now c.args.view) c.args.lines.now c.loop-line.line-index c.line-item.result _ _ left _ took (omega arith) c.line-item.is c.push.ensures.text;
       room = omega (arith, c.push.ensures.room, c.in_ok-make_room.ensures.room);
     }

@@ -8,5 +8,5 @@ abbrev pub invariant-loop-line : goal.invariant-loop-line
 invariant-loop-line g l = record {
   took : Took (output (g.W.ByteOut.state l.initial.writer) (g.W.ByteOut.state l.writer)) (flat_map (g.L.Line.text l.format l.view) l.lines)
       (l.buffer.items ++ flat_map (g.L.Line.text l.format l.view) (drop l.line-index l.lines));
-  room : 512 ≤ vec_capacity l.buffer;
+  room : 2048 ≤ vec_capacity l.buffer;
 }
