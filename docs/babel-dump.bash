@@ -77,8 +77,8 @@ _babel_dump() {
 }
 
 # Printed by tools/options.py.
-_babel_dump_names="show lookup normalise key pairs compare diff senders extract events help --help \
---version"
+_babel_dump_names="show lookup normalise key pairs compare diff senders links extract events help \
+--help --version"
 
 # The options that a word follows.
 _babel_dump_valued="--from --other-from --interface --other-interface --since --until --expiry \
@@ -110,6 +110,8 @@ _babel_dump_options() {
             --other-until --strict --ignore --stat --color --json --short --help ;;
         senders) echo --since --until --strict --accept-cut --quiet --max-octets --json --short \
             --help ;;
+        links) echo --interface --since --until --expiry --accept-cut --quiet --max-octets --json \
+            --short --help ;;
         extract) echo --from --interface --hex --since --until --strict --accept-cut --quiet \
             --max-octets --help ;;
         events) echo --from --interface --since --until --expiry --ignore --to --src --requests \

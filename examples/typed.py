@@ -192,6 +192,24 @@ class Sender:
 
 
 @dataclass(frozen=True)
+class Link:
+    """Of links; a cost of 65535 is infinite, and the interval is in seconds."""
+
+    sender: Address
+    interface: int
+    link: Optional[int]
+    vlans: List[int]
+    name: Optional[str]
+    neighbour: Address
+    rxcost: Optional[int]
+    back: Optional[int]
+    last: str
+    hellos: int
+    missed: int
+    interval: Optional[float]
+
+
+@dataclass(frozen=True)
 class Event:
     """Of events."""
 
@@ -299,7 +317,7 @@ class Note:
 
 
 KINDS = Row, Looked, Report, Summary, Counts, Same, Differ, Alone, Differences, Stat
-KINDS += FileKey, SenderKey, Sender, Event, Answered, Requested, Silent, Returned
+KINDS += FileKey, SenderKey, Sender, Link, Event, Answered, Requested, Silent, Returned
 
 # What a note has besides.
 NOTES = {
@@ -315,6 +333,7 @@ NOTES = {
     "short-span": {"span": float, "interval": float},
     "expired": {"routes": int},
     "no-updates": {},
+    "no-ihus": {},
     "routes-differ": {"routes": int},
     "source": {"source": Address},
 }

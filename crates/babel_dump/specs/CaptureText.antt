@@ -164,6 +164,11 @@ abbrev pub senders_status : Senders → ℕ
 senders_status [] = 1
 senders_status (sender ∷ senders) = 0
 
+-- 1 where there is no line
+abbrev pub text_status : List ℕ → ℕ
+text_status [] = 1
+text_status (octet ∷ octets) = 0
+
 -- the place of each sender
 abbrev pub places_of : Senders → List Place
 places_of senders = map (λ sender. sender.0.place) senders

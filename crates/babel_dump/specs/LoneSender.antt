@@ -56,7 +56,7 @@ source_with origin source = record source
 abbrev pub task_with : Origin → CaptureTask → CaptureTask
 task_with origin (capture_tasks.Extract sender place hex) =
     capture_tasks.Extract origin.sender (Some origin.place) hex
-task_with origin capture_tasks.Senders = capture_tasks.Senders
+task_with origin task = task
 
 abbrev pub with_sender : Origin → Work → Work
 with_sender origin (works.Dump source task) = works.Dump (source_with origin source) task

@@ -30,6 +30,7 @@ note_name (notes.Backwards packet) = codes "backwards"
 note_name (notes.ShortSpan span interval) = codes "short-span"
 note_name (notes.Expired routes) = codes "expired"
 note_name notes.NoUpdates = codes "no-updates"
+note_name notes.NoIhus = codes "no-ihus"
 note_name (notes.RoutesDiffer routes) = codes "routes-differ"
 note_name (notes.Source spelling source) = codes "source"
 
@@ -76,6 +77,7 @@ note_members (notes.RoutesDiffer routes) = number_member (codes "routes") routes
 note_members (notes.Source spelling source) = source_member spelling source
 note_members notes.Cooked = []
 note_members notes.NoUpdates = []
+note_members notes.NoIhus = []
 
 -- `,"other":true` where a note is about the other dump
 abbrev pub side_member : Side → List ℕ

@@ -9,6 +9,7 @@ ghost use Rattle.babel_dump.specs.declared.run_fault.Side.TheVariants as sides;
 use crate::addr_pair::AddrPair;
 use crate::begun::Begins;
 use crate::capture_reading::CaptureReading;
+use crate::factor::Factor;
 use crate::filter::Filter;
 use crate::format::Format;
 use crate::key_text::Named;
@@ -161,6 +162,13 @@ pub enum CaptureTask {
         place: Option<Place>,
         /// Whether the dump is written as hexadecimal digits: `--hex`.
         hex: bool,
+    },
+    /// `links`: what routers say of the links to their neighbours.
+    Links {
+        /// Where these links were captured: `--interface`. Where it is left out, at each place.
+        place: Option<Place>,
+        /// After how many times its Interval an IHU has lapsed: `--expiry`.
+        expiry: Factor,
     },
 }
 
@@ -323,6 +331,14 @@ impl Job {
     pub(crate) fn reports_ignored(&self) -> bool {
         match self.work {
             Work::Dump { task, .. } => matches!(task, Task::Show { .. }),
+            _ => false,
+        }
+    }
+
+    /// Whether it tells of links, as `links` does: of no routes, and so of no Interval of Updates.
+    pub(crate) fn tells_links(&self) -> bool {
+        match self.work {
+            Work::Capture { task, .. } => matches!(task, CaptureTask::Links { .. }),
             _ => false,
         }
     }

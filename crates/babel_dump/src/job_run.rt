@@ -23,6 +23,7 @@ use crate::extract::find_packets;
 use crate::format::Format;
 use crate::input::{look_up, read_table};
 use crate::job::{CaptureTask, Comparison, DumpSource, Job, Task, Work};
+use crate::links::find_links;
 use crate::lookup::found_answer;
 use crate::outcome::Outcome;
 use crate::reading::Reading;
@@ -297,6 +298,9 @@ fn find_of_capture<R: ByteIn>(
         CaptureTask::Senders => find_senders(alloc, reading, format, reader),
         CaptureTask::Extract { sender, place, hex } => {
             find_packets(alloc, reading, sender, place, hex, format, reader)
+        }
+        CaptureTask::Links { place, expiry } => {
+            find_links(alloc, reading, place, expiry, format, reader)
         }
     }
 }

@@ -35,6 +35,8 @@ pub enum Note {
     Expired(u64),
     /// A dump has no Update.
     NoUpdates,
+    /// No IHU in a capture names a neighbour.
+    NoIhus,
     /// So many routes differ of two dumps that answer the same.
     RoutesDiffer(u64),
     /// A lookup was for this source, which is written so, and routes to its destination are
@@ -69,6 +71,7 @@ impl fmt::Display for Note {
             ),
             Note::Expired(routes) => write_expired(f, *routes),
             Note::NoUpdates => f.write_str("no Updates"),
+            Note::NoIhus => f.write_str("no IHUs"),
             Note::RoutesDiffer(routes) => write_routes_differ(f, *routes),
             Note::Source(Spelling::Long, source) => write_source(f, source),
             Note::Source(Spelling::Short, source) => write_source(f, &Short(*source)),

@@ -88,8 +88,15 @@ impl Notes {
                 let routes = routes as u64;
                 self.add(Side::First, above(routes, 0, Note::RoutesDiffer(routes)))
             }
+            Reports::Capture { report, cut } if job.tells_links() => {
+                self.add_whole(report, cut, None)?;
+                if ran.outcome.status != 0 && ran.aside.absence.is_none() {
+                    self.add(Side::First, Some(Note::NoIhus))?;
+                }
+                Ok(())
+            }
             Reports::Capture { report, cut } => {
-                self.add_whole(report, cut)?;
+                self.add_whole(report, cut, report.interval())?;
                 let short = if job.counts_short() {
                     report.short()
                 } else {
@@ -184,11 +191,16 @@ impl Notes {
         self.add(side, no_updates(report))
     }
 
-    /// Adds what there is to know of a capture, and of the greatest Interval there.
-    fn add_whole(&mut self, report: CaptureReport, cut: Option<u64>) -> Result<(), AllocError>
+    /// Adds what there is to know of a capture that was not read for a dump, and of this Interval.
+    fn add_whole(
+        &mut self,
+        report: CaptureReport,
+        cut: Option<u64>,
+        interval: Option<u16>,
+    ) -> Result<(), AllocError>
         ensures { OnOk result ((left : Option LeftOutNote) × (self.new.list.items
             ≡ self.old.list.items
-            ++ flat_map (told sides.First) (about_capture left report cut report.interval))) }
+            ++ flat_map (told sides.First) (about_capture left report cut interval))) }
     {
         let capture = CaptureNotes {
             report,
@@ -196,7 +208,7 @@ impl Notes {
             are_apart: false,
             expired_rows: 0,
         };
-        self.add_capture(Side::First, capture, report.interval())
+        self.add_capture(Side::First, capture, interval)
     }
 
     /// Adds what there is to know of a capture, and of this Interval.

@@ -179,7 +179,7 @@ pub(crate) fn push_sender_end(buffer: &mut Vec<u8>, place: Place, tally: Tally)
 }
 
 /// Appends an Interval in seconds, or `-` where there is none.
-fn push_interval(buffer: &mut Vec<u8>, interval: Option<u16>)
+pub(crate) fn push_interval(buffer: &mut Vec<u8>, interval: Option<u16>)
     requires { HasRoom buffer.old 23 }
     ensures text { buffer.new.items ≡ buffer.old.items ++ interval_text interval }
     ensures room { TookRoom buffer.old buffer.new 23 }

@@ -217,7 +217,7 @@ fn push_vlans_json(buffer: &mut Vec<u8>, vlans: Vlans)
 }
 
 /// Appends an Interval in seconds, or `null`.
-fn push_interval_json(buffer: &mut Vec<u8>, interval: Option<u16>)
+pub(crate) fn push_interval_json(buffer: &mut Vec<u8>, interval: Option<u16>)
     requires { HasRoom buffer.old 23 }
     ensures text { buffer.new.items ≡ buffer.old.items ++ interval_json interval }
     ensures room { TookRoom buffer.old buffer.new 23 }

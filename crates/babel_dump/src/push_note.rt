@@ -75,6 +75,7 @@ fn name(note: &Note) -> &'static str
         Note::ShortSpan { .. } => "short-span",
         Note::Expired(_) => "expired",
         Note::NoUpdates => "no-updates",
+        Note::NoIhus => "no-ihus",
         Note::RoutesDiffer(_) => "routes-differ",
         Note::Source(_, _) => "source",
     }
@@ -113,7 +114,7 @@ fn push_members(buffer: &mut Vec<u8>, note: &Note)
             push_member(buffer, "routes", *routes);
         }
         Note::Source(spelling, source) => push_source(buffer, *spelling, *source),
-        Note::Cooked | Note::NoUpdates => {}
+        Note::Cooked | Note::NoUpdates | Note::NoIhus => {}
     }
 }
 
