@@ -192,6 +192,32 @@ class Sender:
 
 
 @dataclass(frozen=True)
+class Distance:
+    """An entry of the source table of the router that selects."""
+
+    seqno: int
+    metric: int
+
+
+@dataclass(frozen=True)
+class Selected:
+    """Of select; a cost or a total of 65535 is infinite."""
+
+    destination: Prefix
+    source: Prefix
+    answer: Route
+    sender: Address
+    interface: int
+    link: Optional[int]
+    vlans: List[int]
+    name: Optional[str]
+    cost: int
+    total: int
+    state: Literal["own", "unheard", "unreachable", "unfeasible", "selected", "feasible"]
+    distance: Optional[Distance]
+
+
+@dataclass(frozen=True)
 class Event:
     """Of events."""
 
@@ -299,7 +325,7 @@ class Note:
 
 
 KINDS = Row, Looked, Report, Summary, Counts, Same, Differ, Alone, Differences, Stat
-KINDS += FileKey, SenderKey, Sender, Event, Answered, Requested, Silent, Returned
+KINDS += FileKey, SenderKey, Sender, Selected, Event, Answered, Requested, Silent, Returned
 
 # What a note has besides.
 NOTES = {
@@ -317,6 +343,8 @@ NOTES = {
     "no-updates": {},
     "routes-differ": {"routes": int},
     "source": {"source": Address},
+    "feasibility": {"address": Address, "announced": int, "keys": int},
+    "ties": {"keys": int},
 }
 ORIGIN = {
     "sender": Address,

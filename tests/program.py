@@ -573,7 +573,7 @@ def check(tally, _long):
         folder = pathlib.Path(folder)
         transcript.link(program, folder)
         transcript.link_examples(folder)
-        for name in "program", "worked", "time", "hold", "events", "words":
+        for name in "program", "worked", "time", "hold", "events", "select", "words":
             transcript.play(TOP / f"tests/{name}.txt", folder, tally)
         transcript.put(dict(large_dumps()), folder)
         transcript.play(TOP / "tests/limits.txt", folder, tally)

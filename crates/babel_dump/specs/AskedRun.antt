@@ -136,6 +136,8 @@ Did (askeds.Lone lone) seed stream other = DidJob lone.job seed stream other
 Did (askeds.EachSender each) seed stream other = WroteSenders each stream other
 Did (askeds.EachPair pairs) seed stream other = WrotePairs pairs stream other
 Did (askeds.Events events) seed stream other = ToldEvents events stream
+-- of `select` it is not proved yet what it tells
+Did (askeds.Select select) seed stream other = λ writer done. Unit {0}
 
 -- the option that is told as misplaced
 abbrev pub misplaced_told : Trouble → Option (List ℕ)

@@ -7,6 +7,7 @@ use crate::job::{DumpFile, Job, Work};
 use crate::key_text::Named;
 use crate::lone_sender::{Lone, LoneSender};
 use crate::reading::capture_limit;
+use crate::select_job::Select;
 use crate::spelling::Spelling;
 use babel_table::Limits;
 
@@ -24,6 +25,8 @@ pub enum Asked {
     EachPair(EachPair),
     /// `events`: what changed in a capture, and when.
     Events(Events),
+    /// `select`: which routes a router uses, of those that its neighbours announce.
+    Select(Select),
 }
 
 impl Asked {
@@ -34,6 +37,7 @@ impl Asked {
             Asked::EachSender(each) => &each.file,
             Asked::EachPair(pairs) => &pairs.left.file,
             Asked::Events(events) => &events.file,
+            Asked::Select(select) => &select.each.file,
         }
     }
 
@@ -43,7 +47,7 @@ impl Asked {
             Asked::Job(job) => job.other(),
             Asked::EachSender(each) => each.pairs(),
             Asked::EachPair(pairs) => Some(&pairs.right.file),
-            Asked::Lone(_) | Asked::Events(_) => None,
+            Asked::Lone(_) | Asked::Events(_) | Asked::Select(_) => None,
         }
     }
 
@@ -53,9 +57,11 @@ impl Asked {
         match self {
             Asked::Job(job) => job.named(),
             Asked::EachSender(each) if each.has_keys() => Named(Some(each.file.name())),
-            Asked::EachSender(_) | Asked::Lone(_) | Asked::EachPair(_) | Asked::Events(_) => {
-                Named(None)
-            }
+            Asked::EachSender(_)
+            | Asked::Lone(_)
+            | Asked::EachPair(_)
+            | Asked::Events(_)
+            | Asked::Select(_) => Named(None),
         }
     }
 
@@ -64,7 +70,7 @@ impl Asked {
         match self {
             Asked::Job(job) => matches!(job.work, Work::Two { .. }),
             Asked::EachPair(_) => true,
-            Asked::EachSender(_) | Asked::Lone(_) | Asked::Events(_) => false,
+            Asked::EachSender(_) | Asked::Lone(_) | Asked::Events(_) | Asked::Select(_) => false,
         }
     }
 
@@ -72,7 +78,7 @@ impl Asked {
     pub(crate) fn names_sender(&self) -> bool {
         match self {
             Asked::Job(_) | Asked::Lone(_) => true,
-            Asked::EachSender(_) | Asked::EachPair(_) => false,
+            Asked::EachSender(_) | Asked::EachPair(_) | Asked::Select(_) => false,
             Asked::Events(events) => events.sender.is_some(),
         }
     }
@@ -92,6 +98,7 @@ impl Asked {
             Asked::EachSender(each) => each.quiet,
             Asked::EachPair(pairs) => pairs.left.quiet,
             Asked::Events(events) => events.quiet,
+            Asked::Select(select) => select.each.quiet,
         }
     }
 
@@ -103,6 +110,7 @@ impl Asked {
             Asked::EachSender(each) => each.format,
             Asked::EachPair(pairs) => pairs.left.format,
             Asked::Events(events) => events.format,
+            Asked::Select(select) => select.each.format,
         };
         let is_key = self.named().0.is_some();
         match format {
@@ -121,6 +129,7 @@ impl Asked {
             Asked::EachSender(each) => Some(each.limits),
             Asked::EachPair(pairs) => Some(pairs.left.limits),
             Asked::Events(events) => Some(events.limits),
+            Asked::Select(select) => Some(select.each.limits),
         }
     }
 

@@ -24,6 +24,8 @@ use crate::job::Job;
 use crate::job_run::run_job;
 use crate::run_fault::{RunFault, Side};
 use crate::says::Says;
+use crate::select::run_select;
+use crate::select_job::Select;
 use crate::statuses::status_of_all;
 use crate::told_pairs::ToldPairs;
 use crate::told_senders::ToldSenders;
@@ -59,6 +61,7 @@ pub fn run_asked<R: Read + Drop, S: Read + Drop, W: ByteOut, T: Says>(
         Asked::EachSender(each) => tell_senders(alloc, seed, each, reader, other, writer),
         Asked::EachPair(pairs) => tell_pairs(alloc, seed, pairs, reader, other, writer),
         Asked::Events(events) => tell_events(alloc, events, reader, writer, says),
+        Asked::Select(select) => tell_selection(alloc, seed, select, reader, writer),
     }
 }
 
@@ -215,4 +218,17 @@ fn tell_events<R: Read + Drop, W: ByteOut, T: Says>(
     let done = Done::new(alloc)?;
     let answer = run_events(alloc, events, &mut FromReader::new(reader), writer, says)?;
     Ok(done.of_events(events, answer)?)
+}
+
+/// Tells which routes a router uses, once a capture is read.
+fn tell_selection<R: Read + Drop, W: ByteOut>(
+    alloc: Global,
+    seed: u128,
+    select: &Select,
+    reader: R,
+    writer: &mut W,
+) -> Result<Done, Trouble>
+    requires { HasRoomToWrite (W.state writer.old) }
+{
+    run_select(alloc, seed, select, &mut FromReader::new(reader), writer)
 }

@@ -1,0 +1,32 @@
+-- The nodes of links, each at the place where its link was captured: this project's own.
+use Rattle.std.specs.Prelude.{◌≡◌}
+use Rattle.std.specs.declared.cmp.Ordering.{Ordering}
+use Rattle.std.specs.declared.cmp.Ordering.TheVariants.{Equal}
+use Rattle.std.specs.Ordering.{on, then_cmp}
+use Rattle.std.proofs.Common.{ap, sym, ◌∙◌}
+use Rattle.babel_prefix.specs.Address.{Address}
+use Rattle.babel_prefix.specs.Order.{address_cmp}
+use Rattle.babel_prefix.proofs.OrderLaws.{address_equality, then_parts}
+use Rattle.babel_capture.specs.Tallies.{place_cmp}
+use Rattle.babel_capture.specs.declared.place.Place.{Place}
+use Rattle.babel_capture.proofs.TallyLaws.{place_exact}
+use Rattle.babel_dump.specs.declared.node.Node.{Node}
+
+-- by place, then by address
+abbrev pub node_cmp : Node → Node → Ordering
+node_cmp = then_cmp (on (λ n. n.place) place_cmp) (on (λ n. n.address) address_cmp)
+
+abbrev pub node_at : Place → Address → Node
+node_at place address = record { place = place; address = address }
+
+-- two that are equal in this order are one
+pub node_exact : (a b : Node) → node_cmp a b ≡ Equal → a ≡ b
+node_exact a b e =
+    let parts = then_parts (place_cmp a.place b.place) (address_cmp a.address b.address) e in
+    ap (λ place. node_at place a.address) (place_exact a.place b.place parts.0)
+    ∙ ap (node_at b.place) ((address_equality a.address b.address).0 parts.1)
+
+-- so are two that are equal in an order that answers the same
+pub exact_by : (cmp : Node → Node → Ordering) → ((a b : Node) → cmp a b ≡ node_cmp a b)
+    → (a b : Node) → cmp a b ≡ Equal → a ≡ b
+exact_by cmp same a b e = node_exact a b (sym (same a b) ∙ e)

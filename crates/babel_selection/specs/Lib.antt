@@ -1,0 +1,9 @@
+pub mod Seqnos
+pub mod Links
+pub mod Hearing
+pub mod Distances
+pub mod Announcing
+pub mod OwnUpdates
+pub mod Selection
+pub mod ToldKeys
+pub mod Offers
