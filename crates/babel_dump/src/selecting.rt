@@ -4,7 +4,7 @@ use crate::select_job::Select;
 use crate::sender_tables::SenderTables;
 use babel_capture::{BabelPacket, Record, Said, Sink};
 use babel_selection::Sources;
-use babel_tlv::{Event, Start, State, Tlvs};
+use babel_tlv::{Fault, Start};
 use std::alloc::{AllocError, Global};
 
 /// The tables of the senders, what they say of links, and the source table of the router, as its
@@ -43,31 +43,26 @@ impl<'a> Selecting<'a> {
         };
         let origin = &packet.origin;
         if self.select.is_router(origin.sender) && self.select.each.asks_for(origin) {
-            let via_v6 = self.select.each.limits.via_v6();
-            return hear_own(&mut self.sources, via_v6, time.nanoseconds(), packet);
+            return self.hear_own(time.nanoseconds(), packet);
         }
         Ok(())
     }
-}
 
-/// Takes the Updates of a packet of the router's own that came at this time.
-fn hear_own(
-    sources: &mut Sources,
-    via_v6: bool,
-    time: u128,
-    packet: &BabelPacket<'_>,
-) -> Result<(), AllocError> {
-    let [_, _, _, _, body @ ..] = packet.octets else {
-        return Ok(());
-    };
-    let sender = packet.origin.sender;
-    let mut state = State::at(Start { sender, via_v6 });
-    for tlv in Tlvs::new(body, 0) {
-        if let Ok(Event::Announce(key, ann)) = state.step(&tlv) {
-            sources.hear(&key, &ann, time)?;
+    /// Takes the Updates of a packet of the router's own that came at this time. Why its packets are
+    /// refused its table says.
+    fn hear_own(&mut self, time: u128, packet: &BabelPacket<'_>) -> Result<(), AllocError> {
+        let [_, _, _, _, body @ ..] = packet.octets else {
+            return Ok(());
+        };
+        let start = Start {
+            sender: packet.origin.sender,
+            via_v6: self.select.each.limits.via_v6(),
+        };
+        match self.sources.hear_body(start, time, body) {
+            Err(Fault::Memory) => Err(AllocError),
+            _ => Ok(()),
         }
     }
-    Ok(())
 }
 
 impl Sink for Selecting<'_> {
