@@ -37,7 +37,7 @@ finding_of (findings.Left reason origin is_missed) =
     left reason (if is_missed then Some origin else None)
 finding_of (findings.Refused lack) = refused lack
 finding_of (findings.Packet origin destination octets has_trailer) =
-    found origin.place (record { sender = origin.sender; destination = destination }) octets.now
+    found origin.place (record { sender = origin.sender; destination = destination.now }) octets.now
     has_trailer
 
 -- the octets of the packet, if one was found, whose it is, and to whom it is sent

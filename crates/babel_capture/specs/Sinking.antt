@@ -36,7 +36,7 @@ abbrev pub IsPacketOf : Found → Option BabelPacket → Type 0
 IsPacketOf what None = (origin_found what ≡ None) × (octets_found what ≡ [])
 IsPacketOf what (Some packet) =
     (origin_found what ≡ Some packet.origin) × (octets_found what ≡ packet.octets.now)
-    × (destination_found what ≡ Some packet.destination)
+    × (destination_found what ≡ Some packet.destination.now)
 
 -- this is told of a packet
 pub record IsTold (one : Made) (told : Record) : Type 0 where

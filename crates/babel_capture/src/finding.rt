@@ -35,7 +35,7 @@ pub enum Finding<'a> {
     /// A Babel packet: RFC 8966, 4.2. `has_trailer` says whether octets come after its body.
     Packet {
         origin: Origin,
-        destination: Addr,
+        destination: &'a Addr,
         octets: &'a [u8],
         has_trailer: bool,
     },
@@ -82,7 +82,7 @@ impl<'a> Finding<'a> {
 }
 
 /// What is made of a datagram's payload: the packet without what comes after its body.
-fn payload_finding<'a>(place: Place, ends: &Ends, payload: &'a [u8]) -> Finding<'a>
+fn payload_finding<'a>(place: Place, ends: &'a Ends, payload: &'a [u8]) -> Finding<'a>
     ensures { PayloadIs place ends.now payload.now (finding_of result) }
 {
     let sender = ends.sender;
@@ -90,7 +90,7 @@ fn payload_finding<'a>(place: Place, ends: &Ends, payload: &'a [u8]) -> Finding<
     match frame(payload, 0) {
         Frame::Whole { used, .. } => Finding::Packet {
             origin,
-            destination: ends.destination,
+            destination: &ends.destination,
             octets: &payload[..used],
             has_trailer: used < payload.len(),
         },
@@ -103,7 +103,7 @@ fn payload_finding<'a>(place: Place, ends: &Ends, payload: &'a [u8]) -> Finding<
 impl Wanted {
     /// What is made of a captured packet that is seen so.
     #[inline(always)]
-    pub fn finding<'a>(&self, seen: &Seen<'a>) -> Finding<'a>
+    pub fn finding<'a>(&self, seen: &'a Seen<'a>) -> Finding<'a>
         ensures { Finds self.now (sight_of seen.now) (finding_of result) }
     {
         match seen {

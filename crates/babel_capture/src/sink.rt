@@ -39,7 +39,7 @@ pub struct BabelPacket<'a> {
     /// Who sent it, and where it was captured.
     pub origin: Origin,
     /// The address that it was sent to.
-    pub destination: Addr,
+    pub destination: &'a Addr,
     /// Its header and its body.
     pub octets: &'a [u8],
 }

@@ -61,30 +61,31 @@ impl Tally {
         }
     }
 
-    /// With one packet more, with these Updates, and whether octets come after its body; `None` if
-    /// its packets, their octets or their Updates are more than 2^64 - 1.
+    /// Counts one packet more, with these Updates, and whether octets come after its body; `None`
+    /// if its packets, their octets or their Updates are more than 2^64 - 1, and it is then not to
+    /// be used.
     #[inline(always)]
-    fn with(
-        self,
-        time: Option<Time>,
+    fn add(
+        &mut self,
+        time: &Option<Time>,
         packet: &[u8],
         updates: &Updates,
         has_trailer: bool,
-    ) -> Option<Tally>
+    ) -> Option<()>
         requires count { updates.now.count ≡ updates_in packet.now }
         requires interval { updates.now.interval ≡ interval_in packet.now }
-        ensures some { IfSome result (λ tally. tally ≡ one_more self time packet.now has_trailer) }
-        ensures none { IfNone result (Overflows self packet.now has_trailer) }
+        ensures some { IfSome result
+            (λ _. self.new ≡ one_more self.old time.now packet.now has_trailer) }
+        ensures none { IfNone result (Overflows self.old packet.now has_trailer) }
     {
-        Some(Tally {
-            packets: self.packets.checked_add(1)?,
-            octets: self.octets.checked_add(packet.len() as u64)?,
-            updates: self.updates.checked_add(updates.count)?,
-            trailers: self.trailers.checked_add(u64::from(has_trailer))?,
-            interval: greater(self.interval, updates.interval),
-            first: earlier(self.first, time),
-            last: later(self.last, time),
-        })
+        self.packets = self.packets.checked_add(1)?;
+        self.octets = self.octets.checked_add(packet.len() as u64)?;
+        self.updates = self.updates.checked_add(updates.count)?;
+        self.trailers = self.trailers.checked_add(u64::from(has_trailer))?;
+        self.interval = greater(self.interval, updates.interval);
+        self.first = earlier(&self.first, time);
+        self.last = later(&self.last, time);
+        Some(())
     }
 }
 
@@ -180,7 +181,8 @@ impl Tallies {
             if self.tallies.len() >= MAX_SENDERS {
                 return Err(Fault::TooManySenders { at });
             }
-            let Some(first) = Tally::none().with(time, packet, updates, has_trailer) else {
+            let mut first = Tally::none();
+            let Some(()) = first.add(&time, packet, updates, has_trailer) else {
                 return Err(Fault::Memory);
             };
             match self.tallies.insert(origin, first) {
@@ -188,10 +190,9 @@ impl Tallies {
                 Err(_) => return Err(Fault::Memory),
             }
         };
-        let Some(more) = tally.with(time, packet, updates, has_trailer) else {
-            return Err(Fault::Memory);
-        };
-        *tally = more;
-        Ok(())
+        match tally.add(&time, packet, updates, has_trailer) {
+            Some(()) => Ok(()),
+            None => Err(Fault::Memory),
+        }
     }
 }

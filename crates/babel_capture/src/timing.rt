@@ -49,29 +49,31 @@ impl Timing {
 }
 
 /// The earlier of two times, or the one that there is.
-pub(crate) fn earlier(one: Option<Time>, other: Option<Time>) -> Option<Time>
-    ensures { result ≡ least one other }
+pub(crate) fn earlier(one: &Option<Time>, other: &Option<Time>) -> Option<Time>
+    ensures { result ≡ least one.now other.now }
 {
     match (one, other) {
         (Some(one), Some(other)) => Some(if other.nanoseconds() < one.nanoseconds() {
-            other
+            *other
         } else {
-            one
+            *one
         }),
-        (one, other) => one.or(other),
+        (Some(one), None) => Some(*one),
+        (None, other) => *other,
     }
 }
 
 /// The later of two times, or the one that there is.
-pub(crate) fn later(one: Option<Time>, other: Option<Time>) -> Option<Time>
-    ensures { result ≡ greatest one other }
+pub(crate) fn later(one: &Option<Time>, other: &Option<Time>) -> Option<Time>
+    ensures { result ≡ greatest one.now other.now }
 {
     match (one, other) {
         (Some(one), Some(other)) => Some(if one.nanoseconds() < other.nanoseconds() {
-            other
+            *other
         } else {
-            one
+            *one
         }),
-        (one, other) => one.or(other),
+        (Some(one), None) => Some(*one),
+        (None, other) => *other,
     }
 }

@@ -72,15 +72,15 @@ told_both lost mid_lost same old mid now first second was is =
     ∙ ap (λ (t : Tellings). old ++ t) (sym (filter-append (λ (one : Telling Speaker). not (contains speaker_cmp lost (speaker_of one))) first second))
 
 found_of : (events : Events) (time : ℕ) (what : Found) (packet : BabelPacket) → IsPacketOf what (Some packet)
-    → requests_found events (Some time) what ≡ requests_asked events time packet.origin packet.destination packet.octets.now
+    → requests_found events (Some time) what ≡ requests_asked events time packet.origin packet.destination.now packet.octets.now
 found_of events time (found place ends octets has_trailer) packet is =
     let own : Origin = record { place = place; sender = ends.sender } in
     let some : Some own ≡ Some packet.origin = is.0 in
     let same : own ≡ packet.origin = cc in
-    let sent : Some ends.destination ≡ Some packet.destination = is.2 in
-    let to : ends.destination ≡ packet.destination = cc in
+    let sent : Some ends.destination ≡ Some packet.destination.now = is.2 in
+    let to : ends.destination ≡ packet.destination.now = cc in
     ap (λ (o : Origin). requests_asked events time o ends.destination octets) same ∙ ap (λ (d : Address). requests_asked events time packet.origin d octets) to
-    ∙ ap (requests_asked events time packet.origin packet.destination) is.1
+    ∙ ap (requests_asked events time packet.origin packet.destination.now) is.1
 found_of events time passed packet is = absurd (let bad = is.0 in cc)
 found_of events time untold packet is = absurd (let bad = is.0 in cc)
 found_of events time (left reason missed) packet is = absurd (let bad = is.0 in cc)
@@ -96,7 +96,7 @@ none_found events (Some time) (refused lack) is = refl
 
 -- the record has a time, and a packet, which is told
 pub requests_of : (events : Events) (one : Made) (told : Record) (time : ℕ) (packet : BabelPacket) → IsTold one told → told.time ≡ Some time → packet_said told.said ≡ Some packet
-    → requests_made events one ≡ requests_asked events time packet.origin packet.destination packet.octets.now
+    → requests_made events one ≡ requests_asked events time packet.origin packet.destination.now packet.octets.now
 requests_of events one told time packet is timed some =
     ap (λ (t : Option ℕ). requests_found events t one.what) (sym is.time ∙ timed) ∙ found_of events time one.what packet (subst (IsPacketOf one.what) some is.packet)
 

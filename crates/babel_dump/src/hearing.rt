@@ -243,7 +243,7 @@ impl Hearing {
     ) -> Result<(), AllocError>
         ensures { OnOk result (told.new.items ≡ told.old.items ++ unlost_by self.now.lost
             (told_from self.now.since.moment
-            (requests_asked events.now time packet.now.origin packet.now.destination
+            (requests_asked events.now time packet.now.origin packet.now.destination.now
             packet.now.octets.now))) }
     {
         let Origin { place, sender } = packet.origin;
@@ -251,7 +251,7 @@ impl Hearing {
         if !self.tells_requests(events, time, &speaker) {
             return Ok(());
         }
-        let to = unicast(packet.destination);
+        let to = unicast(*packet.destination);
         tell_requests(
             events.limits.via_v6(),
             speaker,

@@ -19,28 +19,28 @@ returns-then-len-ge-MAX_SENDERS-clause-err c =
 pub returns-in-Ok-clause-ok : goal.returns-in-Ok-clause-ok
 returns-in-Ok-clause-ok c =
     let none : lookup (is_at (ghosts.cmp c.args.origin)) c.args.self.now ≡ None = search rules in
-    let first : c.in-Some-with.first ≡ one_more no_packets c.args.time c.args.packet.now c.args.has_trailer = search rules in
-    let put : c.insert.new.self.entries ≡ insert_entry ghosts.cmp c.args.self.now c.args.origin c.in-Some-with.first = search rules in
-    tallied-as c.args.self.now c.insert.new.self.entries c.args.origin c.args.time c.args.packet.now c.args.has_trailer None c.in-Some-with.first
-    (sym (unknown-by c.args.self.now c.args.origin) ∙ none) first (put ∙ put-by c.args.self.now c.args.origin c.in-Some-with.first)
+    let first : c.add.new.self ≡ one_more no_packets c.args.time c.args.packet.now c.args.has_trailer = search rules in
+    let put : c.insert.new.self.entries ≡ insert_entry ghosts.cmp c.args.self.now c.args.origin c.add.new.self = search rules in
+    tallied-as c.args.self.now c.insert.new.self.entries c.args.origin c.args.time c.args.packet.now c.args.has_trailer None c.add.new.self
+    (sym (unknown-by c.args.self.now c.args.origin) ∙ none) first (put ∙ put-by c.args.self.now c.args.origin c.add.new.self)
 
 pub returns-in-Err-clause-memory : goal.returns-in-Err-clause-memory
 returns-in-Err-clause-memory c memory =
     let none : lookup (is_at (ghosts.cmp c.args.origin)) c.args.self.now ≡ None = search rules in
     subst (λ (t : Option Tally). CountNeedsMemory t c.args.packet.now c.args.has_trailer) (sym none ∙ unknown-by c.args.self.now c.args.origin) tt
 
-pub returns-in_default-with-2-clause-memory : goal.returns-in_default-with-2-clause-memory
-returns-in_default-with-2-clause-memory c memory =
+pub returns-in-None-clause-memory : goal.returns-in-None-clause-memory
+returns-in-None-clause-memory c memory =
     let found : lookup (is_at (ghosts.cmp c.args.origin)) c.args.self.now ≡ Some c.in-Some.tally.now = search rules in
     subst (λ (t : Option Tally). CountNeedsMemory t c.args.packet.now c.args.has_trailer) (sym found ∙ unknown-by c.args.self.now c.args.origin) (search rules)
 
-pub returns-clause-ok : goal.returns-clause-ok
-returns-clause-ok c =
+pub returns-in-Some-add-2-clause-ok : goal.returns-in-Some-add-2-clause-ok
+returns-in-Some-add-2-clause-ok c =
     let found : lookup (is_at (ghosts.cmp c.args.origin)) c.args.self.now ≡ Some c.in-Some.tally.now = search rules in
-    let more : c.in-Some-with-2.more ≡ one_more c.in-Some.tally.now c.args.time c.args.packet.now c.args.has_trailer = search rules in
+    let more : c.add-2.new.self ≡ one_more c.in-Some.tally.now c.args.time c.args.packet.now c.args.has_trailer = search rules in
     let sorted : IsStrictlySortedBy ghosts.cmp (keys_of c.args.self.now) = subst (λ (s : Senders). IsStrictlySortedBy ghosts.cmp (keys_of s)) c.self.view_is c.get_mut.ensures.ordered in
-    let after = (c.get_mut.follows.lender c.in-Some-with-2.more).entries in
-    let written : after ≡ set_value (is_at (ghosts.cmp c.args.origin)) c.args.self.now c.in-Some-with-2.more =
-    subst (λ (s : Senders). after ≡ set_value (is_at (ghosts.cmp c.args.origin)) s c.in-Some-with-2.more) c.self.view_is (c.get_mut.follows.holds c.in-Some-with-2.more).0 in
-    tallied-as c.args.self.now after c.args.origin c.args.time c.args.packet.now c.args.has_trailer (Some c.in-Some.tally.now) c.in-Some-with-2.more
-    (sym (unknown-by c.args.self.now c.args.origin) ∙ found) more (written ∙ written-by c.args.self.now c.args.origin c.in-Some.tally.now c.in-Some-with-2.more found sorted)
+    let after = (c.get_mut.follows.lender c.add-2.new.self).entries in
+    let written : after ≡ set_value (is_at (ghosts.cmp c.args.origin)) c.args.self.now c.add-2.new.self =
+    subst (λ (s : Senders). after ≡ set_value (is_at (ghosts.cmp c.args.origin)) s c.add-2.new.self) c.self.view_is (c.get_mut.follows.holds c.add-2.new.self).0 in
+    tallied-as c.args.self.now after c.args.origin c.args.time c.args.packet.now c.args.has_trailer (Some c.in-Some.tally.now) c.add-2.new.self
+    (sym (unknown-by c.args.self.now c.args.origin) ∙ found) more (written ∙ written-by c.args.self.now c.args.origin c.in-Some.tally.now c.add-2.new.self found sorted)
