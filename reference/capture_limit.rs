@@ -167,7 +167,7 @@ impl fmt::Display for Fault {
             Fault::NoTime(at) => write!(f, "packet without a time at {at}"),
             Fault::Dump(text, at) => write!(f, "{text} at {at}"),
             Fault::TooManyInterfaces(at) => write!(f, "too many interfaces at {at}"),
-            Fault::Lacking(at, Lack::Fragment) => write!(f, "datagram in fragments at {at}"),
+            Fault::Lacking(at, Lack::Fragment) => write!(f, "fragments of a datagram missing at {at}"),
             Fault::Lacking(at, Lack::CutShort) => write!(f, "datagram cut short at {at}"),
             Fault::Lacking(at, Lack::Snapped) => {
                 write!(f, "datagram cut by the recorder at {at}")

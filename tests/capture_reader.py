@@ -37,7 +37,7 @@ REASONS = (
 )
 # What refuses a capture whose dump lacks such a datagram.
 LACKS = {
-    "fragment": "datagram in fragments",
+    "fragment": "fragments of a datagram missing",
     "cut-short": "datagram cut short",
     "snapped": "datagram cut by the recorder",
 }
