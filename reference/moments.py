@@ -564,6 +564,8 @@ def read(octets, options):
     sender = options.sender and ipaddress.ip_address(options.sender)
     wanted, window = reader.Wanted(sender, options.interface), window_of(options)
     found, fault = reader.Found(), None
+    if options.command == "events":
+        found.met = set()
     try:
         reader.find(octets, reader.USUAL_OCTETS, wanted, options.accept_cut, window, found)
     except Fault as cause:
@@ -638,6 +640,9 @@ def events(octets, options):
     status, none = (0, ()) if found.packets else (1, ("no Babel packets",))
     intervals = [reader.interval_of(sent) for sent in found.packets.values()]
     notes = [*reader.notes_of(found), *reader.time_notes(found, intervals)]
+    if found.not_followed:
+        text = f"too many senders at packet {found.not_followed}, and no more are followed"
+        notes.append((text, {"note": "not-followed", "packet": found.not_followed}))
     notes += source_notes(found, window, told, options)
     output = lines_of(told, found, options)
     if options.json and not options.quiet:

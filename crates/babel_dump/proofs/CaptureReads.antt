@@ -29,7 +29,7 @@ feed_cause reader Several (input_faults.Capture fault) cause = cause
 feed_cause reader Several fault cause = absurd cause
 
 -- up to a place where it is cut short is a fault of it
-cut_short : (limit : Extent) (octets : List ℕ) (gathering : Gathering) (at : ℕ) → IsReadToCut limit octets gathering (Some at) → EndsShort limit gathering.wanted octets (faults.CutShort at)
+pub cut_short : (limit : Extent) (octets : List ℕ) (gathering : Gathering) (at : ℕ) → IsReadToCut limit octets gathering (Some at) → EndsShort limit gathering.wanted octets (faults.CutShort at)
 cut_short limit octets gathering at is = record {
   blocks = is.is_read.blocks;
   rest = is.rest;

@@ -71,7 +71,7 @@ pub record IsOnSeveral (reader : CaptureInput) (interfaces : Interfaces) : Type 
 abbrev pub wanted_of : CaptureTask → Wanted
 wanted_of capture_tasks.Senders = everyone
 wanted_of (capture_tasks.Extract sender place hex) =
-    record { sender = Some sender; place = place }
+    record { sender = Some sender; place = place; are_listed = true }
 
 -- the text, by what is gathered of a capture, and made of each of its packets: a line for each
 -- sender at each place; the packets, end to end

@@ -1,7 +1,7 @@
 -- The sender that alone announces in a capture, whose dump is read where there is no `--from`. It is
 -- this project's own.
 use Rattle.std.specs.Prelude.{ℕ, ◌≡◌, ◌≢◌, is_some, if◌then◌else◌, List, [], ◌∷◌, ◌++◌, codes}
-use Rattle.std.specs.Prelude.{Option, None, Some}
+use Rattle.std.specs.Prelude.{Option, None, Some, true}
 use Rattle.std.specs.Io.KnownBytes.{Keeps}
 use Rattle.std.specs.List.{flat_map}
 use Rattle.babel_capture.specs.Gathering.{Gathering, name_of}
@@ -68,7 +68,7 @@ with_sender origin work = work
 -- is; its dump is the one that is asked for
 abbrev pub lone_from : Lone → Reads → CaptureInput
 lone_from lone reader = capture_from reader.old reader.new lone.reading
-    (record { sender = None; place = lone.place })
+    (record { sender = None; place = lone.place; are_listed = true })
 
 pub record FoundLone (asked : Lone) (stream : Option (List ℕ)) (lone : Lone) : Type 0 where
   pub begins : Begins

@@ -27,6 +27,7 @@ note_name (notes.Trailers packets) = codes "trailers"
 note_name (notes.CaptureCut at) = codes "capture-cut"
 note_name (notes.TooShort frames) = codes "too-short"
 note_name (notes.Backwards packet) = codes "backwards"
+note_name (notes.NotFollowed packet) = codes "not-followed"
 note_name (notes.ShortSpan span interval) = codes "short-span"
 note_name (notes.Expired routes) = codes "expired"
 note_name notes.NoUpdates = codes "no-updates"
@@ -69,6 +70,7 @@ note_members (notes.Trailers packets) = number_member (codes "packets") packets
 note_members (notes.CaptureCut at) = number_member (codes "at") at
 note_members (notes.TooShort frames) = number_member (codes "frames") frames
 note_members (notes.Backwards packet) = number_member (codes "packet") packet
+note_members (notes.NotFollowed packet) = number_member (codes "packet") packet
 note_members (notes.ShortSpan span interval) =
     seconds_member (codes "span") span ++ seconds_member (codes "interval") interval
 note_members (notes.Expired routes) = number_member (codes "routes") routes

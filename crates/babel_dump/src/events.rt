@@ -1,16 +1,17 @@
 //! `events`: what the senders in a capture announce, change and retract, and what expires, told as
 //! the capture is read.
 ghost use Rattle.std.specs.Prelude.{◌≡◌, ◌+◌, ◌-◌, ◌++◌, ◌^◌, ◌<◌, ◌≤◌, ℕ, List, []};
-ghost use Rattle.std.specs.Prelude.{None, IfOk, OnOk, false, map, true, vec_capacity};
+ghost use Rattle.std.specs.Prelude.{◌∷◌, None, IfOk, OnOk, false, if◌then◌else◌, map, true};
+ghost use Rattle.std.specs.Prelude.{vec_capacity};
 ghost use Rattle.std.specs.List.{flat_map};
 ghost use Rattle.babel_capture.specs.Capture.{HasRead, IsReadToCut, moment_read};
 ghost use Rattle.babel_timeline.specs.declared.telling.Telling.{Telling as TellingSaid};
-ghost use Rattle.babel_dump.specs.CaptureText.{senders_status};
 ghost use Rattle.babel_dump.specs.Device.{HasRoomToCount, HasRoomToWrite};
-ghost use Rattle.babel_dump.specs.EventsRun.{AreReadWhole, TellsEvents, WroteLines};
+ghost use Rattle.babel_dump.specs.EventsRun.{AreReadWhole, TellsEvents, WroteLines, heard_status};
 ghost use Rattle.babel_dump.specs.Followed.{Ends, EndsAt, Goes, HasFollowed, IsFollowed};
 ghost use Rattle.babel_dump.specs.Followed.{Suits, named_event};
-ghost use Rattle.babel_dump.specs.HeardSenders.{heard_of, heard_told, sender_heard};
+ghost use Rattle.babel_dump.specs.FollowedSenders.{with_packets};
+ghost use Rattle.babel_dump.specs.HeardSenders.{heard_of, heard_told};
 ghost use Rattle.babel_dump.specs.Run.{output};
 ghost use Rattle.babel_dump.specs.Slices.{WroteFront};
 ghost use Rattle.babel_dump.specs.declared.speaker.Speaker.{Speaker as SpeakerSaid};
@@ -89,7 +90,11 @@ impl<'a> Followed<'a> {
     {
         let buffer = slice_buffer(alloc)?;
         let (sender, place) = (events.sender, events.place);
-        let wanted = Wanted { sender, place };
+        let wanted = Wanted {
+            sender,
+            place,
+            are_listed: events.strict,
+        };
         let capture = Capture::within(alloc, MOST, events.window, events.accept_cut, wanted);
         let follower = Follower::new(alloc, events);
         Ok(Followed {
@@ -220,6 +225,7 @@ impl<'a> Followed<'a> {
             × (self.new.follower.events.now ≡ self.old.follower.events.now)
             × (self.new.follower.hearing ≡ self.old.follower.hearing)
             × (self.new.follower.fault ≡ self.old.follower.fault) }
+        ensures senders { self.new.follower.senders ≡ self.old.follower.senders }
         ensures told { OnOk result (self.new.follower.told.items ≡ []) }
         ensures empty { OnOk result (self.new.buffer.items ≡ []) }
         ensures room { OnOk result (512 ≤ vec_capacity self.new.buffer) }
@@ -257,8 +263,8 @@ impl<'a> Followed<'a> {
             (output (W.state writer.old) (W.state writer.new)) answer) }
     {
         let cut = self.cut(events)?;
-        let status = self.status(events)?;
         let senders = self.senders(alloc)?;
+        let status = self.status(events, &senders)?;
         self.expire(events)?;
         self.write(events, writer)?;
         let report = self.capture.gathered().report();
@@ -271,6 +277,7 @@ impl<'a> Followed<'a> {
         Ok(EventsOutcome {
             outcome,
             senders,
+            not_followed: self.follower.not_followed(),
             other_sources,
         })
     }
@@ -284,16 +291,34 @@ impl<'a> Followed<'a> {
         Ok(self.follower.other_sources.take())
     }
 
-    /// What was heard of each sender, by place, then by address.
+    /// What was heard of each sender that is followed and has packets, by place, then by address.
     fn senders(&self, alloc: Global) -> Result<Vec<HeardSender>, AllocError>
         ensures { IfOk result (λ senders. map heard_told senders.items
-            ≡ map (sender_heard self.now) self.now.capture.progress.gathering.senders) }
+            ≡ map (heard_of self.now) (with_packets self.now.follower.senders.senders.entries)) }
     {
         let mut senders = Vec::new(alloc);
-        for (origin, _tally) in self.capture.gathered().senders().iter() {
-            senders.push(self.heard(alloc, *origin)?)?;
+        for (origin, has_packets) in self.follower.senders.senders.iter() {
+            self.add_heard(alloc, *origin, *has_packets, &mut senders)?;
         }
         Ok(senders)
+    }
+
+    /// Adds what was heard of this sender, if it has packets.
+    fn add_heard(
+        &self,
+        alloc: Global,
+        origin: Origin,
+        has_packets: bool,
+        senders: &mut Vec<HeardSender>,
+    ) -> Result<(), AllocError>
+        ensures { OnOk result (map heard_told senders.new.items ≡ map heard_told senders.old.items
+            ++ (if has_packets then heard_of self.now origin ∷ [] else [])) }
+    {
+        if !has_packets {
+            return Ok(());
+        }
+        senders.push(self.heard(alloc, origin)?)?;
+        Ok(())
     }
 
     /// What was heard of this sender.
@@ -351,11 +376,10 @@ impl<'a> Followed<'a> {
     }
 
     /// The exit status: 1 where no sender has packets, and none is named.
-    fn status(&self, events: &Events) -> Result<u8, Trouble>
-        ensures { IfOk result (λ status. status
-            ≡ senders_status self.now.capture.progress.gathering.senders) }
+    fn status(&self, events: &Events, senders: &[HeardSender]) -> Result<u8, Trouble>
+        ensures { IfOk result (λ status. status ≡ heard_status senders.now) }
     {
-        if !self.capture.gathered().senders().is_empty() {
+        if !senders.is_empty() {
             return Ok(0);
         }
         if events.sender.is_some() {

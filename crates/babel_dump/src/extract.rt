@@ -59,6 +59,7 @@ pub(crate) fn find_packets<R: ByteIn>(
     let wanted = Wanted {
         sender: Some(sender),
         place,
+        are_listed: true,
     };
     let mut copy = PacketCopy {
         octets: Vec::new(alloc),

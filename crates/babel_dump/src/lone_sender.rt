@@ -57,6 +57,7 @@ impl Lone {
         let wanted = Wanted {
             sender: None,
             place: self.place,
+            are_listed: true,
         };
         let mut device = begun.into_device();
         let read = read_capture(alloc, self.reading, wanted, &mut device, &mut NoSink)?;

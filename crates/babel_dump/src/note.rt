@@ -27,6 +27,8 @@ pub enum Note {
     TooShort(u64),
     /// Times run backwards at the packet with this number.
     Backwards(u64),
+    /// The packet with this number is the first of a sender that is not followed.
+    NotFollowed(u64),
     /// What was read of a capture spans so many hundredths of a second, which is less than the
     /// greatest Interval of an Update that announces.
     ShortSpan { span: u64, interval: u16 },
@@ -61,6 +63,12 @@ impl fmt::Display for Note {
             Note::TooShort(1) => f.write_str("1 frame too short to tell"),
             Note::TooShort(frames) => write!(f, "{frames} frames too short to tell"),
             Note::Backwards(packet) => write!(f, "times run backwards at packet {packet}"),
+            Note::NotFollowed(packet) => {
+                write!(
+                    f,
+                    "too many senders at packet {packet}, and no more are followed"
+                )
+            }
             Note::ShortSpan { span, interval } => write!(
                 f,
                 "the capture spans {} s, the Interval is {} s: routes may be missing",

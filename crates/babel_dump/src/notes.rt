@@ -120,10 +120,11 @@ impl Notes {
             Some(heard) => {
                 self.add_dump(Side::First, heard.report, Some(capture))?;
                 let (spelling, others) = (events.format.spelling(), &answer.other_sources);
-                self.add(Side::First, source_note(others, spelling, &heard.origin))
+                self.add(Side::First, source_note(others, spelling, &heard.origin))?;
             }
-            None => self.add_capture(Side::First, capture, report.interval()),
+            None => self.add_capture(Side::First, capture, report.interval())?,
         }
+        self.add(Side::First, not_followed(answer))
     }
 
     /// What there is to know of the dump of a sender in a capture, in place of what was.
@@ -317,6 +318,11 @@ fn left_out(report: CaptureReport, are_apart: bool) -> Option<Note>
     ensures { (left : Option LeftOutNote) × (result ≡ option_map notes.LeftOut left) }
 {
     Some(Note::LeftOut(LeftOutNote::of(report, are_apart)?))
+}
+
+/// That senders are not followed.
+fn not_followed(answer: &EventsOutcome) -> Option<Note> {
+    Some(Note::NotFollowed(answer.not_followed?))
 }
 
 /// That a capture is cut short.

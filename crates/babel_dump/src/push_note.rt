@@ -72,6 +72,7 @@ fn name(note: &Note) -> &'static str
         Note::CaptureCut(_) => "capture-cut",
         Note::TooShort(_) => "too-short",
         Note::Backwards(_) => "backwards",
+        Note::NotFollowed(_) => "not-followed",
         Note::ShortSpan { .. } => "short-span",
         Note::Expired(_) => "expired",
         Note::NoUpdates => "no-updates",
@@ -104,7 +105,9 @@ fn push_members(buffer: &mut Vec<u8>, note: &Note)
         Note::Trailers(packets) => push_member(buffer, "packets", *packets),
         Note::CaptureCut(at) => push_member(buffer, "at", *at),
         Note::TooShort(frames) => push_member(buffer, "frames", *frames),
-        Note::Backwards(packet) => push_member(buffer, "packet", *packet),
+        Note::Backwards(packet) | Note::NotFollowed(packet) => {
+            push_member(buffer, "packet", *packet);
+        }
         Note::ShortSpan { span, interval } => {
             push_seconds_member(buffer, "span", *span);
             push_seconds_member(buffer, "interval", u64::from(*interval));
