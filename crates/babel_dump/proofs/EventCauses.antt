@@ -1,7 +1,6 @@
 -- Why a run of `events` fails, from its parts.
-use Rattle.std.proofs.Common.{◌≡◌, ◌≢◌, ℕ, ◌+◌, ◌<◌, ◌≤◌, Bool, true, false, List, [], ◌++◌, map, take, Option, None, Some, Result, Ok, Err, refl, sym, ap, subst, ◌∙◌, inl, inr, arith}
+use Rattle.std.proofs.Common.{◌≡◌, ◌≢◌, ℕ, ◌<◌, Bool, true, false, List, [], ◌++◌, map, Option, None, Some, Result, Ok, Err, refl, sym, ap, subst, ◌∙◌, inl, inr}
 use Rattle.std.specs.Prelude.{IfErr, IsErrAnd, OnOk}
-use Rattle.std.specs.Option.{is_some}
 use Rattle.babel_capture.specs.Capture.{CaptureFault, HasRead, HasReadTo, IsReadToCut, State}
 use Rattle.babel_capture.specs.Blocks.{sightings_of}
 use Rattle.babel_capture.specs.Counts.{Counts, Made}
@@ -11,13 +10,12 @@ use Rattle.babel_capture.specs.Sinking.{FeedMore, Sinks, StopMore, StopsBehind}
 use Rattle.babel_capture.specs.Window.{Extent}
 use Rattle.babel_capture.specs.declared.fault.Fault.{Fault}
 use Rattle.babel_capture.specs.declared.fault.Fault.TheVariants as capture_faults
-use Rattle.babel_capture.specs.declared.tallies.Origin.{Origin}
 use Rattle.babel_capture.specs.declared.wanted.Wanted.{Wanted}
 use Rattle.babel_tlv.specs.declared.fault.Fault.TheVariants as faults
 use Rattle.babel_timeline.specs.declared.telling.Telling.{Telling}
 use Rattle.babel_dump.specs.CaptureGiven.{BeginsWith, CaptureInput, GaveCapture, IsFaultOfCapture}
-use Rattle.babel_dump.specs.Device.{Gave, GaveOctets, InputState, OutputState}
-use Rattle.babel_dump.specs.EventsCause.{EventsCause, Fails, GaveNobody, GaveRefused, HasNobody, HasUnread, InputFails, IsBackwards, IsRefused, IsTooLate, IsUnread, IsUnreadIn, IsWhole, RefusesOctets, RefusesPiece, RefusesRecord, RefusesWhole, TellsFault, events_input, nameless, reading_by}
+use Rattle.babel_dump.specs.Device.{Gave, InputState, OutputState}
+use Rattle.babel_dump.specs.EventsCause.{EventsCause, Fails, GaveNobody, GaveRefused, HasNobody, HasUnread, InputFails, IsBackwards, IsRefused, IsTooLate, IsUnreadIn, IsWhole, RefusesOctets, RefusesPiece, RefusesRecord, RefusesWhole, TellsFault, events_input, nameless, reading_by}
 use Rattle.babel_dump.specs.EventsRun.{followed_by, followed_extent}
 use Rattle.babel_dump.specs.Followed.{Follows, HasFollowed, HasHeard, HasStopped, IsFollowed, IsHeardOf, trouble_of}
 use Rattle.babel_dump.specs.HeardSenders.{heard_told, sender_heard}

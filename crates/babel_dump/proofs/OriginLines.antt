@@ -1,5 +1,5 @@
 -- The lines of what senders originate, one after another.
-use Rattle.std.proofs.Common.{◌≡◌, ℕ, Bool, true, cond, List, [], ◌∷◌, ◌++◌, filter, flat_map, sym, ap, ◌∙◌, append_assoc}
+use Rattle.std.proofs.Common.{◌≡◌, ℕ, Bool, true, cond, List, [], ◌∷◌, ◌++◌, flat_map, sym, ap, ◌∙◌, append_assoc}
 use Rattle.babel_dump.specs.OriginText.{changes_of, differs}
 use Rattle.babel_dump.proofs.OriginatedLaws.{All}
 use Rattle.babel_dump.specs.declared.originated.OnSides.{OnSides}

@@ -12,7 +12,7 @@ use Rattle.babel_capture.specs.declared.tallies.Origin.{Origin}
 use Rattle.babel_table.specs.Rows.{Routes}
 use Rattle.babel_timeline.proofs.WordLaws.{all_more}
 use Rattle.babel_tlv.specs.Pair.{Pair}
-use Rattle.babel_dump.specs.AskedRun.{GaveOn, IsReadOn, WroteOrigins}
+use Rattle.babel_dump.specs.AskedRun.{GaveOn, WroteOrigins}
 use Rattle.babel_dump.specs.CaptureGiven.{made_in}
 use Rattle.babel_dump.specs.EachSender.{AreOwn}
 use Rattle.babel_dump.specs.Fed.{AreWhole}

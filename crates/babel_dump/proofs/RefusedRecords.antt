@@ -1,10 +1,9 @@
 -- Why no more is heard than a record, from what a teller refuses of it.
-use Rattle.std.proofs.Common.{◌≡◌, ◌≢◌, ℕ, ◌∷◌, Bool, List, [], ◌++◌, ◌⊎◌, inl, inr, Option, None, Some, Result, Ok, Err, refl, sym, ap, subst, ◌∙◌, true, false, take, drop, append_assoc}
+use Rattle.std.proofs.Common.{◌≡◌, ◌≢◌, ℕ, ◌∷◌, Bool, List, [], ◌++◌, inl, inr, Option, None, Some, refl, sym, ap, subst, ◌∙◌, true, false, take, drop, append_assoc}
 use Rattle.std.specs.declared.cmp.Ordering.{Ordering}
 use Rattle.babel_capture.specs.Counts.{Made}
-use Rattle.babel_capture.specs.Findings.{octets_found, origin_found}
-use Rattle.babel_capture.specs.Sinking.{IsPacketOf, IsTold, left_said, packet_said}
-use Rattle.babel_capture.specs.Times.{time_of}
+use Rattle.babel_capture.specs.Findings.{octets_found}
+use Rattle.babel_capture.specs.Sinking.{IsPacketOf, IsTold, packet_said}
 use Rattle.babel_capture.specs.declared.sink.BabelPacket.{BabelPacket}
 use Rattle.babel_capture.specs.declared.sink.Record.{Record}
 use Rattle.babel_capture.specs.declared.tallies.Origin.{Origin}
@@ -17,11 +16,10 @@ use Rattle.babel_timeline.specs.Hearing.{octets_heard, report_of}
 use Rattle.babel_timeline.specs.Refusing.{RefusesPacket}
 use Rattle.babel_timeline.specs.Rows.{Rows}
 use Rattle.babel_timeline.specs.Telling.{AskedFor, TellsEnds, of_rows}
-use Rattle.babel_timeline.specs.declared.heard.Heard.{Heard}
 use Rattle.babel_timeline.specs.declared.teller.Teller.{Teller}
 use Rattle.babel_timeline.specs.declared.telling.Telling.{Telling}
 use Rattle.babel_dump.specs.EventsCause.{IsPartOf, IsRefused, RefusesAlone, RefusesHeard, RefusesPart, octets_in, start_of}
-use Rattle.babel_dump.specs.EventsRun.{HaveTold, asked_by, made_in, speaker_at, told_in}
+use Rattle.babel_dump.specs.EventsRun.{HaveTold, asked_by, speaker_at, told_in}
 use Rattle.babel_dump.specs.Followed.{Follows, HasHeard, HasStopped, IsFrom, IsHeardOf, IsOf, RefusesFront, RefusesPacketRead, RefusesSaid, RefusesTeller, RefusesTold, RefusesUnheard, RefusesUsually, Stops, Suits, octets_before, trouble_of}
 use Rattle.babel_dump.specs.Speakers.{speaker_cmp}
 use Rattle.babel_dump.specs.StrictPackets.{IsFirstOf, IsReadTo, fault_of}

@@ -1,6 +1,6 @@
 -- Why a run of `events` fails: this project's own.
 use Rattle.std.specs.Prelude.{ℕ, ◌≡◌, ◌≢◌, ◌^◌, ◌+◌, ◌<◌, ◌≤◌, ◌⊎◌, true, false, List, [], ◌∷◌}
-use Rattle.std.specs.Prelude.{◌++◌, Contains, None, Option, Result, Some, Err, length, map}
+use Rattle.std.specs.Prelude.{◌++◌, Contains, None, Option, Some, Err, length, map}
 use Rattle.std.specs.List.{AllByRecursion, flat_map}
 use Rattle.std.specs.Map.{keys_of}
 use Rattle.std.specs.Option.{is_some}

@@ -1,6 +1,6 @@
 -- What `show --origins` and `diff --origins` write. These are this project's own.
 use Rattle.std.specs.Prelude.{ℕ, Bool, true, ◌&&◌, not, ◌==◌, ◌-◌, if◌then◌else◌}
-use Rattle.std.specs.Prelude.{List, [], ◌∷◌, ◌++◌, codes, filter, is_none, is_some, length}
+use Rattle.std.specs.Prelude.{List, [], ◌++◌, codes, filter, is_none, is_some, length}
 use Rattle.std.specs.Prelude.{Option, None, Some}
 use Rattle.std.specs.List.{flat_map}
 use Rattle.std.specs.Fmt.{decimal}
@@ -8,7 +8,7 @@ use Rattle.hex.specs.Hex.{encode_lower}
 use Rattle.babel_dump.specs.DiffText.{row_end, row_mark, stat_json, stat_text}
 use Rattle.babel_dump.specs.Files.{name_of}
 use Rattle.babel_dump.specs.InFormat.{in_format}
-use Rattle.babel_dump.specs.JsonText.{addressed_json, kept_json, line_end, quoted}
+use Rattle.babel_dump.specs.JsonText.{addressed_json, kept_json, line_end}
 use Rattle.babel_dump.specs.KeyText.{file_text}
 use Rattle.babel_dump.specs.RunText.{differences_status, kept_text, newline}
 use Rattle.babel_dump.specs.Spelling.{from_prefix, prefix_text}

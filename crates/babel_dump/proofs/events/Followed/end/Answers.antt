@@ -5,7 +5,7 @@ use Rattle.babel_dump.specs.Run.{output}
 use Rattle.babel_dump.specs.declared.outcome.Outcome.{Outcome}
 use Rattle.babel_dump.specs.declared.outcome.Reports.TheVariants as reports
 use Rattle.babel_dump.specs.declared.trouble.Trouble.{Trouble}
-use Rattle.babel_dump.specs.EventsCause.{Fails, HasNobody, HasUnread, IsUnreadIn, RefusesWhole}
+use Rattle.babel_dump.specs.EventsCause.{HasNobody, HasUnread, IsUnreadIn, RefusesWhole}
 use Rattle.babel_dump.proofs.EventCauses.{err_exit, fails_so, has_unread, is_whole, of_memory, of_unread}
 use Rattle.babel_dump.proofs.TakeLaws.{ending}
 use Rattle.babel_dump.proofs.events.Followed.end.Goals as goal

@@ -1,4 +1,4 @@
-use Rattle.std.proofs.Common.{sym, subst, ap}
+use Rattle.std.proofs.Common.{subst}
 use Rattle.babel_dump.specs.Filter.{kept_rows}
 use Rattle.babel_dump.specs.Originated.{TakesMore}
 use Rattle.babel_dump.specs.declared.originated.Originated.{Originated}
