@@ -24,6 +24,7 @@ abbrev pub counted_with : Counts → Option Reason → Counts
 counted_with counts reason =
     record {
       packets = counts.packets + 1;
+      missing = counts.missing;
       left_out = left_with counts.left_out reason (counts.packets + 1);
       short = counts.short;
       cooked = counts.cooked;
@@ -54,6 +55,15 @@ counted counts link (left reason missed) = counted_with counts (Some reason)
 counted counts link (found place ends packet has_trailer) =
     packet_counted counts link (interval_in packet) has_trailer
 counted counts link what = counted_with counts None
+
+-- the counts with a datagram more of which fragments are missing, and the first to come had this
+-- number
+abbrev pub counted_missing : Counts → ℕ → Found → Counts
+counted_missing counts number (left reason missed) = record counts {
+  missing = counts.missing + 1;
+  left_out = left_with counts.left_out (Some reason) number;
+}
+counted_missing counts number what = record counts { missing = counts.missing + 1 }
 
 -- the counts with the time and the section of the next packet
 abbrev pub counted_at : Counts → Came → Counts

@@ -1,5 +1,5 @@
 -- What a report says of the packets of a capture. It is this project's own.
-use Rattle.std.specs.Prelude.{ℕ, Bool, true, false, ◌==◌, List, [], ◌∷◌, length, map, slice_get}
+use Rattle.std.specs.Prelude.{ℕ, Bool, true, false, not, ◌==◌, List, [], ◌∷◌, map, slice_get}
 use Rattle.std.specs.Prelude.{Option, None, count_by, fold}
 use Rattle.std.specs.List.{find}
 use Rattle.std.specs.Option.{option_map, option_flatten}
@@ -11,7 +11,7 @@ use Rattle.babel_capture.specs.declared.sections.Sections.{Sections}
 use Rattle.babel_capture.specs.declared.timing.Timing.{Timing}
 use Rattle.babel_capture.specs.Findings.{Found, untold, left, found}
 use Rattle.babel_capture.specs.Sections.{no_sections, sectioned}
-use Rattle.babel_capture.specs.Times.{Came}
+use Rattle.babel_capture.specs.Times.{Came, missing}
 use Rattle.babel_capture.specs.Timing.{greatest, no_times, timed}
 use Rattle.babel_capture.specs.Updates.{interval_in}
 
@@ -23,13 +23,14 @@ pub record Made : Type 0 where
   pub came : Came
   pub what : Found
 
--- how many packets there are, and for each reason, in the order of the reasons, how many datagrams
--- were left out for it and the number of the first; how many frames were too short to tell; how
--- many Babel packets came in frames of Linux cooked, version 1, which name no interface, and how
--- many have octets after the body; in how many sections datagrams of Babel came; the times of the
--- packets; and the greatest Interval of the Updates that announce
+-- how many packets there are, and of how many datagrams fragments are missing; for each reason, in
+-- the order of the reasons, how many datagrams were left out for it and the number of the first; how
+-- many frames were too short to tell; how many Babel packets came in frames of Linux cooked, version
+-- 1, which name no interface, and how many have octets after the body; in how many sections datagrams
+-- of Babel came; the times of the packets; and the greatest Interval of the Updates that announce
 pub record Counts : Type 0 where
   pub packets : ℕ
+  pub missing : ℕ
   pub left_out : List (Option (ℕ × ℕ))
   pub short : ℕ
   pub cooked : ℕ
@@ -100,9 +101,15 @@ interval_found what = None
 abbrev pub interval_made : List Made → Option ℕ
 interval_made made = fold (λ interval one. greatest interval (interval_found one.what)) None made
 
+-- it is a packet, and no datagram of which fragments are missing
+abbrev pub is_packet : Came → Bool
+is_packet missing = false
+is_packet other = true
+
 abbrev pub counts_of : List Made → Counts
 counts_of made = record {
-  packets = length made;
+  packets = count_by (λ one. is_packet one.came) made;
+  missing = count_by (λ one. not (is_packet one.came)) made;
   left_out = map (left_for made) all_reasons;
   short = count_by (λ one. is_short one.what) made;
   cooked = count_by (λ one. is_cooked one.link one.what) made;

@@ -58,10 +58,10 @@ pub none_is_left_out : NoneIsLeftOut
 none_is_left_out = none_is_none all_reasons reason_place placed (λ one. one.number) tests IsLeftFor passes is_for
 
 pub refused_is_first : RefusedIsFirst
-refused_is_first reader datagram gave =
+refused_is_first reader datagram gave packets =
     let made = made_in gave.given in
     let read = gave.given.is_read.is_read in
-    first_is all_reasons reason_place placed (λ one. one.number) tests IsLeftFor passes is_for made (numbers_rise gave.gathering.wanted read.blocks made read.gathered.taken.are_made)
+    first_is all_reasons reason_place placed (λ one. one.number) tests IsLeftFor passes is_for made (numbers_rise gave.gathering.wanted read.blocks made read.gathered.taken.are_made packets)
     (datagram.packet, datagram.reason)
     (mapped_some datagram_of (λ d. (d.packet, d.reason)) (λ first. refl) (first_of (left_out_for (counts_of made)) all_reasons) datagram
     (ap first_left_out (sym read.gathered.report) ∙ gave.first))

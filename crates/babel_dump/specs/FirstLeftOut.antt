@@ -1,9 +1,10 @@
 -- Laws of the definitions: which datagram of a capture was left out first, by what is made of its
 -- packets. These are this project's own.
-use Rattle.std.specs.Prelude.{◌≡◌, ◌↔◌, List, Option}
+use Rattle.std.specs.Prelude.{◌≡◌, ◌↔◌, List, Option, true}
+use Rattle.std.specs.List.{AllByRecursion}
 use Rattle.babel_capture.specs.declared.reason.Reason.{Reason}
 use Rattle.babel_capture.specs.declared.tallies.Origin.{Origin}
-use Rattle.babel_capture.specs.Counts.{Made, counts_of}
+use Rattle.babel_capture.specs.Counts.{Made, counts_of, is_packet}
 use Rattle.babel_capture.specs.Findings.{left}
 use Rattle.babel_dump.specs.ByReason.{HasNone, IsFirst}
 use Rattle.babel_dump.specs.CaptureGiven.{CaptureInput, GaveLeftOut, made_in}
@@ -18,9 +19,13 @@ IsLeftFor reason one = (missed : Option Origin) × (one.what ≡ left reason mis
 abbrev pub NoneIsLeftOut : Type 0
 NoneIsLeftOut = (made : List Made) → LeavesNoneOut (counts_of made) ↔ HasNone IsLeftFor made
 
--- the datagram for which a capture that is read strictly is refused is the first of its packets
--- that was left out
+-- no fragments of a datagram are missing, so that each is a packet
+abbrev pub ArePackets : List Made → Type 0
+ArePackets made = AllByRecursion (λ one. is_packet one.came ≡ true) made
+
+-- where no fragments are missing, the datagram for which a capture that is read strictly is refused is
+-- the first of its packets that was left out
 abbrev pub RefusedIsFirst : Type 0
 RefusedIsFirst =
     (reader : CaptureInput) (datagram : LeftOutDatagram) (gave : GaveLeftOut reader datagram)
-    → IsFirst (λ one. one.number) IsLeftFor (made_in gave.given) datagram.packet datagram.reason
+    → ArePackets (made_in gave.given) → IsFirst (λ one. one.number) IsLeftFor (made_in gave.given) datagram.packet datagram.reason

@@ -48,8 +48,9 @@ pub fn ignored_is_first()
     ensures rise { OffsetsOfDumpsRise }
 {}
 
-/// A report of a capture says that no datagram was left out exactly where none was; and the one for
-/// which strict reading refuses a capture is the first of its packets that was left out.
+/// A report of a capture says that no datagram was left out exactly where none was; and, where no
+/// fragments are missing, the one for which strict reading refuses a capture is the first of its
+/// packets that was left out.
 pub fn left_out_is_first()
     ensures none { NoneIsLeftOut }
     ensures first { RefusedIsFirst }
