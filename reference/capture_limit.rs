@@ -962,7 +962,11 @@ impl Found {
             (sent.updates, sent.interval) = updates_in(packet);
         }
         let origin = Origin { place, sender };
-        self.count(origin, sent, at)?;
+        match (self.count(origin, sent, at), &self.sink) {
+            // One sender more than are followed.
+            (Err(Fault::TooManySenders(_)), Sink::Timeline(_)) => return Ok(self.pass()),
+            (counted, _) => counted?,
+        }
         match &mut self.sink {
             Sink::Tallies => Ok(()),
             Sink::Dump(dump) => Ok(dump.extend_from_slice(packet)),

@@ -83,8 +83,15 @@ impl Notes {
                 self.add_dump(Side::Other, other, other_capture)?;
                 self.add(Side::First, ran.outcome.routes_note())
             }
+            Reports::Capture { report, cut } if job.tells_links() => {
+                self.add_whole(report, cut, None)?;
+                if ran.outcome.status != 0 && ran.aside.absence.is_none() {
+                    self.add(Side::First, Some(Note::NoIhus))?;
+                }
+                Ok(())
+            }
             Reports::Capture { report, cut } => {
-                self.add_whole(report, cut)?;
+                self.add_whole(report, cut, report.interval())?;
                 let short = if job.counts_short() {
                     report.short()
                 } else {
@@ -115,10 +122,11 @@ impl Notes {
             Some(heard) => {
                 self.add_dump(Side::First, heard.report, Some(capture))?;
                 let (spelling, others) = (events.format.spelling(), &answer.other_sources);
-                self.add(Side::First, source_note(others, spelling, &heard.origin))
+                self.add(Side::First, source_note(others, spelling, &heard.origin))?;
             }
-            None => self.add_capture(Side::First, capture, report.interval()),
+            None => self.add_capture(Side::First, capture, report.interval())?,
         }
+        self.add(Side::First, not_followed(answer))
     }
 
     /// What there is to know of the dump of a sender in the capture on this side, in place of what
@@ -180,11 +188,16 @@ impl Notes {
         self.add(side, no_updates(report))
     }
 
-    /// Adds what there is to know of a capture, and of the greatest Interval there.
-    fn add_whole(&mut self, report: CaptureReport, cut: Option<u64>) -> Result<(), AllocError>
+    /// Adds what there is to know of a capture that was not read for a dump, and of this Interval.
+    fn add_whole(
+        &mut self,
+        report: CaptureReport,
+        cut: Option<u64>,
+        interval: Option<u16>,
+    ) -> Result<(), AllocError>
         ensures { OnOk result ((left : Option LeftOutNote) × (self.new.list.items
             ≡ self.old.list.items
-            ++ flat_map (told sides.First) (about_capture left report cut report.interval))) }
+            ++ flat_map (told sides.First) (about_capture left report cut interval))) }
     {
         let capture = CaptureNotes {
             report,
@@ -192,7 +205,7 @@ impl Notes {
             are_apart: false,
             expired_rows: 0,
         };
-        self.add_capture(Side::First, capture, report.interval())
+        self.add_capture(Side::First, capture, interval)
     }
 
     /// Adds what there is to know of a capture, and of this Interval.
@@ -313,6 +326,11 @@ fn left_out(report: CaptureReport, are_apart: bool) -> Option<Note>
     ensures { (left : Option LeftOutNote) × (result ≡ option_map notes.LeftOut left) }
 {
     Some(Note::LeftOut(LeftOutNote::of(report, are_apart)?))
+}
+
+/// That senders are not followed.
+fn not_followed(answer: &EventsOutcome) -> Option<Note> {
+    Some(Note::NotFollowed(answer.not_followed?))
 }
 
 /// That a capture is cut short.

@@ -13,6 +13,7 @@ use crate::push::push_text;
 use crate::push_note::{push_note_front, push_note_rest};
 use crate::slices::write_name;
 use crate::spelling::Spelling;
+use crate::style::Style;
 use crate::write::{WriteFailed, write_all, write_text};
 use babel_capture::Origin;
 
@@ -54,7 +55,8 @@ fn write_sender_note<W: ByteOut>(
         (note_of_sender spelling origin.now name.now told.now) [] result }
     ensures room { 1600 ≤ vec_capacity line.new }
 {
-    let format = Format::Json(spelling);
+    let names = None;
+    let format = &Format::Json(Style { spelling, names });
     line.clear();
     push_note_front(line, spelling, *origin, &told.note);
     push_text(line, opening(format, name));

@@ -11,6 +11,7 @@ use crate::hearing::Unheard;
 use crate::hint::Hint;
 use crate::input_fault::InputFault;
 use crate::job::{DumpFile, Job};
+use crate::names_fault::NamesFault;
 use crate::pairs_fault::PairsFault;
 use crate::place_word::NamedOrigin;
 use crate::run_fault::{RunFault, Side};
@@ -41,6 +42,8 @@ pub enum Trouble {
     },
     /// The tables of a capture's senders have more routes than the limit.
     TooManyRoutes,
+    /// The names are refused.
+    Names(NamesFault),
     /// The run has a fault.
     Fault(RunFault),
     /// The TLVs of a sender in a capture are refused.
@@ -193,6 +196,7 @@ impl Trouble {
             | Trouble::ReadOnce
             | Trouble::Backwards { .. } => 2,
             Trouble::TooManyRoutes => 3,
+            Trouble::Names(fault) => fault.status(),
             Trouble::Fault(fault) => fault.status(),
             Trouble::Sender { fault, .. } => fault.status(),
         }
@@ -212,6 +216,7 @@ impl Trouble {
                 side: Side::First,
                 ..
             } => Some(asked.file()),
+            Trouble::Names(_) => asked.names(),
             Trouble::NoSender(Side::Other)
             | Trouble::Fault(RunFault::Input(Side::Other, _) | RunFault::Pairs(_))
             | Trouble::Sender {
@@ -263,6 +268,7 @@ pub fn say_trouble<S: Says, R: Watched>(
             say_hint(says, &Hint::of_offset_in(*origin, fault));
         }
         Trouble::TooManyRoutes => say_hint(says, &Hint::of_routes(asked)),
+        Trouble::Names(fault) => explain_names(says, *fault, reader),
         Trouble::NotOneSender(_) => say_senders(says, asked.file()),
         _ => {}
     }
@@ -308,6 +314,7 @@ fn say_line<S: Says>(says: &mut S, asked: &Asked, trouble: &Trouble) {
             says.say(&format_args!("{file}{since} is later than {until}"));
         }
         Trouble::TooManyRoutes => says.say(&format_args!("{file}too many routes")),
+        Trouble::Names(fault) => says.say(fault),
         Trouble::Fault(fault) => says.say(&format_args!("{file}{fault}")),
         Trouble::Sender {
             side,
@@ -355,6 +362,18 @@ fn explain_pairs<S: Says, R: Watched>(says: &mut S, asked: &Asked, fault: &Pairs
         PairsFault::NotAPair { .. } => says.say(
             &"hint: a line has a destination and a source of one family, with blanks between them",
         ),
+    }
+}
+
+/// Says why the names have a fault, and what can be done about it.
+fn explain_names<S: Says, R: Watched>(says: &mut S, fault: NamesFault, reader: &R) {
+    match fault {
+        NamesFault::Read => say_why(says, reader.error()),
+        NamesFault::NotAName { .. } => says.say(
+            &"hint: a line has an address or a router-id and its name, of 64 octets at most; each \
+              is named once",
+        ),
+        NamesFault::TooLong | NamesFault::Memory => {}
     }
 }
 
