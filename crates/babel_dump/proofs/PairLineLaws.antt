@@ -20,7 +20,7 @@ module _ {W : Type 0} (state : W → OutputState) (start old new : PairLines W) 
   -- the lines of all pairs, if that of the last is by the first sink's words
   all_lines : pairs_in start.format.now start.view (kept_rows start.filter (pairs ++ pair ∷ []))
       ≡ pairs_in start.format.now start.view (kept_rows start.filter pairs) ++ pairs_in old.format.now old.view (kept_rows old.filter (pair ∷ []))
-  all_lines = rw (so.same_format, so.same_view, so.same_filter) (both_kept start.format start.view start.filter pairs (pair ∷ []))
+  all_lines = rw (so.same_format, so.same_view, so.same_filter) (both_kept start.format.now start.view start.filter pairs (pair ∷ []))
 
   abbrev line : List ℕ
   line = pairs_in old.format.now old.view (kept_rows old.filter (pair ∷ []))

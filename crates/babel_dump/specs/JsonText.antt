@@ -99,7 +99,8 @@ abbrev pub lookup_json :
     Style → (with_prefix : Bool) → (dst src : Address) → Option Pair → List ℕ
 lookup_json style with_prefix dst src row =
     answered_front style keeps_all (address_text style.spelling dst)
-    (address_text style.spelling src) (held_of row) ++ route_member style.spelling with_prefix row ++ line_end
+    (address_text style.spelling src) (held_of row)
+    ++ route_member style.spelling with_prefix row ++ line_end
 
 -- `{"routes":N,"pairs":N}`
 abbrev pub counts_json : ℕ → ℕ → List ℕ

@@ -1,7 +1,7 @@
 -- How what senders originate is found, one capture after another: this project's own.
 use Rattle.std.specs.Prelude.{ℕ, List, Option}
 use Rattle.babel_capture.specs.declared.tallies.Origin.{Origin}
-use Rattle.babel_dump.specs.AskedRun.{IsReadOn}
+use Rattle.babel_dump.specs.AskedRun.{AreAllReadOn, IsReadOn}
 use Rattle.babel_dump.specs.Originated.{TakesMore}
 use Rattle.babel_dump.specs.ToldOrigins.{AreAllRead, OwnRoutes, rows_of_all}
 use Rattle.babel_dump.specs.ToldPairs.{Heard}
@@ -9,7 +9,9 @@ use Rattle.babel_dump.specs.declared.each_sender.EachSender.{EachSender}
 use Rattle.babel_dump.specs.declared.filter.Filter.{Filter}
 use Rattle.babel_dump.specs.declared.originated.OnSides.{OnSides}
 use Rattle.babel_dump.specs.declared.originated.Origination.{Origination}
+use Rattle.babel_dump.specs.declared.origins_job.Origins.{Origins}
 use Rattle.babel_dump.specs.declared.run_fault.Side.{Side}
+use Rattle.babel_dump.specs.declared.run_fault.Side.TheVariants as sides
 
 -- the rows of all these senders are taken
 pub record TakesSenders (filter : Filter) (side : Side) (each : EachSender) (heard : Heard)
@@ -18,9 +20,16 @@ pub record TakesSenders (filter : Filter) (side : Side) (each : EachSender) (hea
   pub are_read : AreAllRead each heard senders found
   pub takes : TakesMore side (rows_of_all filter found) before after
 
--- those of the capture on a side, if there is one
-pub record TakesOn (filter : Filter) (side : Side) (each : Option EachSender)
-    (stream : Option (List ℕ)) (before after : List (Origination × OnSides)) : Type 0 where
+-- those of tables of which this holds are taken
+pub record TakesRead (filter : Filter) (side : Side) (AreRead : List OwnRoutes → Type 0)
+    (before after : List (Origination × OnSides)) : Type 0 where
   pub found : List OwnRoutes
-  pub read : IsReadOn each stream found
+  pub read : AreRead found
   pub takes : TakesMore side (rows_of_all filter found) before after
+
+-- those of the captures on both sides
+pub record TakesSides (origins : Origins) (streams others : List (Option (List ℕ)))
+    (before after : List (Origination × OnSides)) : Type 0 where
+  pub between : List (Origination × OnSides)
+  pub first : TakesRead origins.filter sides.First (AreAllReadOn origins.left streams) before between
+  pub second : TakesRead origins.filter sides.Other (IsReadOn origins.right others) between after

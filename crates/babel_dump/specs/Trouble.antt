@@ -35,7 +35,7 @@ names_status fault = 2
 
 -- where nothing came of it: 2 where the words don't suit the input, or else that of the fault
 abbrev pub trouble_status : (unwritten : Option Error) → Trouble → ℕ
-trouble_status unwritten (troubles.Misplaced option) = 2
+trouble_status unwritten (troubles.Misplaced side option) = 2
 trouble_status unwritten (troubles.NoSender side) = 2
 trouble_status unwritten (troubles.NotOneSender senders) = 2
 trouble_status unwritten troubles.ReadOnce = 2

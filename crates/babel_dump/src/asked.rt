@@ -9,6 +9,7 @@ use crate::key_text::Named;
 use crate::lone_sender::{Lone, LoneSender};
 use crate::origins_job::Origins;
 use crate::reading::capture_limit;
+use crate::run_fault::Side;
 use crate::spelling::Spelling;
 use crate::trouble::Trouble;
 use babel_table::Limits;
@@ -27,7 +28,7 @@ pub enum Asked {
     /// What is found of the senders in two captures, of each with its fellow, where there is no
     /// `--from`.
     EachPair(EachPair),
-    /// What the senders in a capture originate, or those in two: `--origins`.
+    /// What the senders in captures originate, on one side or on two: `--origins`.
     Origins(Origins),
     /// `events`: what changed in a capture, and when.
     Events(Events),
@@ -56,6 +57,39 @@ impl Asked {
                 None => None,
             },
             Asked::Lone(_) | Asked::Events(_) => None,
+        }
+    }
+
+    /// Where more captures on this side are read from: of `--origins`.
+    pub fn more(&self, side: Side) -> &[DumpFile] {
+        match self {
+            Asked::Origins(origins) => origins.more(side),
+            _ => &[],
+        }
+    }
+
+    /// How many captures of its side come before the one that was read last.
+    pub fn reached(&self) -> usize {
+        match self {
+            Asked::Origins(origins) => origins.reached,
+            _ => 0,
+        }
+    }
+
+    /// Where the capture on this side that was read last is read from: of `--origins`.
+    pub(crate) fn capture(&self, side: Side) -> Option<&DumpFile> {
+        match self {
+            Asked::Origins(origins) => origins.reached_file(side),
+            _ => None,
+        }
+    }
+
+    /// Where the input on this side is read from, of several the one that was read last.
+    pub(crate) fn input(&self, side: Side) -> Option<&DumpFile> {
+        match (self, side) {
+            (Asked::Origins(origins), _) => origins.reached_file(side),
+            (_, Side::First) => Some(self.file()),
+            (_, Side::Other) => self.other(),
         }
     }
 

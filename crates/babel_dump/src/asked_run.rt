@@ -1,15 +1,18 @@
 //! Does what is asked for, over streams: whether one is a capture is seen by its first octets.
-ghost use Rattle.std.specs.Prelude.{IfErr, IfOk, IfSome, OnOk, Some};
+ghost use Rattle.std.specs.Prelude.{◌≡◌, ◌⊎◌, ◌∷◌, IfErr, IfOk, IfSome, None, OnOk, map};
 ghost use Rattle.std.specs.Io.KnownBytes.{Keeps};
 ghost use Rattle.babel_dump.specs.Begun.{BeginsSo};
 ghost use Rattle.babel_dump.specs.Device.{HasRoomToWrite};
 ghost use Rattle.babel_dump.specs.Run.{output};
-ghost use Rattle.babel_dump.specs.AskedRun.{Did, DidJob, Failed, FailedEvents, GaveOn};
-ghost use Rattle.babel_dump.specs.AskedRun.{IsJobRefused, IsRefused, ToldEvents, WroteOrigins};
-ghost use Rattle.babel_dump.specs.AskedRun.{WrotePairs, WroteSenders};
-ghost use Rattle.babel_dump.specs.OriginText.{capture_on};
-ghost use Rattle.babel_dump.specs.OriginsMade.{TakesOn};
+ghost use Rattle.babel_dump.specs.AskedRun.{AreAllReadOn, AreReadOn, Did, DidJob, Failed};
+ghost use Rattle.babel_dump.specs.AskedRun.{FailedEvents, GaveOn, HaveDump, IsJobRefused};
+ghost use Rattle.babel_dump.specs.AskedRun.{IsMisplacedIn, IsOriginsRefused, IsReadOn, IsRefused};
+ghost use Rattle.babel_dump.specs.AskedRun.{ToldEvents, WroteOrigins, WrotePairs, WroteSenders};
+ghost use Rattle.babel_dump.specs.AskedRun.{misplaced_told};
+ghost use Rattle.babel_dump.specs.OriginText.{captures_on};
+ghost use Rattle.babel_dump.specs.OriginsMade.{TakesRead, TakesSides};
 ghost use Rattle.babel_dump.specs.Files.{reading_of};
+ghost use Rattle.babel_dump.specs.declared.begun.Begins.TheVariants as beginnings;
 ghost use Rattle.babel_dump.specs.declared.run_fault.Side.TheVariants as sides;
 
 use crate::absence::Absence;
@@ -22,7 +25,6 @@ use crate::each_pair::EachPair;
 use crate::each_sender::{EachSender, SendersRead};
 use crate::events::run_events;
 use crate::events_job::Events;
-use crate::filter::Filter;
 use crate::input_fault::InputFault;
 use crate::job::Job;
 use crate::job_run::run_job;
@@ -40,26 +42,30 @@ use crate::write::write_text;
 use std::alloc::Global;
 use std::io::Read;
 
-/// Does what is asked for: the first stream has FILE, and the other OTHER, or the pairs of `--each`.
-/// Where a dump is read, a stream may be a capture that has it. Keys of rows are found by this seed.
+/// Does what is asked for: the first stream has FILE, and the other OTHER, or the pairs of `--each`;
+/// of `--origins` further streams have more captures on either side. Where a dump is read, a stream
+/// may be a capture that has it. Keys of rows are found by this seed.
 ///
 /// # Errors
 ///
 /// Why nothing came of it; an option that is for captures alone where it was given for a dump.
-pub fn run_asked<R: Read + Drop, S: Read + Drop, W: ByteOut, T: Says>(
+pub fn run_asked<R: Read + Drop, S: Read + Drop, M: Read, W: ByteOut, T: Says>(
     alloc: Global,
     seed: u128,
     asked: &mut Asked,
     reader: R,
     other: S,
+    more: &mut [M],
+    other_more: &mut [M],
     writer: &mut W,
     says: &mut T,
 ) -> Result<Done, Trouble>
     requires { HasRoomToWrite (W.state writer.old) }
     ensures done { IfOk result (Did asked.old seed (R.remaining reader) (S.remaining other)
+        (map M.remaining more.old) (map M.remaining other_more.old)
         (output (W.state writer.old) (W.state writer.new))) }
-    ensures refused { IfErr result
-        (IsRefused asked.old (R.remaining reader) (S.remaining other)) }
+    ensures refused { IfErr result (IsRefused asked.old (R.remaining reader) (S.remaining other)
+        (map M.remaining more.old) (map M.remaining other_more.old)) }
     ensures failed { IfErr result (Failed asked.old (R.remaining reader)
         (output (W.state writer.old) (W.state writer.new))) }
 {
@@ -68,7 +74,11 @@ pub fn run_asked<R: Read + Drop, S: Read + Drop, W: ByteOut, T: Says>(
         Asked::Lone(lone) => do_job(alloc, seed, &mut lone.job, reader, other, writer),
         Asked::EachSender(each) => tell_senders(alloc, seed, each, reader, other, writer),
         Asked::EachPair(pairs) => tell_pairs(alloc, seed, pairs, reader, other, writer),
-        Asked::Origins(origins) => tell_origins(alloc, seed, origins, reader, other, writer),
+        Asked::Origins(origins) => {
+            tell_origins(
+                alloc, seed, origins, reader, other, more, other_more, writer,
+            )
+        }
         Asked::Events(events) => tell_events(alloc, events, reader, writer, says),
     }
 }
@@ -91,7 +101,7 @@ fn do_job<R: Read + Drop, S: Read + Drop, W: ByteOut>(
     let first = Begun::new(reader);
     let second = begun_other(job, other);
     if let Err(option) = job.begin(first.begins(), second.begins(), seed) {
-        return Err(Trouble::Misplaced(option));
+        return Err(Trouble::Misplaced(Side::First, option));
     }
     let done = Done::new(alloc)?;
     let (mut first, mut second) = (first.into_device(), second.into_device());
@@ -164,8 +174,10 @@ fn tell_pairs<R: Read + Drop, S: Read + Drop, W: ByteOut>(
         pairs.moment_options(Side::First),
         pairs.moment_options(Side::Other),
     );
-    let left = gather_on(alloc, seed, &pairs.left, Side::First, first, reader)?;
-    let right = gather_on(alloc, seed, &pairs.right, Side::Other, second, other)?;
+    let (one, two) = (Side::First, Side::Other);
+    let (no_one, no_two) = (Trouble::NoSender(one), Trouble::NoSender(two));
+    let left = gather_on(alloc, seed, &pairs.left, one, first, no_one, reader)?;
+    let right = gather_on(alloc, seed, &pairs.right, two, second, no_two, other)?;
     let done = Done::new(alloc)?;
     let SendersRead { read, tables } = left;
     let SendersRead {
@@ -182,42 +194,40 @@ fn tell_pairs<R: Read + Drop, S: Read + Drop, W: ByteOut>(
     Ok(done)
 }
 
-/// Reads captures, the first to its end before the other, and writes what their senders originate.
-fn tell_origins<R: Read + Drop, S: Read + Drop, W: ByteOut>(
+/// Reads captures, those of the first side before those of the other, each to its end before the
+/// next, and writes what their senders originate.
+fn tell_origins<R: Read + Drop, S: Read + Drop, M: Read, W: ByteOut>(
     alloc: Global,
     seed: u128,
-    origins: &Origins,
+    origins: &mut Origins,
     reader: R,
     other: S,
+    more: &mut [M],
+    other_more: &mut [M],
     writer: &mut W,
 ) -> Result<Done, Trouble>
     requires { HasRoomToWrite (W.state writer.old) }
-    ensures { IfOk result (WroteOrigins origins.now (R.remaining reader) (S.remaining other)
+    ensures done { IfOk result (WroteOrigins origins.old
+        (R.remaining reader ∷ map M.remaining more.old)
+        (S.remaining other ∷ map M.remaining other_more.old)
         (output (W.state writer.old) (W.state writer.new))) }
+    ensures refused { IfErr result (IsOriginsRefused
+        (R.remaining reader ∷ map M.remaining more.old)
+        (S.remaining other ∷ map M.remaining other_more.old)) }
 {
     let mut done = Done::new(alloc)?;
     let mut told = ToldOrigins::new(alloc);
-    take_on(
-        alloc,
-        seed,
-        origins,
-        Side::First,
-        reader,
-        &mut told,
-        &mut done,
-    )?;
-    take_on(
-        alloc,
-        seed,
-        origins,
-        Side::Other,
-        other,
-        &mut told,
-        &mut done,
-    )?;
+    let taken = take_all(
+        alloc, seed, origins, reader, other, more, other_more, &mut told, &mut done,
+    );
+    if let Err(trouble) = taken {
+        origins.reached = told.reached;
+        return Err(trouble);
+    }
     let ToldOrigins {
         senders,
         originated,
+        ..
     } = told;
     let OriginsText { lines, status } = origins_text(alloc, origins, &originated.all)?;
     let done = done.of_origins(senders.told, status);
@@ -225,69 +235,138 @@ fn tell_origins<R: Read + Drop, S: Read + Drop, W: ByteOut>(
     Ok(done)
 }
 
-/// Takes what the senders in the capture on a side originate, if there is one.
-fn take_on<R: Read + Drop>(
+/// Takes what the senders in the captures of both sides originate.
+fn take_all<R: Read + Drop, S: Read + Drop, M: Read>(
+    alloc: Global,
+    seed: u128,
+    origins: &Origins,
+    reader: R,
+    other: S,
+    more: &mut [M],
+    other_more: &mut [M],
+    told: &mut ToldOrigins,
+    done: &mut Done,
+) -> Result<(), Trouble>
+    ensures taken { OnOk result (TakesSides origins.now
+        (R.remaining reader ∷ map M.remaining more.old)
+        (S.remaining other ∷ map M.remaining other_more.old)
+        told.old.originated.all.entries told.new.originated.all.entries) }
+    ensures refused { IfErr result (IsOriginsRefused
+        (R.remaining reader ∷ map M.remaining more.old)
+        (S.remaining other ∷ map M.remaining other_more.old)) }
+{
+    take_on(alloc, seed, origins, Side::First, reader, more, told, done)?;
+    take_on(
+        alloc,
+        seed,
+        origins,
+        Side::Other,
+        other,
+        other_more,
+        told,
+        done,
+    )
+}
+
+/// Takes what the senders in the captures on a side originate, if there are any.
+fn take_on<R: Read + Drop, M: Read>(
     alloc: Global,
     seed: u128,
     origins: &Origins,
     side: Side,
     reader: R,
+    more: &mut [M],
     told: &mut ToldOrigins,
     done: &mut Done,
 ) -> Result<(), Trouble>
-    ensures { OnOk result (TakesOn origins.now.filter side (capture_on side origins.now)
-        (R.remaining reader) told.old.originated.all.entries told.new.originated.all.entries) }
+    ensures taken { OnOk result (TakesRead origins.now.filter side
+        (IsReadOn (captures_on side origins.now) (R.remaining reader ∷ map M.remaining more.old))
+        told.old.originated.all.entries told.new.originated.all.entries) }
+    ensures refused { IfErr result (IsMisplacedIn
+        (HaveDump (R.remaining reader ∷ map M.remaining more.old))) }
 {
     match origins.on(side) {
-        Some(each) => {
-            let options = origins.moment_options(side);
-            let filter = &origins.filter;
-            take_capture(alloc, seed, each, filter, side, options, reader, told, done)
-        }
+        Some(each) => take_captures(alloc, seed, origins, side, each, reader, more, told, done),
         None => Ok(()),
     }
 }
 
-/// Takes what the senders in a capture originate.
+/// Takes what the senders in captures on a side originate, one capture after another.
+fn take_captures<R: Read + Drop, M: Read>(
+    alloc: Global,
+    seed: u128,
+    origins: &Origins,
+    side: Side,
+    each: &EachSender,
+    reader: R,
+    more: &mut [M],
+    told: &mut ToldOrigins,
+    done: &mut Done,
+) -> Result<(), Trouble>
+    ensures taken { OnOk result (TakesRead origins.now.filter side
+        (AreAllReadOn each.now (R.remaining reader ∷ map M.remaining more.old))
+        told.old.originated.all.entries told.new.originated.all.entries) }
+    ensures refused { IfErr result (IsMisplacedIn
+        (HaveDump (R.remaining reader ∷ map M.remaining more.old))) }
+{
+    told.reached = 0;
+    take_capture(alloc, seed, origins, side, each, reader, told, done)?;
+    for stream in more.iter_mut() {
+        told.reached = told.reached.saturating_add(1);
+        take_capture(alloc, seed, origins, side, each, stream, told, done)?;
+    }
+    Ok(())
+}
+
+/// Takes what the senders in a capture on a side originate.
 fn take_capture<R: Read + Drop>(
     alloc: Global,
     seed: u128,
-    each: &EachSender,
-    filter: &Filter,
+    origins: &Origins,
     side: Side,
-    options: (&'static str, &'static str),
+    each: &EachSender,
     reader: R,
     told: &mut ToldOrigins,
     done: &mut Done,
 ) -> Result<(), Trouble>
-    ensures { OnOk result (TakesOn filter.now side (Some each.now) (R.remaining reader)
+    ensures taken { OnOk result (TakesRead origins.now.filter side
+        (AreReadOn each.now (R.remaining reader))
         told.old.originated.all.entries told.new.originated.all.entries) }
+    ensures refused { IfErr result (IsMisplacedIn
+        (BeginsSo (R.remaining reader) beginnings.Dump)) }
 {
-    let SendersRead { read, tables } = gather_on(alloc, seed, each, side, options, reader)?;
+    let options = origins.moment_options(side);
+    let refusal = Trouble::Misplaced(side, "--origins");
+    let SendersRead { read, tables } = gather_on(
+        alloc, seed, each, side, options, refusal, reader,
+    )?;
     done.add_capture(side, each, &read)?;
     let captured = Captured {
         side,
         each,
         read: &read,
     };
-    told.take(alloc, filter, &captured, tables)
+    told.take(alloc, &origins.filter, &captured, tables)
 }
 
 /// Reads the capture on a side, which is to have a sender that is asked for; these options have it
-/// read from a moment and up to one.
+/// read from a moment and up to one. A dump is refused so.
 fn gather_on<R: Read + Drop>(
     alloc: Global,
     seed: u128,
     each: &EachSender,
     side: Side,
     options: (&'static str, &'static str),
+    refusal: Trouble,
     reader: R,
 ) -> Result<SendersRead, Trouble>
-    ensures { IfOk result (GaveOn each.now (R.remaining reader)) }
+    ensures made { IfOk result (GaveOn each.now (R.remaining reader)) }
+    ensures refused { IfErr result (λ trouble. (misplaced_told trouble ≡ None)
+        ⊎ ((trouble ≡ refusal) × BeginsSo (R.remaining reader) beginnings.Dump)) }
 {
     let begun = Begun::new(reader);
     if let Begins::Dump = begun.begins() {
-        return Err(Trouble::NoSender(side));
+        return Err(refusal);
     }
     match each.gather(alloc, seed, &mut begun.into_device()) {
         Ok(read) => {

@@ -102,6 +102,11 @@ impl<'m, 'a> GivenWords<'m, 'a> {
         self.matches.get_str(id)
     }
 
+    /// The words that an option or an argument has, which may have several.
+    pub fn words(&self, id: &str) -> &'m [&'a str] {
+        self.matches.get_strs(id).unwrap_or(&[])
+    }
+
     /// The address that a required option has.
     pub fn address(&mut self, id: &str) -> Addr {
         let word = self.word(id).unwrap_or("");
@@ -135,7 +140,7 @@ impl<'m, 'a> GivenWords<'m, 'a> {
     pub fn view(&mut self) -> View {
         let takes = "next-hop, router-id, seqno, metric, separated by commas";
         let mut view = View::all();
-        for list in self.matches.get_strs("ignore").unwrap_or(&[]) {
+        for list in self.words("ignore") {
             for word in list.split(',') {
                 match word.trim_start_matches(' ') {
                     "next-hop" => view.next_hop = false,
@@ -183,6 +188,15 @@ impl<'m, 'a> GivenWords<'m, 'a> {
                 DumpFile::StandardInput
             }
         }
+    }
+
+    /// The files of these names.
+    pub fn files(&mut self, names: &[&str]) -> Result<Vec<DumpFile>, AllocError> {
+        let mut files = Vec::new(self.alloc);
+        for name in names {
+            files.push(self.file_of(name)).map_err(AllocError::from)?;
+        }
+        Ok(files)
     }
 
     /// The mode that the words ask for.

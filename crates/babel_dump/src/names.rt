@@ -41,7 +41,8 @@ impl Names {
     }
 
     /// Reads those that a text gives, in place of any before. On each line stand an address or a
-    /// router-id, and its name, of at most 64 octets. Lines are skipped as in the pairs of `--each`.
+    /// router-id, and its name, of at most 64 octets. Lines are skipped as in the pairs of
+    /// `--each`.
     ///
     /// # Errors
     ///

@@ -27,8 +27,9 @@ use std::io::ErrorKind;
 /// Why nothing came of what was asked for.
 #[derive(Drop)]
 pub enum Trouble {
-    /// This option is for captures alone, and was given for a dump.
-    Misplaced(&'static str),
+    /// This option is for captures alone, and was given for a dump; of `--origins` it is on this
+    /// side.
+    Misplaced(Side, &'static str),
     /// What has no `--from` on this side is a dump.
     NoSender(Side),
     /// What has no `--from` is a capture in which not one sender alone announces, but so many do.
@@ -190,7 +191,7 @@ impl Trouble {
         ensures { result ≡ trouble_status None self.now }
     {
         match self {
-            Trouble::Misplaced(_)
+            Trouble::Misplaced(..)
             | Trouble::NoSender(_)
             | Trouble::NotOneSender(_)
             | Trouble::ReadOnce
@@ -211,18 +212,12 @@ impl Trouble {
         match self {
             Trouble::Fault(RunFault::Input(_, InputFault::Dump(Fault::TooManyPairs)))
                 if asked.compares() => None,
-            Trouble::Fault(RunFault::Input(Side::First, _))
-            | Trouble::Sender {
-                side: Side::First,
-                ..
-            } => Some(asked.file()),
+            Trouble::Misplaced(side, _) => asked.capture(*side),
+            Trouble::Fault(RunFault::Input(side, _)) | Trouble::Sender { side, .. } => {
+                asked.input(*side)
+            }
+            Trouble::NoSender(Side::Other) | Trouble::Fault(RunFault::Pairs(_)) => asked.other(),
             Trouble::Names(_) => asked.names(),
-            Trouble::NoSender(Side::Other)
-            | Trouble::Fault(RunFault::Input(Side::Other, _) | RunFault::Pairs(_))
-            | Trouble::Sender {
-                side: Side::Other,
-                ..
-            } => asked.other(),
             _ => None,
         }
     }
@@ -301,8 +296,8 @@ fn say_senders<S: Says>(says: &mut S, file: &DumpFile) {
 fn say_line<S: Says>(says: &mut S, asked: &Asked, trouble: &Trouble) {
     let file = asked.named();
     match trouble {
-        Trouble::Misplaced(option) => {
-            says.say(&format_args!("{file}{option} is for captures, and this is a dump"));
+        Trouble::Misplaced(side, option) => {
+            says.say(&format_args!("{file}{side}{option} is for captures, and this is a dump"));
         }
         Trouble::NoSender(side) => says.say(&format_args!("{file}{side}a dump needs --from")),
         Trouble::NotOneSender(0) => says.say(&"--from is needed: no sender announces here"),
