@@ -244,6 +244,25 @@ def jumping(rng):
             yield time, frame_of(babel(ROUTER_ID + NEXT_HOP + update(key)))
 
 
+def of_each(senders, routes):
+    """A packet of each sender, with so many routes; there are 500 router-ids."""
+    for place in range(senders):
+        router_id = bytes.fromhex("060a0000 02000000") + made.number(place % 500, 4)
+        updates = (update(place % 97 + key, metric=place % 4_000) for key in range(routes))
+        packet = babel(router_id + NEXT_HOP + b"".join(updates))
+        yield made.TIME + place, frame_of(packet, f"fe80::{place + 1:x}")
+
+
+def one_packet_each(rng):
+    """41,413 senders with a route each."""
+    return of_each(41_413, 1)
+
+
+def rows_each(rng):
+    """1,000 senders with 200 routes each."""
+    return of_each(1_000, 200)
+
+
 TIMED = (
     refreshed,
     changing,
@@ -256,6 +275,8 @@ TIMED = (
     wildcards,
     used_again,
     jumping,
+    one_packet_each,
+    rows_each,
 )
 
 

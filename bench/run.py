@@ -93,6 +93,7 @@ TIMED = tuple(
         "jumping",
     )
 )
+OF_EACH = ("one-packet-each.pcap", "rows-each.pcap")
 LAST = "ffff:ffff:ffff:ffff:ffff:ffff:ffff:ffff"
 EXPIRY = ["--expiry", "3.5"]
 OF_ONE = ["--quiet", "--from", "fe80::1"]
@@ -145,10 +146,13 @@ def cases():
             yield capture, ["events", "--quiet", *options]
         for options in [], EXPIRY, [*EXPIRY, "--hold"]:
             yield capture, ["show", *options, *OF_ONE]
+    for capture in OF_EACH:
+        for options in [], ["--origins"]:
+            yield capture, ["show", "--quiet", *options]
 
 
 def is_capture(load):
-    return load in CAPTURES or load in TIMED
+    return load in (*CAPTURES, *TIMED, *OF_EACH)
 
 
 def file_of(load, loads):

@@ -60,7 +60,7 @@ _babel_dump() {
             found="next-hop router-id seqno metric"
             ;;
         *:--color) found="auto always never" ;;
-        *:--each) ;;
+        *:--each | *:--names) ;;
         *)
             [[ " $_babel_dump_valued " == *" $option "* ]] && return
             [[ $word == -* ]] && found=$(_babel_dump_options "${words[1]}")
@@ -77,23 +77,23 @@ _babel_dump() {
 }
 
 # Printed by tools/options.py.
-_babel_dump_names="show lookup normalise key pairs compare diff senders extract events help --help \
---version"
+_babel_dump_names="show lookup normalise key pairs compare diff senders links extract events help \
+--help --version"
 
 # The options that a word follows.
 _babel_dump_valued="--from --other-from --interface --other-interface --since --until --expiry \
 --ignore --to --src --max-routes --max-octets --other-since --other-until --within --match \
---source --id --body --color --each"
+--source --id --body --color --names --each"
 
 # The options of a command.
 _babel_dump_options() {
     case $1 in
         show) echo --from --interface --since --until --expiry --hold --v4-via-v6 --quiet \
             --accept-cut --max-routes --max-octets --within --match --source --id --summary \
-            --origins --json --short --help ;;
+            --origins --json --names --short --help ;;
         lookup) echo --from --interface --since --until --expiry --hold --v4-via-v6 --quiet \
-            --accept-cut --max-routes --max-octets --strict --json --short --with-prefix --to \
-            --src --each --help ;;
+            --accept-cut --max-routes --max-octets --strict --json --names --short --with-prefix \
+            --to --src --each --help ;;
         normalise) echo --from --interface --since --until --expiry --hold --v4-via-v6 --quiet \
             --accept-cut --max-routes --max-octets --strict --ignore --routes --body --hex --help \
             ;;
@@ -101,21 +101,24 @@ _babel_dump_options() {
             --accept-cut --max-routes --max-octets --strict --ignore --routes --json --help ;;
         pairs) echo --from --interface --since --until --expiry --hold --v4-via-v6 --quiet \
             --accept-cut --max-routes --max-octets --within --match --source --id --strict \
-            --ignore --routes --json --short --count --help ;;
+            --ignore --routes --json --names --short --count --help ;;
         compare) echo --from --other-from --interface --other-interface --since --until --expiry \
             --hold --v4-via-v6 --quiet --accept-cut --max-routes --max-octets --other-since \
-            --other-until --strict --ignore --json --short --routes --all --count --help ;;
+            --other-until --strict --ignore --json --names --short --routes --all --count --help \
+            ;;
         diff) echo --from --other-from --interface --other-interface --since --until --expiry \
             --hold --v4-via-v6 --quiet --accept-cut --max-routes --max-octets --other-since \
             --other-until --within --match --source --id --strict --ignore --origins --stat \
-            --color --json --short --help ;;
+            --color --json --names --short --help ;;
         senders) echo --since --until --strict --accept-cut --quiet --max-octets --json --short \
             --help ;;
+        links) echo --interface --since --until --expiry --accept-cut --quiet --max-octets --json \
+            --short --help ;;
         extract) echo --from --interface --hex --since --until --strict --accept-cut --quiet \
             --max-octets --help ;;
         events) echo --from --interface --since --until --expiry --ignore --to --src --requests \
             --strict --v4-via-v6 --accept-cut --max-routes --json --quiet --within --match \
-            --source --id --short --help ;;
+            --source --id --names --short --help ;;
     esac
 }
 

@@ -45,10 +45,10 @@ end
 function __babel_dump_is_valued
     contains -- $argv[1] --from --other-from --interface --other-interface --since --until \
         --expiry --ignore --to --src --max-routes --max-octets --other-since --other-until \
-        --within --match --source --id --body --color --each
+        --within --match --source --id --body --color --names --each
 end
 
-complete -c babel-dump -n 'not __fish_seen_subcommand_from show lookup normalise key pairs compare diff senders extract events help' -f
+complete -c babel-dump -n 'not __fish_seen_subcommand_from show lookup normalise key pairs compare diff senders links extract events help' -f
 complete -c babel-dump -n __fish_use_subcommand -l help -d 'Print help'
 complete -c babel-dump -n __fish_use_subcommand -l version -d 'Print the version'
 complete -c babel-dump -n __fish_use_subcommand -a show \
@@ -67,15 +67,17 @@ complete -c babel-dump -n __fish_use_subcommand -a diff \
     -d 'Print the routes that differ in two inputs: - is gone, + is new'
 complete -c babel-dump -n __fish_use_subcommand -a senders \
     -d 'List who sent Babel packets in a capture, where, and how much'
+complete -c babel-dump -n __fish_use_subcommand -a links \
+    -d 'List which neighbours each router in a capture hears, and at which cost'
 complete -c babel-dump -n __fish_use_subcommand -a extract \
     -d 'Write the dump of one sender of a capture (pcap, pcapng)'
 complete -c babel-dump -n __fish_use_subcommand -a events \
     -d 'Print what changed in a capture, and when'
 complete -c babel-dump -n __fish_use_subcommand -a help \
     -d 'Print help'
-__babel_dump_option help -f -a 'show lookup normalise key pairs compare diff senders extract events'
+__babel_dump_option help -f -a 'show lookup normalise key pairs compare diff senders links extract events'
 
-__babel_dump_option 'show lookup normalise key pairs compare diff senders extract events' -l help -d 'Print help'
+__babel_dump_option 'show lookup normalise key pairs compare diff senders links extract events' -l help -d 'Print help'
 __babel_dump_option 'normalise extract' -l from -x -a '(__babel_dump_senders 1)' \
     -d 'The source address of the packets'
 __babel_dump_option 'pairs' -l from -x -a '(__babel_dump_senders 1)' \
@@ -94,7 +96,7 @@ __babel_dump_option 'show lookup normalise key pairs extract' -l interface -x -a
     -d 'The place in a capture: the interface, as 1, with its link and VLANs if there are any, as 1/3, 1:10 or 1/3:10.20'
 __babel_dump_option 'compare diff' -l interface -x -a '(__babel_dump_places 1)' \
     -d 'The place in FILE, if it is a capture: the interface, with its link and VLANs, as senders lists it'
-__babel_dump_option 'events' -l interface -x -a '(__babel_dump_places 1)' \
+__babel_dump_option 'links events' -l interface -x -a '(__babel_dump_places 1)' \
     -d 'The place in the capture: the interface, with its link and VLANs, as senders lists it'
 __babel_dump_option 'compare diff' -l other-interface -x -a '(__babel_dump_places 2)' \
     -d 'The same for OTHER, if it is a capture'
@@ -102,16 +104,18 @@ __babel_dump_option 'extract' -l hex \
     -d 'Write the octets as lower-case hexadecimal digits on one line'
 __babel_dump_option 'show lookup normalise key pairs compare diff' -l since -x \
     -d 'Skip what a capture has before TIME: a time with an offset, as 2026-11-25T13:30:22Z, seconds since 1970, as @1764077422.5, or seconds since the first record, as +90'
-__babel_dump_option 'senders extract' -l since -x \
+__babel_dump_option 'senders links extract' -l since -x \
     -d 'Skip what a capture has before TIME: a time with an offset, as 2026-11-25T13:30:22Z, seconds since 1970, as @1764077422.5, or seconds since the first record, as +90'
 __babel_dump_option 'events' -l since -x \
     -d 'Print what changed at TIME or later, having read what came before: a time with an offset, as 2026-11-25T13:30:22Z, seconds since 1970, as @1764077422.5, or seconds since the first record, as +90'
-__babel_dump_option 'show lookup normalise key pairs compare diff senders extract events' -l until -x \
+__babel_dump_option 'show lookup normalise key pairs compare diff senders links extract events' -l until -x \
     -d 'Skip what a capture has after TIME'
 __babel_dump_option 'show lookup normalise key pairs compare diff' -l expiry -x \
     -d 'Leave out what was not announced again within FACTOR times its Interval, at --until or else at the end of a capture'
 __babel_dump_option 'events' -l expiry -x \
     -d 'Also report routes that expire, not announced again within FACTOR times their Interval'
+__babel_dump_option 'links' -l expiry -x \
+    -d 'Leave out what an IHU said FACTOR times its Interval ago, at --until or else at the end'
 __babel_dump_option 'show lookup normalise key pairs compare diff' -l hold \
     -d 'Keep a retracted route as unreachable, so that no less specific route takes its place'
 __babel_dump_option 'events' -l ignore -x -a '(__fish_append , next-hop router-id seqno metric)' \
@@ -130,7 +134,7 @@ __babel_dump_option 'show lookup normalise key pairs compare diff events' -l v4-
     -d 'Read IPv4 routes with an IPv6 next hop (address encoding 4, RFC 9229)'
 __babel_dump_option 'show lookup normalise key pairs compare diff' -l quiet \
     -d 'Suppress the notes on standard error, and, of show, what comes after the routes'
-__babel_dump_option 'show lookup normalise key pairs compare diff senders extract events' -l accept-cut \
+__babel_dump_option 'show lookup normalise key pairs compare diff senders links extract events' -l accept-cut \
     -d 'Read a truncated capture up to its last complete record'
 __babel_dump_option 'show lookup normalise key pairs compare diff' -l max-routes -x \
     -d 'How many routes, and how many canonical pairs or differences, there may be, at most 51746593'
@@ -138,11 +142,11 @@ __babel_dump_option 'events' -l max-routes -x \
     -d 'How many routes there may be, of all senders together'
 __babel_dump_option 'events' -l json \
     -d 'Print one JSON object per line'
-__babel_dump_option 'senders extract events' -l quiet \
+__babel_dump_option 'senders links extract events' -l quiet \
     -d 'Suppress the notes on standard error'
 __babel_dump_option 'show lookup normalise key pairs compare diff' -l max-octets -x \
     -d 'How many octets a dump may have, also one in a capture'
-__babel_dump_option 'senders extract' -l max-octets -x \
+__babel_dump_option 'senders links extract' -l max-octets -x \
     -d 'How many octets the capture may have'
 __babel_dump_option 'compare diff' -l other-since -x \
     -d 'The same for OTHER'
@@ -188,9 +192,11 @@ __babel_dump_option 'diff' -l stat \
     -d 'Print a last line: how many routes are gone, new, changed, and alike'
 __babel_dump_option 'diff' -l color -x -a 'auto always never' \
     -d 'When to colour routes'
-__babel_dump_option 'show lookup key pairs compare diff senders' -l json \
+__babel_dump_option 'show lookup key pairs compare diff senders links' -l json \
     -d 'Print one JSON object per line'
-__babel_dump_option 'show lookup pairs compare diff senders events' -l short \
+__babel_dump_option 'show lookup pairs compare diff events' -l names -r \
+    -d 'Print the names that the lines of FILE give addresses and router-ids, as '\''fe80::1 b1'\'', after senders, next hops and router-ids'
+__babel_dump_option 'show lookup pairs compare diff senders links events' -l short \
     -d 'Write addresses as RFC 5952 does, fe80::1, and leave out a source prefix of length 0'
 __babel_dump_option 'compare' -l routes \
     -d 'Compare the routes, not the answers'

@@ -20,12 +20,14 @@ Prefix = Union[IPv4Network, IPv6Network]
 
 @dataclass(frozen=True)
 class Route:
-    """Each field is None where --ignore names it."""
+    """Each field is None where --ignore names it. The names are of --names."""
 
     next_hop: Optional[Address]
     router_id: Optional[str]
     seqno: Optional[int]
     metric: Optional[int]
+    next_hop_name: Optional[str] = None
+    router_name: Optional[str] = None
 
 
 @dataclass(frozen=True)
@@ -161,6 +163,7 @@ class Origination:
     router_id: str
     metric: int
     senders: int
+    router_name: Optional[str] = None
 
 
 @dataclass(frozen=True)
@@ -180,6 +183,7 @@ class OriginationDiffers:
     router_id: str
     left: Optional[Announced]
     right: Optional[Announced]
+    router_name: Optional[str] = None
 
 
 @dataclass(frozen=True)
@@ -222,8 +226,26 @@ class Sender:
 
 
 @dataclass(frozen=True)
+class Link:
+    """Of links; a cost of 65535 is infinite, and the interval is in seconds."""
+
+    sender: Address
+    interface: int
+    link: Optional[int]
+    vlans: List[int]
+    name: Optional[str]
+    neighbour: Address
+    rxcost: Optional[int]
+    back: Optional[int]
+    last: str
+    hellos: int
+    missed: int
+    interval: Optional[float]
+
+
+@dataclass(frozen=True)
 class Event:
-    """Of events."""
+    """Of events; the name of the sender is of --names."""
 
     time: str
     sender: Address
@@ -236,6 +258,7 @@ class Event:
     source: Prefix
     answer: Optional[Route]
     before: Optional[Route]
+    sender_name: Optional[str] = None
 
 
 @dataclass(frozen=True)
@@ -262,6 +285,7 @@ class Answered:
     route: Optional[Prefixes]
     answer: Optional[Route]
     before: Optional[Route]
+    sender_name: Optional[str] = None
 
 
 @dataclass(frozen=True)
@@ -280,6 +304,8 @@ class Requested:
     source: Optional[Prefix]
     router_id: Optional[str]
     seqno: Optional[int]
+    sender_name: Optional[str] = None
+    router_name: Optional[str] = None
 
 
 @dataclass(frozen=True)
@@ -295,6 +321,7 @@ class Silent:
     event: Literal["silent"]
     since: str
     routes: int
+    sender_name: Optional[str] = None
 
 
 @dataclass(frozen=True)
@@ -308,6 +335,7 @@ class Returned:
     vlans: List[int]
     name: Optional[str]
     event: Literal["returns"]
+    sender_name: Optional[str] = None
 
 
 @dataclass(frozen=True)
@@ -330,7 +358,7 @@ class Note:
 
 KINDS = Row, Looked, Report, Summary, Counts, Same, Differ, Alone, Differences, Stat
 KINDS += Origination, OriginationDiffers
-KINDS += FileKey, SenderKey, Sender, Event, Answered, Requested, Silent, Returned
+KINDS += FileKey, SenderKey, Sender, Link, Event, Answered, Requested, Silent, Returned
 
 # What a note has besides.
 NOTES = {
@@ -346,8 +374,10 @@ NOTES = {
     "short-span": {"span": float, "interval": float},
     "expired": {"routes": int},
     "no-updates": {},
+    "no-ihus": {},
     "routes-differ": {"routes": int},
     "source": {"source": Address},
+    "not-followed": {"packet": int},
 }
 ORIGIN = {
     "sender": Address,
@@ -356,6 +386,8 @@ ORIGIN = {
     "vlans": List[int],
     "name": Optional[str],
 }
+# What comes first in a line of a sender: its name with --names alone.
+LED = {**ORIGIN, "sender_name": Optional[str]}
 
 
 def members(types, found):
@@ -412,8 +444,8 @@ def line(text):
     try:
         return first(KINDS, found)
     except ValueError:
-        origin = {each: found.pop(each) for each in ORIGIN}
-        return Told(members(ORIGIN, origin), first(KINDS, found))
+        origin = {each: found.pop(each) for each in LED if each in found or each in ORIGIN}
+        return Told(members(LED, origin), first(KINDS, found))
 
 
 if __name__ == "__main__":

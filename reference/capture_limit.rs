@@ -8,6 +8,7 @@
 //!         [--max-octets N] [CAPTURE]
 //!     capture_limit show --from A [--hold] [--expiry K] [--interface PLACE] [--v4-via-v6]
 //!         [--accept-cut] [--max-routes N] [CAPTURE]
+//!     capture_limit show [--origins] [--hold] [--expiry K] .. [CAPTURE]
 //!     capture_limit lookup --from A --to D --src S .. [CAPTURE]
 //!     capture_limit events [--from A] [--expiry K] [--interface PLACE] [--ignore LIST]
 //!         [--to D --src S] [--v4-via-v6] [--accept-cut] [--max-routes N] [--json] [CAPTURE]
@@ -32,7 +33,7 @@ mod clock;
 mod timeline;
 
 use clock::{factor_of, seconds_text, Clock, Moment, Window};
-use timeline::{Table, Timeline, View};
+use timeline::{Table, Tables, Timeline, View};
 
 const USUAL_OCTETS: u64 = 1 << 30;
 const MOST_INTERFACES: usize = 65_536;
@@ -879,6 +880,7 @@ enum Sink {
     Tallies,
     Dump(Vec<u8>),
     Table(Table),
+    Tables(Tables),
     Timeline(Timeline),
 }
 
@@ -962,11 +964,16 @@ impl Found {
             (sent.updates, sent.interval) = updates_in(packet);
         }
         let origin = Origin { place, sender };
-        self.count(origin, sent, at)?;
+        match (self.count(origin, sent, at), &self.sink) {
+            // One sender more than are followed.
+            (Err(Fault::TooManySenders(_)), Sink::Timeline(_)) => return Ok(self.pass()),
+            (counted, _) => counted?,
+        }
         match &mut self.sink {
             Sink::Tallies => Ok(()),
             Sink::Dump(dump) => Ok(dump.extend_from_slice(packet)),
             Sink::Table(table) => Ok(table.take(time, origin, packet)),
+            Sink::Tables(tables) => Ok(tables.take(time, origin, packet)),
             Sink::Timeline(timeline) => timeline.take(time, origin, packet, names),
         }
     }
@@ -1176,7 +1183,8 @@ fn read_words(mut words: impl Iterator<Item = String>) -> Option<Words> {
     while let Some(word) = words.next() {
         match word.strip_prefix("--") {
             Some(
-                flag @ ("hex" | "strict" | "accept-cut" | "json" | "quiet" | "hold" | "v4-via-v6"),
+                flag @ ("hex" | "strict" | "accept-cut" | "json" | "quiet" | "hold" | "v4-via-v6"
+                | "origins"),
             ) => {
                 flags.push(flag.to_string());
             }
@@ -1333,6 +1341,7 @@ fn run(words: &Words) -> Result<u8, Failure> {
     match words.command.as_str() {
         "senders" => senders(words),
         "extract" => extract(words),
+        "show" if !words.options.contains_key("from") => tables(words),
         "show" | "lookup" => table(words),
         "events" => events(words),
         other => Err(Failure::Usage(format!("no command {other}"))),
@@ -1475,6 +1484,27 @@ fn table(words: &Words) -> Result<u8, Failure> {
         (_, _, Ok(None)) => Err(Failure::Refused(format!("no packets from {sender}"))),
         (_, _, Ok(Some(_))) => kept.write(end.unwrap_or(0), words.pair()?),
     }
+}
+
+/// `show` without `--from`: the rows of each sender, or who originates what.
+fn tables(words: &Words) -> Result<u8, Failure> {
+    let kept = Tables::new(
+        words.factor()?,
+        words.has("hold"),
+        words.has("v4-via-v6"),
+        words.max_routes()?,
+    );
+    let limit = words.number("max-octets")?.unwrap_or(USUAL_OCTETS);
+    let mut reader = words.reader(words.wanted()?, limit, Sink::Tables(kept))?;
+    words.read_into(&mut reader)?;
+    let end = reader.end().unwrap_or(0);
+    let Sink::Tables(kept) = reader.found.sink else {
+        unreachable!("it was made with tables");
+    };
+    if words.has("origins") {
+        return kept.write_origins(end);
+    }
+    kept.write(end, &reader.names)
 }
 
 /// `events`: what is told stands where the capture is refused later.

@@ -18,7 +18,6 @@ whether it has expired. Events are made by a walk over all rows for each record.
 
 import argparse
 import ipaddress
-import itertools
 import pathlib
 import re
 import sys
@@ -464,14 +463,10 @@ class Timeline:
             if end is not None and end <= moment
         ]
         due.sort(key=lambda each: (each[0], each[1].order(), by_sender(each[2])))
-        for time, of_time in itertools.groupby(due, key=lambda each: each[0]):
-            origins = set()
-            for _, key, origin in of_time:
-                before, _ = self.rows[origin].pop(key)
-                self.tell(time, origin, "expires", key, before=before)
-                origins.add(origin)
-            for origin in sorted(origins, key=by_sender):
-                self.tell_answer(time, origin)
+        for time, key, origin in due:
+            before, _ = self.rows[origin].pop(key)
+            self.tell(time, origin, "expires", key, before=before)
+            self.tell_answer(time, origin)
 
     def take(self, time, origin, at, word):
         """What a word of a sender changes."""
@@ -564,6 +559,8 @@ def read(octets, options):
     sender = options.sender and ipaddress.ip_address(options.sender)
     wanted, window = reader.Wanted(sender, options.interface), window_of(options)
     found, fault = reader.Found(), None
+    if options.command == "events":
+        found.met = set()
     try:
         reader.find(octets, reader.USUAL_OCTETS, wanted, options.accept_cut, window, found)
     except Fault as cause:
@@ -638,6 +635,9 @@ def events(octets, options):
     status, none = (0, ()) if found.packets else (1, ("no Babel packets",))
     intervals = [reader.interval_of(sent) for sent in found.packets.values()]
     notes = [*reader.notes_of(found), *reader.time_notes(found, intervals)]
+    if found.not_followed:
+        text = f"too many senders at packet {found.not_followed}, and no more are followed"
+        notes.append((text, {"note": "not-followed", "packet": found.not_followed}))
     notes += source_notes(found, window, told, options)
     output = lines_of(told, found, options)
     if options.json and not options.quiet:

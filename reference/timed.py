@@ -1,14 +1,15 @@
 #!/usr/bin/env python3
 """Runs a program over small random captures with times, and compares what it writes with what a
-slow program has from the definitions: moments.py.
+slow program has from the definitions: moments.py, and links.py.
 
     timed.py PROGRAM [--plain] [--captures N] [--seed N]
 
 Each capture has few senders at few places, who announce and retract few keys again and again, with
 Intervals of all kinds, at times that repeat, leap and, in some, run backwards, in each format and
-resolution. `show` and `lookup`, in both modes, and `events`, of rows and of an answer, must write
-what the definitions say, with the notes on times, unless it is the plain program, and end with the
-status of that. Exits 1 where they do not. The same seed makes the same captures.
+resolution. `show` and `lookup`, in both modes, `events`, of rows and of an answer, and `links` must
+write what the definitions say, with the notes on times, unless it is the plain program, which has
+no `links`, and end with the status of that. Exits 1 where they do not. The same seed makes the same
+captures.
 """
 
 import argparse
@@ -22,6 +23,7 @@ import subprocess
 import sys
 import tempfile
 
+import links
 import moments
 from moments import reader
 
@@ -29,6 +31,11 @@ sys.path.append(str(pathlib.Path(__file__).resolve().parent.parent / "tests"))
 import capture_files as made  # noqa: E402
 
 SENDERS = "fe80::1", "fe80::2", "192.0.2.1", "10.0.0.9"
+# Where a packet is sent to, of each family: mostly a group.
+DESTINATIONS = {
+    4: (made.GROUP[4], made.GROUP[4], "192.0.2.1", "255.255.255.255"),
+    6: (made.GROUP[6], made.GROUP[6], "fe80::1", "fe80::3"),
+}
 FRAMES = (
     lambda packet: made.ethernet(packet),
     lambda packet: made.ethernet(packet, ((0x8100, 7),)),
@@ -76,13 +83,31 @@ def update(rng, encodings):
     return bytes((8, len(body))) + body
 
 
-def hello(rng):
-    """A Hello, mostly a multicast one that says when the next one comes."""
-    flags = rng.choice((0, 0, 0, 0x40, 0x80, 0xC0))
-    body = struct.pack(">BBHH", flags, 0, rng.randrange(65_536), rng.choice(INTERVALS))
+def tlv(rng, kind, body):
+    """A TLV with sub-TLVs, which mostly can be read."""
     body += rng.choice((b"", b"", b"", b"\0", b"\x7f\0", b"\x80\0", b"\1"))
     body = body[: rng.choice((5, len(body), len(body), len(body)))]
-    return bytes((4, len(body))) + body
+    return bytes((kind, len(body))) + body
+
+
+def hello(rng):
+    """A Hello, mostly a multicast one that says when the next one comes, and counts on."""
+    flags = rng.choice((0, 0, 0, 0x40, 0x80, 0xC0))
+    seqno = rng.choice((rng.randrange(65_536), rng.randrange(20), 65_536 - rng.randrange(1, 9)))
+    return tlv(rng, 4, struct.pack(">BBHH", flags, 0, seqno, rng.choice(INTERVALS)))
+
+
+def ihu(rng):
+    """An IHU, for one of few nodes, or for all."""
+    encoding = rng.choice((0, 0, 1, 2, 3, 3, 4))
+    address = {
+        1: rng.choice(("c0000201", "0a000009", "c0000207")),
+        2: "fe80" + "0" * 27 + rng.choice("12"),
+        3: "0" * 15 + rng.choice("1237"),
+    }.get(encoding, "")
+    rxcost = rng.choice((0, 96, 256, 65_534, 65_535))
+    fixed = struct.pack(">BBHH", encoding, rng.randrange(2), rxcost, rng.choice(INTERVALS))
+    return tlv(rng, 5, fixed + bytes.fromhex(address))
 
 
 def packet(rng, encodings):
@@ -94,8 +119,10 @@ def packet(rng, encodings):
         if rng.randrange(12) == 0:
             body += bytes.fromhex("060a0000") + rng.choice((b"\0", b"\2", b"\3")) * 8
         body += hello(rng) if rng.randrange(2) else b""
+        body += ihu(rng) if rng.randrange(2) else b""
         body += update(rng, encodings)
     body += hello(rng) if rng.randrange(2) else b""
+    body += ihu(rng) if rng.randrange(2) else b""
     if rng.randrange(60) == 0:
         body += b"\4"
     return b"\x2a\2" + len(body).to_bytes(2, "big") + body
@@ -111,6 +138,7 @@ def frame(rng, senders, encodings):
         return made.MACS + b"\x08\x06" + bytes(28)
     datagram = made.udp(packet(rng, encodings), source=6_697 if kind == 1 else made.BABEL)
     how = {"headers": [made.fragment_header(0, True)]} if kind == 2 and ":" in sender else {}
+    how["to"] = rng.choice(DESTINATIONS[6 if ":" in sender else 4])
     whole = rng.choice(FRAMES if rng.randrange(2) else FRAMES[:1])(
         made.ip(sender, datagram, **how) if rng.randrange(40) else made.ip(sender, datagram[:12])
     )
@@ -209,6 +237,12 @@ def runs(rng, octets):
         named = rng.choice((["--from", sender, *at], at, [], []))
         yield ["events", *named, *common]
         yield ["events", *pair, *named, *common]
+        mostly = ["--expiry", factor] if rng.randrange(3) else []
+        at = at if rng.randrange(2) else []
+        cut = ["--accept-cut"] if rng.randrange(4) else []
+        shown = ["--json"] if rng.randrange(2) else []
+        yield ["links", *at, *mostly, *cut, *shown, "--until", word()]
+        yield ["links", *at, *mostly, *cut, *shown]
 
 
 def answered(program, words, octets):
@@ -221,7 +255,7 @@ def answered(program, words, octets):
     if words[0] == "events":
         output = b"".join(line for line in lines if not line.startswith(TLV_OBJECTS))
         errors = [line for line in errors if not TLV_NOTES.match(line)]
-    else:
+    elif words[0] != "links":
         output = b"".join(
             line for line in lines if not line.startswith((b"tlvs ", b"ignored "))
         )
@@ -230,6 +264,8 @@ def answered(program, words, octets):
 
 
 def wanted_of(words, octets, plain):
+    if words[0] == "links":
+        return links.answer_of(words[1:], octets)
     # The plain program follows senders of whom a datagram is missed, and names none in faults.
     all_of_them = ["--follows-all"] if plain and words[0] == "events" else []
     answer = moments.answer_of([*words, *all_of_them], octets)
@@ -249,6 +285,8 @@ def checked(program, captures, seed, plain):
         octets = capture(rng)
         found = []
         for words in runs(rng, octets):
+            if plain and words[0] == "links":
+                continue
             wanted = wanted_of(words, octets, plain)
             # The plain program takes times the wrong way round.
             if plain and wanted.errors == (reader.BACKWARDS,):

@@ -934,14 +934,19 @@ impl Table {
         }
     }
 
-    /// Writes the rows that are held at a moment, or the answer for a pair of addresses.
-    pub fn write(&self, end: i128, pair: Option<(Addr, Addr)>) -> Result<u8, Failure> {
+    /// The rows that are held at a moment, and whether each is a route.
+    fn held(&self, end: i128) -> Vec<(u32, bool)> {
         let ends_of_all = self.ends_of_all();
         let state = |number: u32| {
             let row = &self.rows.list[number as usize];
             Some((number, self.state(row, &ends_of_all, end)?))
         };
-        let mut held: Vec<_> = self.rows.live().into_iter().filter_map(state).collect();
+        self.rows.live().into_iter().filter_map(state).collect()
+    }
+
+    /// Writes the rows that are held at a moment, or the answer for a pair of addresses.
+    pub fn write(&self, end: i128, pair: Option<(Addr, Addr)>) -> Result<u8, Failure> {
+        let held = self.held(end);
         let view = View::without([].into_iter());
         let mut out = Out::new();
         if let Some(pair) = pair {
@@ -954,15 +959,37 @@ impl Table {
             out.flush()?;
             return Ok(u8::from(!best.is_some_and(|(_, is_route)| *is_route)));
         }
-        held.sort_unstable_by_key(|(number, _)| self.rows.order(*number));
-        for each in held {
-            put_key(&mut out, &self.rows, each.0, b" from ");
-            out.text.push(b' ');
-            self.put_what(&mut out, view, Some(each));
-            out.end_line();
-        }
+        self.put_rows(&mut out, held, b"");
         out.flush()?;
         Ok(0)
+    }
+
+    /// A line of each of these rows, in order, after this text.
+    fn put_rows(&self, out: &mut Out, mut held: Vec<(u32, bool)>, lead: &[u8]) {
+        let view = View::without([].into_iter());
+        held.sort_unstable_by_key(|(number, _)| self.rows.order(*number));
+        for each in held {
+            out.put(lead);
+            put_key(out, &self.rows, each.0, b" from ");
+            out.text.push(b' ');
+            self.put_what(out, view, Some(each));
+            out.end_line();
+        }
+    }
+
+    /// Counts who originates the routes that are held at a moment.
+    fn originate(&self, end: i128, all: &mut HashMap<Origination, (u16, u32), Seed>) {
+        for (number, is_route) in self.held(end) {
+            let row = &self.rows.list[number as usize];
+            let source = self.rows.sources.list[row.key.source as usize];
+            if is_route {
+                let router_id = self.rows.owners.list[row.owner as usize].router_id;
+                let one = (row.is_ipv6(), row.dst(), source, router_id);
+                let (least, senders) = all.entry(one).or_insert((INFINITY, 0));
+                *least = (*least).min(row.stated as u16);
+                *senders += 1;
+            }
+        }
     }
 
     fn put_what(&self, out: &mut Out, view: View, what: Option<(u32, bool)>) {
@@ -975,6 +1002,79 @@ impl Table {
                     .text(out);
             }
         }
+    }
+}
+
+/// A destination, a source and a router-id, of this family.
+type Origination = (bool, Prefix, Prefix, u64);
+
+/// The tables of all senders: each as it is alone, with these options.
+pub struct Tables {
+    of: HashMap<Origin, Table, Seed>,
+    options: (Option<u64>, bool, bool, usize),
+}
+
+impl Tables {
+    pub fn new(factor: Option<u64>, hold: bool, via_v6: bool, most: usize) -> Tables {
+        Tables {
+            of: HashMap::with_hasher(Seed::new()),
+            options: (factor, hold, via_v6, most),
+        }
+    }
+
+    pub fn take(&mut self, time: i128, origin: Origin, packet: &[u8]) {
+        let (factor, hold, via_v6, most) = self.options;
+        self.of
+            .entry(origin)
+            .or_insert_with(|| Table::new(factor, hold, via_v6, most))
+            .take(time, origin, packet);
+    }
+
+    /// Writes the rows of each sender that are held at a moment.
+    pub fn write(self, end: i128, names: &[Vec<u8>]) -> Result<u8, Failure> {
+        let mut out = Out::new();
+        let mut senders: Vec<_> = self.of.into_iter().collect();
+        senders.sort_unstable_by_key(|(origin, _)| *origin);
+        for (origin, table) in senders {
+            let mut lead = sender_text(origin, names, false).split_off(1);
+            match table.fault {
+                Some(fault) => {
+                    lead.pop();
+                    eprintln!("{}: {fault}", String::from_utf8_lossy(&lead));
+                }
+                None => table.put_rows(&mut out, table.held(end), &lead),
+            }
+        }
+        out.flush()?;
+        Ok(0)
+    }
+
+    /// Writes who originates what at a moment, unless a sender is refused.
+    pub fn write_origins(self, end: i128) -> Result<u8, Failure> {
+        let mut all = HashMap::with_hasher(Seed::new());
+        for table in self.of.into_values() {
+            match table.fault {
+                Some(fault) => return Err(fault.into()),
+                None => table.originate(end, &mut all),
+            }
+        }
+        let mut all: Vec<(Origination, (u16, u32))> = all.into_iter().collect();
+        all.sort_unstable_by_key(|(one, _)| *one);
+        let mut out = Out::new();
+        for ((is_ipv6, dst, source, router_id), (metric, senders)) in all {
+            out.prefix(is_ipv6, dst);
+            out.put(b" from ");
+            out.prefix(is_ipv6, source);
+            out.put(b" id ");
+            out.router_id(router_id);
+            out.put(b" metric ");
+            out.decimal(metric.into());
+            out.put(b" senders ");
+            out.decimal(senders);
+            out.end_line();
+        }
+        out.flush()?;
+        Ok(0)
     }
 }
 

@@ -105,7 +105,8 @@ class Found:
     read its number and its time, where it has one that can be told; and in their order the origin,
     the packet, the place among these records and the destination of all packets; and of each origin
     these places. Of the datagrams that were left out the origin, the number, the reason and the
-    place among the records."""
+    place among the records. Where senders past 65,536 are not followed, those that were
+    met, and the first packet of another."""
 
     packets: dict = field(default_factory=dict)
     start: int = None
@@ -120,6 +121,8 @@ class Found:
     sections: set = field(default_factory=set)
     names: list = field(default_factory=list)
     cut: int = None
+    met: set = None
+    not_followed: int = None
 
     @functools.cached_property
     def is_timed(self):
@@ -683,6 +686,11 @@ def take(found, packet, number, wanted):
         raise Fault(f"{LACKS[reason]} at {packet.at}")
     if reason == "whole":
         babel, reason = packet_in(seen.payload)
+    if found.met is not None and (not reason or reason in LACKS):
+        if origin not in found.met and len(found.met) == MOST_SENDERS:
+            found.not_followed = found.not_followed or number
+            return
+        found.met.add(origin)
     if reason:
         found.left_out.setdefault(reason, []).append(number)
         found.unread.append((origin, number, reason, len(found.records)))

@@ -544,6 +544,45 @@ def check_at_once(program, tally):
     tally.check("a note of a live run at once", problem)
 
 
+def forged(others):
+    """Frames: a router announces a route, then so many other senders send nothing, one more announces
+    one, and the router changes its own."""
+    update = START + bytes.fromhex("080a0100 0000 0064 0001")
+    frame = lambda body: made.ip("fe80::", made.udp(b"\x2a\2" + made.number(len(body)) + body))
+    empty, first, second = map(frame, (b"", update + b"\0\x60", update + b"\0\xc0"))
+    sent = [(1, first), *((number, empty) for number in range(2, others + 2)), (others + 2, first)]
+    for number, octets in [*sent, (1, second)]:
+        yield octets[:20] + made.number(number, 4) + octets[24:]
+
+
+def check_forged(program, tally):
+    """Of no more than 65,536 senders it is told; that there are more is said, and ends no run, unless
+    it is strict."""
+    number = reader.MOST_SENDERS + 1
+    frames = list(forged(number - 2))
+    octets = made.pcap(list(map(made.Record, frames)), link=101)
+    last = reader.text_of(6, 0xFE80 << 112 | number)
+    many = f"too many senders at packet {number}, and no more are followed"
+    with tempfile.NamedTemporaryFile(suffix=".pcap") as file:
+        file.write(octets)
+        file.flush()
+        status, lines, errors = run(program, ["events", "--json"], file.name)
+        strict = run(program, ["events", "--strict", "--quiet"], file.name)
+    events = [json.loads(line) for line in lines]
+    told = [(each["sender"][-2:], each["event"]) for each in events if "event" in each]
+    notes = [note for note in events if note.get("note") == "not-followed"]
+    said = [error for error in errors if "too many" in error]
+    at = len(octets) - sum(16 + len(frame) for frame in frames[-2:])
+    for what, got, wanted in (
+        ("status", status, 0),
+        ("lines", told, [(":1", "announces"), (":1", "changes")]),
+        ("objects", notes, [{"note": "not-followed", "packet": number}]),
+        ("notes", said, [f"note: {last}: {many}", f"note: {many}"]),
+        ("strict", (strict[0], strict[2]), (3, [f"too many senders at {at}"])),
+    ):
+        tally.check(f"forged senders: {what}", "" if got == wanted else f"{got}, not {wanted}")
+
+
 def line_within(stream, seconds):
     """The first line that a stream gives, if it gives it within so many seconds."""
     octets, ends = b"", monotonic() + seconds
@@ -607,6 +646,7 @@ def check(tally, long):
     check_drill(program, tally)
     check_square(program, tally)
     check_at_once(program, tally)
+    check_forged(program, tally)
     with tempfile.TemporaryDirectory() as folder:
         most = 10 * MOMENTS if long else MOMENTS
         check_captures(program, captures_of(pathlib.Path(folder), long), tally, most)

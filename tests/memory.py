@@ -1,5 +1,5 @@
-"""Each allocation refused in turn: of the program over program.txt, of `events` over events.txt, of
-the tests of libraries, in the long form over the dumps of routers.
+"""Each allocation refused in turn: of the program over program.txt and links.txt, of `events` over
+events.txt, of the tests of libraries, in the long form over the dumps of routers.
 
 refuse.c is loaded into a process and refuses its Nth allocation, for N = 1, 2, .. until none is
 refused. The program must print what it prints otherwise, or `out of memory` alone, with status 5;
@@ -139,15 +139,15 @@ def is_right_test(run, was_refused):
 
 
 def program_cases(program, folder):
-    """The commands of program.txt that are words of the program alone, and `events` of events.txt,
-    which has dumps of the other files, too."""
+    """The commands of program.txt and links.txt that are words of the program alone, and `events`
+    of events.txt, which has dumps of the other files, too."""
     transcript.link_examples(folder)
-    for name in "program", "time", "hold", "events":
+    for name in "program", "time", "hold", "events", "links":
         dumps, steps = transcript.read(TOP / f"tests/{name}.txt")
         transcript.put(dumps, folder)
         for each in steps:
             words = [] if OF_SHELL.search(each.command) else shlex.split(each.command)[1:]
-            if words[:1] == ["events"] or name == "program" and words:
+            if words[:1] == ["events"] or name in ("program", "links") and words:
                 judge = JUDGES.get(words[0], answers)(each.expected)
                 yield Case(f"{each.place}: {each.command}", [program, *words], folder, judge)
 

@@ -573,7 +573,8 @@ def check(tally, _long):
         folder = pathlib.Path(folder)
         transcript.link(program, folder)
         transcript.link_examples(folder)
-        for name in "program", "worked", "time", "hold", "events", "words":
+        names = "program", "worked", "time", "hold", "events", "links", "words", "names"
+        for name in names:
             transcript.play(TOP / f"tests/{name}.txt", folder, tally)
         transcript.put(dict(large_dumps()), folder)
         transcript.play(TOP / "tests/limits.txt", folder, tally)

@@ -1,21 +1,38 @@
 """The dumps of examples/routers: the neighbours' tables, the canonical dumps, the golden files; the
-tables of a failure drill; and the routes of random tables."""
+tables of a failure drill; the costs of links; and the routes of random tables."""
 
 import concurrent.futures
+import ipaddress
 import itertools
+import json
 import os
 import pathlib
+import re
+import subprocess
 import tempfile
 
 import golden
 import routes
 import transcript
-from checks import built_program
+from checks import TOP, built_program
 
 import agree
 import canonical
 import drill
 from agree import SENDERS
+
+SELECTION = TOP / "examples/selection"
+# Of each view whose it is, and how it tells of a neighbour.
+NEIGHBOURS = {
+    "view-c.txt": (
+        "fe80::5eff:fe00:6907",
+        re.compile(r"Neighbour (?P<address>\S+) .* rxcost (?P<rxcost>\d+) txcost (?P<txcost>\d+)"),
+    ),
+    "view-e.txt": (
+        "fe80::5eff:fe00:6909",
+        re.compile(r"(?m)^(?P<address>fe80\S+) +lan +(?P<txcost>\d+) "),
+    ),
+}
 
 
 def check_tables(program, tally):
@@ -32,6 +49,34 @@ def check_drill(program, tally):
         rows, moments = found = drill.counts(drill.differing(program, options))
         problem = "" if found == explained else f"{rows} rows differ, at {moments} moments"
         tally.check(f"the listener's tables of the drill: {' '.join(['show', *options])}", problem)
+
+
+def costs_of(program, router, moment):
+    """What a router and each neighbour said of their link until then."""
+    words = ["links", "--json", "--until", f"@{moment}", SELECTION / "lan.pcap"]
+    done = subprocess.run([program, *words], check=True, capture_output=True, text=True)
+    return {
+        ipaddress.ip_address(link["neighbour"]): {"rxcost": link["rxcost"], "txcost": link["back"]}
+        for link in map(json.loads, done.stdout.splitlines())
+        if ipaddress.ip_address(link["sender"]) == ipaddress.ip_address(router)
+    }
+
+
+def check_links(program, tally):
+    """The costs of links are those that the routers had; BIRD tells that of sending alone."""
+    for view, (router, neighbour) in NEIGHBOURS.items():
+        text = (SELECTION / view).read_text()
+        theirs = {}
+        for found in neighbour.finditer(text):
+            costs = found.groupdict()
+            address = ipaddress.ip_address(costs.pop("address"))
+            theirs[address] = {name: int(cost) for name, cost in costs.items()}
+        ours = costs_of(program, router, text.split()[1])
+        is_so = theirs and theirs.keys() == ours.keys() and all(
+            costs.items() <= ours[address].items() for address, costs in theirs.items()
+        )
+        problem = "" if is_so else f"{ours} in place of {theirs}"
+        tally.check(f"the costs of links in {view}", problem)
 
 
 def check_canonical(program, folder, tally):
@@ -59,6 +104,7 @@ def check(tally, _long):
         folder = pathlib.Path(folder)
         check_tables(program, tally)
         check_drill(program, tally)
+        check_links(program, tally)
         check_canonical(program, folder, tally)
         routes.check(program, folder, tally)
         transcript.link(program, folder)

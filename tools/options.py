@@ -32,6 +32,7 @@ ZSH = {
     "interface": "_babel_dump_places 1",
     "other-interface": "_babel_dump_places 2",
     "each": "_files",
+    "names": "_files",
     "ignore": f"_values -s , field {FIELDS}",
 }
 FISH = {
@@ -254,7 +255,7 @@ def fish():
     lines.append(f"__babel_dump_option help -f -a '{' '.join(COMMANDS)}'")
     lines += ["", f"__babel_dump_option '{' '.join(COMMANDS)}' -l help -d 'Print help'"]
     for row in OPTIONS:
-        more = "" if row.kind == "Nothing" else " -r" if row.id == "each" else " -x"
+        more = "" if row.kind == "Nothing" else " -r" if row.id in ("each", "names") else " -x"
         words = " ".join(row.takes[1]) if row.kind == "OneOf" else FISH.get(row.id)
         more += f" -a '{words}'" if words else ""
         front = f"__babel_dump_option '{' '.join(row.commands)}' -l {row.id}{more}"

@@ -27,7 +27,7 @@ use Rattle.babel_capture.specs.Gathering.{IsRefused}
 use Rattle.babel_capture.specs.Link.{link_of}
 use Rattle.babel_capture.specs.Numbers.{number_at}
 use Rattle.babel_capture.specs.Reading.{HeaderFails, StopsAt}
-use Rattle.babel_capture.specs.Tallies.{Senders, senders_of}
+use Rattle.babel_capture.specs.Tallies.{Senders, senders_listed}
 use Rattle.babel_capture.specs.declared.wanted.Wanted.{Wanted}
 use Rattle.babel_capture.specs.Window.{Extent}
 
@@ -175,6 +175,6 @@ short-other before at rest fault (inl (not, told)) is = cc
 short-other before at rest fault (inr (started, some, told)) is = cc
 
 pub fault-other : (limit : Extent) (wanted : Wanted) (octets : List ℕ) (fault : Fault) → CaptureFault limit wanted octets fault → fault ≢ faults.Memory
-fault-other limit wanted octets fault (inl stops) = stops-other wanted (senders_of stops.made) (context_behind (start limit) stops.blocks) (length (octets_of stops.blocks)) stops.rest fault
+fault-other limit wanted octets fault (inl stops) = stops-other wanted (senders_listed wanted.are_listed stops.made) (context_behind (start limit) stops.blocks) (length (octets_of stops.blocks)) stops.rest fault
     stops.stops
 fault-other limit wanted octets fault (inr short) = short-other (context_behind (start limit) short.blocks) (length (octets_of short.blocks)) short.rest fault short.short

@@ -23,7 +23,7 @@ use Rattle.babel_capture.specs.Gathering.{AreMade, Gathering, IsGathered}
 use Rattle.babel_capture.specs.Lengths.{block_len, header_len}
 use Rattle.babel_capture.specs.OneCapture.{CaptureIsOne, CutCaptureIsOne}
 use Rattle.babel_capture.specs.Sight.{Carried, Sight, datagram, lacking, not_link_local, other, other_port, too_short, carries}
-use Rattle.babel_capture.specs.Tallies.{Senders, senders_of}
+use Rattle.babel_capture.specs.Tallies.{Senders, senders_listed}
 use Rattle.babel_capture.specs.Times.{Came}
 use Rattle.babel_capture.specs.Window.{Extent}
 
@@ -204,7 +204,7 @@ same_blocks limit octets one another place other_place is is_too = blocks_one (s
 pub cut_capture_is_one : CutCaptureIsOne
 cut_capture_is_one limit octets one another place other_place is is_too wanted = (
   one_gathering one another wanted (is.is_read.names ∙ ap names_of same.0 ∙ sym is_too.is_read.names) (gathered.report ∙ ap counts_of made ∙ sym other.report)
-      (gathered.senders ∙ ap senders_of made ∙ sym other.senders),
+      (gathered.senders ∙ ap (senders_listed one.wanted.are_listed) made ∙ ap (λ (w : Wanted). senders_listed w.are_listed other.made) wanted ∙ sym other.senders),
   places (is.is_read.whole ∙ ap octets_of same.0 ∙ sym is_too.is_read.whole) same.1 is.where_cut is_too.where_cut,
   made,
 )

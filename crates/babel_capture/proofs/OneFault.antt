@@ -1,6 +1,6 @@
 -- Octets have one outcome or one fault: where the blocks of two readings are the same so far, the next block is taken in both, or
 -- fails in both, or is not whole in both.
-use Rattle.std.proofs.Common.{◌≡◌, ◌≢◌, ℕ, ◌+◌, ◌≤◌, ◌<◌, List, [], ◌∷◌, ◌++◌, length, drop, refl, sym, ap, subst, ◌∙◌, append_assoc, inl, inr, arith, length-append}
+use Rattle.std.proofs.Common.{Bool, true, false, ◌≡◌, ◌≢◌, ℕ, ◌+◌, ◌≤◌, ◌<◌, List, [], ◌∷◌, ◌++◌, length, drop, refl, sym, ap, subst, ◌∙◌, append_assoc, inl, inr, arith, length-append}
 use Rattle.std.specs.Prelude.{◌⊎◌, Option, Some, None, Result, Ok, Err, fold}
 use Rattle.std.specs.Result.{IsOkAnd}
 use Rattle.std.proofs.lemmas.List.{take-append-drop, take-append-le}
@@ -19,7 +19,7 @@ use Rattle.babel_capture.specs.Gathering.{AreMade, AreTaken, Gathering, IsRefuse
 use Rattle.babel_capture.specs.Lengths.{block_len, header_len}
 use Rattle.babel_capture.specs.OneFault.{CutIsTheFault, FaultIsOne, ReadHasNoFault}
 use Rattle.babel_capture.specs.Reading.{BlockFails, HeaderFails, Stops, StopsAt}
-use Rattle.babel_capture.specs.Tallies.{Senders, origin_cmp, senders_with, tallied}
+use Rattle.babel_capture.specs.Tallies.{Senders, listed_with, origin_cmp, senders_listed, senders_with, tallied}
 use Rattle.babel_capture.specs.Times.{time_of}
 use Rattle.babel_capture.proofs.Entries.{insert-longer, insert-new}
 use Rattle.babel_capture.proofs.OneCapture.{block_one, blocks_one, content_or_none, finds_one, len_or_none, made_one, one_block, partial_none, some_header, uncut}
@@ -27,25 +27,34 @@ use Rattle.babel_capture.specs.Window.{Extent}
 
 -- ---- senders
 
--- the senders with those of some packets more
-abbrev more : Senders → List Made → Senders
-more senders made = fold (λ (s : Senders) (one : Made). senders_with s (time_of one.came) one.what) senders made
+-- the senders with those of some packets more, where they are listed
+abbrev more : (listed : Bool) → Senders → List Made → Senders
+more listed senders made = fold (λ (s : Senders) (one : Made). listed_with listed s (time_of one.came) one.what) senders made
 
-with-longer : (senders : Senders) (time : Option ℕ) (what : Found) → length senders ≤ length (senders_with senders time what)
-with-longer senders time passed = omega arith
-with-longer senders time untold = omega arith
-with-longer senders time (left reason missed) = omega arith
-with-longer senders time (refused lack) = omega arith
-with-longer senders time (found place ends packet has_trailer) = insert-longer origin_cmp (record { place = place; sender = ends.sender }) _ senders
+with-longer : (listed : Bool) (senders : Senders) (time : Option ℕ) (what : Found) → length senders ≤ length (listed_with listed senders time what)
+with-longer false senders time what = omega arith
+with-longer true senders time passed = omega arith
+with-longer true senders time untold = omega arith
+with-longer true senders time (left reason missed) = omega arith
+with-longer true senders time (refused lack) = omega arith
+with-longer true senders time (found place ends packet has_trailer) = insert-longer origin_cmp (record { place = place; sender = ends.sender }) _ senders
 
-more-longer : (senders : Senders) (made : List Made) → length senders ≤ length (more senders made)
-more-longer senders [] = omega arith
-more-longer senders (one ∷ made) =
-    (let here = with-longer senders (time_of one.came) one.what in let later = more-longer (senders_with senders (time_of one.came) one.what) made in omega arith)
+more-longer : (listed : Bool) (senders : Senders) (made : List Made) → length senders ≤ length (more listed senders made)
+more-longer listed senders [] = omega arith
+more-longer listed senders (one ∷ made) =
+    (let here = with-longer listed senders (time_of one.came) one.what in let later = more-longer listed (listed_with listed senders (time_of one.came) one.what) made in omega arith)
 
-more-append : (senders : Senders) (front back : List Made) → more senders (front ++ back) ≡ more (more senders front) back
-more-append senders [] back = refl
-more-append senders (one ∷ front) back = more-append (senders_with senders (time_of one.came) one.what) front back
+more-append : (listed : Bool) (senders : Senders) (front back : List Made) → more listed senders (front ++ back) ≡ more listed (more listed senders front) back
+more-append listed senders [] back = refl
+more-append listed senders (one ∷ front) back = more-append listed (listed_with listed senders (time_of one.came) one.what) front back
+
+more-none : (senders : Senders) (made : List Made) → more false senders made ≡ senders
+more-none senders [] = refl
+more-none senders (one ∷ made) = more-none senders made
+
+listed-more : (listed : Bool) (made : List Made) → senders_listed listed made ≡ more listed [] made
+listed-more true made = refl
+listed-more false made = sym (more-none [] made)
 
 -- ---- packets in two parts
 
@@ -75,7 +84,8 @@ record AreRead (wanted : Wanted) (senders : Senders) (count : ℕ) (before : Bef
   whole : octets ≡ octets_of blocks ++ rest
   are_blocks : AreBlocks before at blocks
   are_made : AreMade wanted (sightings_behind count blocks) made
-  few : length (more senders made) ≤ 65536
+  few : length (more wanted.are_listed senders made) ≤ 65536
+  none : wanted.are_listed ≡ false → senders ≡ []
 
 -- the packets of the first block, and those of the others
 module _ (wanted : Wanted) (senders : Senders) (count : ℕ) (before : Before) (at : ℕ) (octets : List ℕ) (block : BlockAt) (blocks : List BlockAt) (rest : List ℕ)
@@ -86,40 +96,42 @@ module _ (wanted : Wanted) (senders : Senders) (count : ℕ) (before : Before) (
   parts : InTwo wanted here (sightings_behind (count + length here) blocks) made
   parts = in_two wanted here (sightings_behind (count + length here) blocks) made are.are_made
 
-  behind : AreRead wanted (more senders parts.first) (count + length here) (context_after before block.content) (at + length block.octets) (octets_of blocks ++ rest) blocks rest parts.later
+  behind : AreRead wanted (more wanted.are_listed senders parts.first) (count + length here) (context_after before block.content) (at + length block.octets) (octets_of blocks ++ rest) blocks rest parts.later
   behind = record {
     whole = refl;
     are_blocks = are.are_blocks.3;
     are_made = parts.are_later;
-    few = subst (λ (s : Senders). length s ≤ 65536) (ap (more senders) parts.whole ∙ more-append senders parts.first parts.later) are.few;
+    few = subst (λ (s : Senders). length s ≤ 65536) (ap (more wanted.are_listed senders) parts.whole ∙ more-append wanted.are_listed senders parts.first parts.later) are.few;
+    none = λ not. ap (λ (b : Bool). more b senders parts.first) not ∙ more-none senders parts.first ∙ are.none not;
   }
 
 -- a packet that is refused is not taken
-not_refused : (senders : Senders) (at : ℕ) (fault : Fault) (one : Made) (others : List Made) (what : Found) → one.what ≡ what → IsTaken what → RefusesFound senders at what fault
-    → length (more senders (one ∷ others)) ≤ 65536 → ⊥
-not_refused senders at fault one others passed is takes refuses few = refuses
-not_refused senders at fault one others untold is takes refuses few = refuses
-not_refused senders at fault one others (left reason missed) is takes refuses few = refuses
-not_refused senders at fault one others (refused lack) is takes refuses few = takes
-not_refused senders at fault one others (found place ends octets has_trailer) is takes (told, many) few =
+not_refused : (listed : Bool) (senders : Senders) (at : ℕ) (fault : Fault) (one : Made) (others : List Made) (what : Found) → one.what ≡ what → IsTaken what → RefusesFound senders at what fault
+    → length (more listed senders (one ∷ others)) ≤ 65536 → (listed ≡ false → senders ≡ []) → ⊥
+not_refused listed senders at fault one others passed is takes refuses few none = refuses
+not_refused listed senders at fault one others untold is takes refuses few none = refuses
+not_refused listed senders at fault one others (left reason missed) is takes refuses few none = refuses
+not_refused listed senders at fault one others (refused lack) is takes refuses few none = takes
+not_refused false senders at fault one others (found place ends octets has_trailer) is takes (told, many) few none = (let full = many.0 in omega (arith, ap length (none refl)))
+not_refused true senders at fault one others (found place ends octets has_trailer) is takes (told, many) few none =
     let origin : Origin = record { place = place; sender = ends.sender } in
     let listed = tallied senders origin (time_of one.came) octets has_trailer in
-    let all : more senders (one ∷ others) ≡ more listed others = ap (λ (w : Found). more (senders_with senders (time_of one.came) w) others) is in
+    let all : more true senders (one ∷ others) ≡ more true listed others = ap (λ (w : Found). more true (senders_with senders (time_of one.came) w) others) is in
     let new : length listed ≡ length senders + 1 = insert-new origin_cmp origin _ senders many.1 in
-    let longer = more-longer listed others in
+    let longer = more-longer true listed others in
     let full = many.0 in
     omega (arith, ap length all)
 
 refused_none : (wanted : Wanted) (senders : Senders) (number at : ℕ) (content : Content) (fault : Fault) (later : List Sighting) (made : List Made) → IsRefused wanted senders at content fault
-    → AreMade wanted (sightings_in number at content ++ later) made → length (more senders made) ≤ 65536 → ⊥
-refused_none wanted senders number at (file order interface) fault later made refuses are few = refuses
-refused_none wanted senders number at (section order) fault later made refuses are few = refuses
-refused_none wanted senders number at (describes interface name) fault later made refuses are few = refuses
-refused_none wanted senders number at nothing fault later made refuses are few = refuses
-refused_none wanted senders number at (skips packet) fault later made refuses are few = refuses
-refused_none wanted senders number at (holds packet) fault later made (what, finds, refuses) (one, others, is, numbered, link, came, finds_too, takes, are) few =
+    → AreMade wanted (sightings_in number at content ++ later) made → length (more wanted.are_listed senders made) ≤ 65536 → (wanted.are_listed ≡ false → senders ≡ []) → ⊥
+refused_none wanted senders number at (file order interface) fault later made refuses are few none = refuses
+refused_none wanted senders number at (section order) fault later made refuses are few none = refuses
+refused_none wanted senders number at (describes interface name) fault later made refuses are few none = refuses
+refused_none wanted senders number at nothing fault later made refuses are few none = refuses
+refused_none wanted senders number at (skips packet) fault later made refuses are few none = refuses
+refused_none wanted senders number at (holds packet) fault later made (what, finds, refuses) (one, others, is, numbered, link, came, finds_too, takes, are) few none =
     let same = finds_one wanted (sight_in packet) one.what what finds_too finds in
-    not_refused senders at fault one others what same (subst IsTaken same takes) refuses (subst (λ (m : List Made). length (more senders m) ≤ 65536) is few)
+    not_refused wanted.are_listed senders at fault one others what same (subst IsTaken same takes) refuses (subst (λ (m : List Made). length (more wanted.are_listed senders m) ≤ 65536) is few) none
 
 module _ (wanted : Wanted) (senders : Senders) (before : Before) (at : ℕ) where
   -- octets that stop begin with no block that is taken
@@ -155,7 +167,7 @@ module _ (wanted : Wanted) (senders : Senders) (before : Before) (at : ℕ) wher
           let here : at ≡ block.at = sym are.are_blocks.0 in
           refused_none wanted senders (count + 1) block.at block.content fault (sightings_behind (count + length (sightings_in (count + 1) block.at block.content)) blocks) made
           (subst (λ (n : ℕ). IsRefused wanted senders n block.content fault) here (subst (λ (c : Content). IsRefused wanted senders at c fault) content_is refuses))
-          are.are_made are.few
+          are.are_made are.few are.none
 
   -- they stop by one fault
   same_refusal : (what : Found) (one other : Fault) → RefusesFound senders at what one → RefusesFound senders at what other → one ≡ other
@@ -248,21 +260,21 @@ module _ (wanted : Wanted) (senders : Senders) (count : ℕ) (before : Before) (
 -- the fault, behind the first block
 module _ (wanted : Wanted) (senders : Senders) (before : Before) (at : ℕ) (block : BlockAt) (blocks : List BlockAt) (rest : List ℕ) (fault : Fault) where
   stops_behind : (made first later : List Made) → made ≡ first ++ later
-      → StopsAt wanted (more senders made) (context_behind before (block ∷ blocks)) (at + length (octets_of (block ∷ blocks))) rest fault
-      → StopsAt wanted (more (more senders first) later) (context_behind (context_after before block.content) blocks) (at + length block.octets + length (octets_of blocks)) rest fault
+      → StopsAt wanted (more wanted.are_listed senders made) (context_behind before (block ∷ blocks)) (at + length (octets_of (block ∷ blocks))) rest fault
+      → StopsAt wanted (more wanted.are_listed (more wanted.are_listed senders first) later) (context_behind (context_after before block.content) blocks) (at + length block.octets + length (octets_of blocks)) rest fault
   stops_behind made first later whole stops =
-      subst (λ (n : ℕ). StopsAt wanted (more (more senders first) later) (context_behind (context_after before block.content) blocks) n rest fault)
+      subst (λ (n : ℕ). StopsAt wanted (more wanted.are_listed (more wanted.are_listed senders first) later) (context_behind (context_after before block.content) blocks) n rest fault)
       (omega (arith, length-append block.octets (octets_of blocks)))
       (subst (λ (s : Senders). StopsAt wanted s (context_behind before (block ∷ blocks)) (at + length (octets_of (block ∷ blocks))) rest fault)
-      (ap (more senders) whole ∙ more-append senders first later) stops)
+      (ap (more wanted.are_listed senders) whole ∙ more-append wanted.are_listed senders first later) stops)
 
 stops_one : (wanted : Wanted) (senders : Senders) (count : ℕ) (before : Before) (at : ℕ) (octets : List ℕ) (blocks others : List BlockAt) (rest other_rest : List ℕ) (made other_made : List Made)
     (one other : Fault) → AreRead wanted senders count before at octets blocks rest made → AreRead wanted senders count before at octets others other_rest other_made
-    → StopsAt wanted (more senders made) (context_behind before blocks) (at + length (octets_of blocks)) rest one
-    → StopsAt wanted (more senders other_made) (context_behind before others) (at + length (octets_of others)) other_rest other → one ≡ other
+    → StopsAt wanted (more wanted.are_listed senders made) (context_behind before blocks) (at + length (octets_of blocks)) rest one
+    → StopsAt wanted (more wanted.are_listed senders other_made) (context_behind before others) (at + length (octets_of others)) other_rest other → one ≡ other
 stops_one wanted senders count before at octets [] [] rest other_rest made other_made one other are are_too stops stops_too =
-    let none : more senders made ≡ senders = ap (more senders) are.are_made in
-    let none_too : more senders other_made ≡ senders = ap (more senders) are_too.are_made in
+    let none : more wanted.are_listed senders made ≡ senders = ap (more wanted.are_listed senders) are.are_made in
+    let none_too : more wanted.are_listed senders other_made ≡ senders = ap (more wanted.are_listed senders) are_too.are_made in
     let here : at + 0 ≡ at = omega arith in
     let same : other_rest ≡ rest = sym are_too.whole ∙ are.whole in
     stop_one wanted senders before at rest one other
@@ -270,13 +282,13 @@ stops_one wanted senders count before at octets [] [] rest other_rest made other
     (subst (λ (t : List ℕ). StopsAt wanted senders before at t other) same
     (subst (λ (n : ℕ). StopsAt wanted senders before n other_rest other) here (subst (λ (s : Senders). StopsAt wanted s before (at + 0) other_rest other) none_too stops_too)))
 stops_one wanted senders count before at octets [] (another ∷ others) rest other_rest made other_made one other are are_too stops stops_too =
-    let none : more senders made ≡ senders = ap (more senders) are.are_made in
+    let none : more wanted.are_listed senders made ≡ senders = ap (more wanted.are_listed senders) are.are_made in
     let here : at + 0 ≡ at = omega arith in
     absurd (stop_taken wanted senders before at count octets one another others other_rest other_made
     (subst (λ (t : List ℕ). StopsAt wanted senders before at t one) (sym are.whole)
     (subst (λ (n : ℕ). StopsAt wanted senders before n rest one) here (subst (λ (s : Senders). StopsAt wanted s before (at + 0) rest one) none stops))) are_too)
 stops_one wanted senders count before at octets (block ∷ blocks) [] rest other_rest made other_made one other are are_too stops stops_too =
-    let none : more senders other_made ≡ senders = ap (more senders) are_too.are_made in
+    let none : more wanted.are_listed senders other_made ≡ senders = ap (more wanted.are_listed senders) are_too.are_made in
     let here : at + 0 ≡ at = omega arith in
     absurd (stop_taken wanted senders before at count octets other block blocks rest made
     (subst (λ (t : List ℕ). StopsAt wanted senders before at t other) (sym are_too.whole)
@@ -285,8 +297,8 @@ stops_one wanted senders count before at octets (block ∷ blocks) (another ∷ 
     let same : another ≡ block = first_one wanted senders count before at octets block another blocks others rest other_rest made other_made are are_too in
     let are_again : AreRead wanted senders count before at octets (block ∷ others) other_rest other_made =
     subst (λ (b : BlockAt). AreRead wanted senders count before at octets (b ∷ others) other_rest other_made) same are_too in
-    let stops_again : StopsAt wanted (more senders other_made) (context_behind before (block ∷ others)) (at + length (octets_of (block ∷ others))) other_rest other =
-    subst (λ (b : BlockAt). StopsAt wanted (more senders other_made) (context_behind before (b ∷ others)) (at + length (octets_of (b ∷ others))) other_rest other) same stops_too in
+    let stops_again : StopsAt wanted (more wanted.are_listed senders other_made) (context_behind before (block ∷ others)) (at + length (octets_of (block ∷ others))) other_rest other =
+    subst (λ (b : BlockAt). StopsAt wanted (more wanted.are_listed senders other_made) (context_behind before (b ∷ others)) (at + length (octets_of (b ∷ others))) other_rest other) same stops_too in
     let split = parts wanted senders count before at octets block blocks rest made are in
     let split_too = parts wanted senders count before at octets block others other_rest other_made are_again in
     let firsts : split_too.first ≡ split.first = made_one wanted (sightings_in (count + 1) block.at block.content) split_too.first split.first split_too.are_first split.are_first in
@@ -296,26 +308,26 @@ stops_one wanted senders count before at octets (block ∷ blocks) (another ∷ 
     let rests : octets_of others ++ other_rest ≡ octets_of blocks ++ rest =
     (block_one before at block.octets block.octets (octets_of others ++ other_rest) (octets_of blocks ++ rest) are.are_blocks.1 are.are_blocks.1
     (sym (are_again.whole ∙ append_assoc block.octets (octets_of others) other_rest) ∙ (are.whole ∙ append_assoc block.octets (octets_of blocks) rest))).1 in
-    stops_one wanted (more senders split.first) (count + length here) after next (octets_of blocks ++ rest) blocks others rest other_rest split.later split_too.later one other
+    stops_one wanted (more wanted.are_listed senders split.first) (count + length here) after next (octets_of blocks ++ rest) blocks others rest other_rest split.later split_too.later one other
     (behind wanted senders count before at octets block blocks rest made are)
-    (subst (λ (s : Senders). AreRead wanted s (count + length here) after next (octets_of blocks ++ rest) others other_rest split_too.later) (ap (more senders) firsts)
-    (subst (λ (t : List ℕ). AreRead wanted (more senders split_too.first) (count + length here) after next t others other_rest split_too.later) rests
+    (subst (λ (s : Senders). AreRead wanted s (count + length here) after next (octets_of blocks ++ rest) others other_rest split_too.later) (ap (more wanted.are_listed senders) firsts)
+    (subst (λ (t : List ℕ). AreRead wanted (more wanted.are_listed senders split_too.first) (count + length here) after next t others other_rest split_too.later) rests
     (behind wanted senders count before at octets block others other_rest other_made are_again)))
     (stops_behind wanted senders before at block blocks rest one made split.first split.later split.whole stops)
-    (subst (λ (s : Senders). StopsAt wanted (more s split_too.later) (context_behind after others) (next + length (octets_of others)) other_rest other) (ap (more senders) firsts)
+    (subst (λ (s : Senders). StopsAt wanted (more wanted.are_listed s split_too.later) (context_behind after others) (next + length (octets_of others)) other_rest other) (ap (more wanted.are_listed senders) firsts)
     (stops_behind wanted senders before at block others other_rest other other_made split_too.first split_too.later split_too.whole stops_again))
 
 stops_whole : (wanted : Wanted) (senders : Senders) (count : ℕ) (before : Before) (at : ℕ) (octets : List ℕ) (blocks others : List BlockAt) (rest other_rest : List ℕ) (made other_made : List Made)
     (fault : Fault) → AreRead wanted senders count before at octets blocks rest made → AreRead wanted senders count before at octets others other_rest other_made
-    → StopsAt wanted (more senders made) (context_behind before blocks) (at + length (octets_of blocks)) rest fault
+    → StopsAt wanted (more wanted.are_listed senders made) (context_behind before blocks) (at + length (octets_of blocks)) rest fault
     → IsPartial (context_behind before others) (at + length (octets_of others)) other_rest → ⊥
 stops_whole wanted senders count before at octets [] [] rest other_rest made other_made fault are are_too stops partial =
-    let none : more senders made ≡ senders = ap (more senders) are.are_made in
+    let none : more wanted.are_listed senders made ≡ senders = ap (more wanted.are_listed senders) are.are_made in
     let same : other_rest ≡ rest = sym are_too.whole ∙ are.whole in
     stop_partial wanted senders before (at + 0) rest fault (subst (λ (s : Senders). StopsAt wanted s before (at + 0) rest fault) none stops)
     (subst (IsPartial before (at + 0)) same partial)
 stops_whole wanted senders count before at octets [] (another ∷ others) rest other_rest made other_made fault are are_too stops partial =
-    let none : more senders made ≡ senders = ap (more senders) are.are_made in
+    let none : more wanted.are_listed senders made ≡ senders = ap (more wanted.are_listed senders) are.are_made in
     let here : at + 0 ≡ at = omega arith in
     stop_taken wanted senders before at count octets fault another others other_rest other_made
     (subst (λ (t : List ℕ). StopsAt wanted senders before at t fault) (sym are.whole)
@@ -340,10 +352,10 @@ stops_whole wanted senders count before at octets (block ∷ blocks) (another �
     let rests : octets_of others ++ other_rest ≡ octets_of blocks ++ rest =
     (block_one before at block.octets block.octets (octets_of others ++ other_rest) (octets_of blocks ++ rest) are.are_blocks.1 are.are_blocks.1
     (sym (are_again.whole ∙ append_assoc block.octets (octets_of others) other_rest) ∙ (are.whole ∙ append_assoc block.octets (octets_of blocks) rest))).1 in
-    stops_whole wanted (more senders split.first) (count + length here) after next (octets_of blocks ++ rest) blocks others rest other_rest split.later split_too.later fault
+    stops_whole wanted (more wanted.are_listed senders split.first) (count + length here) after next (octets_of blocks ++ rest) blocks others rest other_rest split.later split_too.later fault
     (behind wanted senders count before at octets block blocks rest made are)
-    (subst (λ (s : Senders). AreRead wanted s (count + length here) after next (octets_of blocks ++ rest) others other_rest split_too.later) (ap (more senders) firsts)
-    (subst (λ (t : List ℕ). AreRead wanted (more senders split_too.first) (count + length here) after next t others other_rest split_too.later) rests
+    (subst (λ (s : Senders). AreRead wanted s (count + length here) after next (octets_of blocks ++ rest) others other_rest split_too.later) (ap (more wanted.are_listed senders) firsts)
+    (subst (λ (t : List ℕ). AreRead wanted (more wanted.are_listed senders split_too.first) (count + length here) after next t others other_rest split_too.later) rests
     (behind wanted senders count before at octets block others other_rest other_made are_again)))
     (stops_behind wanted senders before at block blocks rest fault made split.first split.later split.whole stops)
     (subst (λ (n : ℕ). IsPartial (context_behind after others) n other_rest) (omega (arith, length-append block.octets (octets_of others))) partial_again)
@@ -363,11 +375,12 @@ record Ends (limit : Extent) (wanted : Wanted) (octets : List ℕ) : Type 0 wher
 module _ (limit : Extent) (wanted : Wanted) (octets : List ℕ) where
   from_start : (blocks : List BlockAt) (rest : List ℕ) (made : List Made) → octets ≡ octets_of blocks ++ rest → AreBlocks (start limit) 0 blocks → AreTaken wanted (sightings_of blocks) made
       → AreRead wanted [] 0 (start limit) 0 octets blocks rest made
-  from_start blocks rest made whole are_blocks taken = record { whole = whole; are_blocks = are_blocks; are_made = taken.are_made; few = taken.few }
+  from_start blocks rest made whole are_blocks taken = record { whole = whole; are_blocks = are_blocks; are_made = taken.are_made; few = subst (λ (s : Senders). length s ≤ 65536) (listed-more wanted.are_listed made) taken.few; none = λ not. refl }
 
   stops_from : (fault : Fault) (stops : Stops limit wanted octets fault)
-      → StopsAt wanted (more [] stops.made) (context_behind (start limit) stops.blocks) (0 + length (octets_of stops.blocks)) stops.rest fault
-  stops_from fault stops = subst (λ (n : ℕ). StopsAt wanted (more [] stops.made) (context_behind (start limit) stops.blocks) n stops.rest fault) (omega arith) stops.stops
+      → StopsAt wanted (more wanted.are_listed [] stops.made) (context_behind (start limit) stops.blocks) (0 + length (octets_of stops.blocks)) stops.rest fault
+  stops_from fault stops = subst (λ (n : ℕ). StopsAt wanted (more wanted.are_listed [] stops.made) (context_behind (start limit) stops.blocks) n stops.rest fault) (omega arith)
+      (subst (λ (s : Senders). StopsAt wanted s (context_behind (start limit) stops.blocks) (length (octets_of stops.blocks)) stops.rest fault) (listed-more wanted.are_listed stops.made) stops.stops)
 
   none_stops : (fault : Fault) → Ends limit wanted octets → Stops limit wanted octets fault → ⊥
   none_stops fault ends stops =

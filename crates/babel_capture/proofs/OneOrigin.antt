@@ -21,7 +21,7 @@ use Rattle.babel_capture.specs.Gathering.{AreMade, IsTaken}
 use Rattle.babel_capture.specs.OneOrigin.{AloneIsTheSame, MissingIsNone, NamedIsOne, is_missed, missed_from, only}
 use Rattle.babel_capture.specs.Senders.{is_from, made_from}
 use Rattle.babel_capture.specs.Sight.{Carried, Sight, carries, datagram, lacking, not_link_local, other, other_port, too_short}
-use Rattle.babel_capture.specs.Tallies.{Senders, origin_cmp, senders_of, senders_with}
+use Rattle.babel_capture.specs.Tallies.{Senders, origin_cmp, senders_listed, senders_of, senders_with}
 use Rattle.babel_capture.specs.Times.{time_of}
 use Rattle.babel_capture.proofs.OneCapture.{same_blocks}
 use Rattle.babel_capture.proofs.SinkLaws.{packets-append}
@@ -241,7 +241,7 @@ module _ (origin : Origin) where
 pub named_is_one : NamedIsOne
 named_is_one limit octets gathering cut origin read wanted =
     let gathered = read.is_read.gathered in
-    subst (λ (s : Senders). length s ≤ 1) (sym gathered.senders)
+    subst (λ (s : Senders). length s ≤ 1) (sym (gathered.senders ∙ ap (λ (w : Wanted). senders_listed w.are_listed gathered.made) wanted))
     (one_at_most origin (sightings_of read.is_read.blocks) gathered.made
     (subst (λ (w : Wanted). AreMade w (sightings_of read.is_read.blocks) gathered.made) wanted gathered.taken.are_made))
 

@@ -13,7 +13,7 @@ use Rattle.babel_capture.specs.Context.{Before}
 use Rattle.babel_capture.specs.Counts.{Made, Counts}
 use Rattle.babel_capture.specs.Gathering.{AreMade, AreTaken, BlockNeedsMemory, Gathering, IsGathered}
 use Rattle.babel_capture.specs.Reading.{Progress, LeadTo, BlockFails, HeaderFails, NeedsMemory, NeedsMemoryAt, StopsAt, Stops}
-use Rattle.babel_capture.specs.Tallies.{Senders, senders_of}
+use Rattle.babel_capture.specs.Tallies.{Senders, senders_listed}
 use Rattle.babel_capture.specs.Sinking.{GatherMore, LeadMore, Sinks, StopLead, StopsBehind}
 use Rattle.babel_capture.proofs.NumberLaws.{rest_is}
 use Rattle.babel_capture.proofs.SinkLaws.{sinks-as}
@@ -101,10 +101,11 @@ lead-push block old new content more is_block said context place gathers names l
 
 -- what holds where octets led holds where their blocks end
 where-led : (P : Senders → Before → ℕ → Type 0) (limit : Extent) (read : List ℕ) (now : Progress) (lead : LeadTo limit read now) → P now.gathering.senders now.context now.at
-    → P (senders_of lead.gathered.made) (context_behind (start limit) lead.blocks) (length (octets_of lead.blocks))
+    → P (senders_listed now.gathering.wanted.are_listed lead.gathered.made) (context_behind (start limit) lead.blocks) (length (octets_of lead.blocks))
 where-led P limit read now lead holds =
-    subst (P (senders_of lead.gathered.made) (context_behind (start limit) lead.blocks)) (lead.place ∙ ap length lead.whole)
-    (subst (λ (c : Before). P (senders_of lead.gathered.made) c now.at) lead.context (subst (λ (s : Senders). P s now.context now.at) lead.gathered.senders holds))
+    let all = senders_listed now.gathering.wanted.are_listed lead.gathered.made in
+    subst (P all (context_behind (start limit) lead.blocks)) (lead.place ∙ ap length lead.whole)
+    (subst (λ (c : Before). P all c now.at) lead.context (subst (λ (s : Senders). P s now.context now.at) lead.gathered.senders holds))
 
 module _ (limit : Extent) (wanted : Wanted) (read octets : List ℕ) (used : ℕ) (now : Progress) (same : now.gathering.wanted ≡ wanted) (lead : LeadTo limit (read ++ take used octets) now) where
   whole : read ++ octets ≡ octets_of lead.blocks ++ drop used octets
@@ -121,8 +122,8 @@ module _ (limit : Extent) (wanted : Wanted) (read octets : List ℕ) (used : ℕ
     whole = whole;
     are_blocks = lead.are_blocks;
     taken = are_taken;
-    stops = where-led (λ (s : Senders) (c : Before) (n : ℕ). StopsAt wanted s c n (drop used octets) fault) limit (read ++ take used octets) now lead
-        (subst (λ (w : Wanted). StopsAt w now.gathering.senders now.context now.at (drop used octets) fault) same stops);
+    stops = subst (λ (w : Wanted). StopsAt w (senders_listed w.are_listed lead.gathered.made) (context_behind (start limit) lead.blocks) (length (octets_of lead.blocks)) (drop used octets) fault) same
+        (where-led (λ (s : Senders) (c : Before) (n : ℕ). StopsAt now.gathering.wanted s c n (drop used octets) fault) limit (read ++ take used octets) now lead stops);
   }
 
   behind-led : StopsBehind limit wanted (read ++ octets) lead.gathered.made
@@ -137,8 +138,8 @@ module _ (limit : Extent) (wanted : Wanted) (read octets : List ℕ) (used : ℕ
     are_blocks = lead.are_blocks;
     taken = are_taken;
     in_piece = omega (arith, ap length lead.whole, length-append read (take used octets));
-    needs = where-led (λ (s : Senders) (c : Before) (n : ℕ). NeedsMemoryAt wanted s c n (drop used octets)) limit (read ++ take used octets) now lead
-        (subst (λ (w : Wanted). NeedsMemoryAt w now.gathering.senders now.context now.at (drop used octets)) same needs);
+    needs = subst (λ (w : Wanted). NeedsMemoryAt w (senders_listed w.are_listed lead.gathered.made) (context_behind (start limit) lead.blocks) (length (octets_of lead.blocks)) (drop used octets)) same
+        (where-led (λ (s : Senders) (c : Before) (n : ℕ). NeedsMemoryAt now.gathering.wanted s c n (drop used octets)) limit (read ++ take used octets) now lead needs);
   }
 
 -- ---- as the loop meets them

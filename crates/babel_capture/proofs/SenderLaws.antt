@@ -22,7 +22,7 @@ use Rattle.babel_capture.specs.Times.{time_of}
 use Rattle.babel_capture.specs.Timing.{greatest, least}
 use Rattle.babel_capture.specs.Updates.{interval_in, updates_in}
 use Rattle.babel_capture.specs.Senders.{AreSenders, Sent, is_from, packets_from, sent_of, tally_for}
-use Rattle.babel_capture.specs.Tallies.{Senders, no_packets, one_more, origin_cmp, senders_of, senders_with, tallied, tally_of}
+use Rattle.babel_capture.specs.Tallies.{Senders, no_packets, one_more, origin_cmp, senders_listed, senders_of, senders_with, tallied, tally_of}
 use Rattle.babel_capture.proofs.TallyLaws.{origin_total}
 use Rattle.babel_prefix.proofs.Counted.{count-push}
 use Rattle.babel_prefix.proofs.Insertion.{equal_of, is_at-sym, lookup-insert, sorted-insert}
@@ -152,6 +152,6 @@ nobody = record { in_order = tt; tallies = λ origin. refl }
 pub senders_stand : (made : List Made) → AreSenders made (senders_of made)
 senders_stand made = with_all [] made [] nobody
 
-pub senders_read : (limit : Extent) (octets : List ℕ) (gathering : Gathering) → (read : IsRead limit octets gathering) → AreSenders read.gathered.made gathering.senders
-senders_read limit octets gathering read =
-    subst (AreSenders read.gathered.made) (sym read.gathered.senders) (senders_stand read.gathered.made)
+pub senders_read : (limit : Extent) (octets : List ℕ) (gathering : Gathering) → (read : IsRead limit octets gathering) → gathering.wanted.are_listed ≡ true → AreSenders read.gathered.made gathering.senders
+senders_read limit octets gathering read listed =
+    subst (AreSenders read.gathered.made) (sym (read.gathered.senders ∙ ap (λ (b : Bool). senders_listed b read.gathered.made) listed)) (senders_stand read.gathered.made)

@@ -12,7 +12,7 @@ use Rattle.babel_capture.specs.Lengths.{header_len, block_len}
 use Rattle.babel_capture.specs.Reading.{Progress, LeadTo, HasStarted, HasTaken, IsPending, NeedsMemory, PieceFails, PieceNeedsMemory, Stops, StopsAt}
 use Rattle.babel_capture.specs.Counts.{Made}
 use Rattle.babel_capture.specs.Sinking.{FeedMore, LeadMore, Sinks, StopLead, StopMore}
-use Rattle.babel_capture.specs.Tallies.{Senders, senders_of}
+use Rattle.babel_capture.specs.Tallies.{Senders, senders_listed}
 use Rattle.babel_capture.proofs.OneCapture.{some_header}
 use Rattle.babel_capture.proofs.SinkLaws.{sinks-as, sinks-none}
 use Rattle.babel_capture.specs.Window.{Extent}
@@ -171,7 +171,7 @@ stops-more limit wanted octets more fault stops = record {
   whole = ap (λ (t : List ℕ). t ++ more) stops.whole ∙ append_assoc (octets_of stops.blocks) stops.rest more;
   are_blocks = stops.are_blocks;
   taken = stops.taken;
-  stops = stops-more-at wanted (senders_of stops.made) (context_behind (start limit) stops.blocks) (length (octets_of stops.blocks)) stops.rest more fault stops.stops;
+  stops = stops-more-at wanted (senders_listed wanted.are_listed stops.made) (context_behind (start limit) stops.blocks) (length (octets_of stops.blocks)) stops.rest more fault stops.stops;
 }
 
 -- ---- a piece in two parts, one after the other

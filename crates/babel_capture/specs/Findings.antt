@@ -1,7 +1,7 @@
 -- What is made of the packets of a capture. It is this project's own, but for what a Babel packet
 -- is: RFC 8966, 4.2.
 use Rattle.std.specs.Prelude.{◌≡◌, ◌≢◌, ℕ, ◌<◌, Bool, List, [], length, slice_index}
-use Rattle.std.specs.Prelude.{Option, Some, None, ◌⊎◌, nat_lt, if◌then◌else◌}
+use Rattle.std.specs.Prelude.{Option, Some, None, ◌⊎◌, nat_lt, if◌then◌else◌, true}
 use Rattle.babel_prefix.specs.Address.{Address}
 use Rattle.babel_tlv.specs.Framing.{framed}
 use Rattle.babel_tlv.specs.FrameFaults.{BeginsPacket, HasHeader, LacksBody}
@@ -64,9 +64,9 @@ abbrev pub reason_left : Found → Option Reason
 reason_left (left reason missed) = Some reason
 reason_left what = None
 
--- nobody is named, and no place
+-- nobody is named, and no place, and senders are listed
 abbrev pub everyone : Wanted
-everyone = record { sender = None; place = None }
+everyone = record { sender = None; place = None; are_listed = true }
 
 -- it is this one, if one is named
 abbrev pub IsOrAny : {A : Type 0} → Option A → A → Type 0

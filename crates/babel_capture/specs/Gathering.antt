@@ -9,7 +9,7 @@ use Rattle.babel_capture.specs.Contents.{Content, file, describes, holds}
 use Rattle.babel_capture.specs.Counts.{Counts, Made, counts_of}
 use Rattle.babel_capture.specs.Findings.{Found, refused, found, Finds}
 use Rattle.babel_capture.specs.Lack.{lack_fault}
-use Rattle.babel_capture.specs.Tallies.{CountNeedsMemory, IsOneTooMany, Senders, senders_of}
+use Rattle.babel_capture.specs.Tallies.{CountNeedsMemory, IsOneTooMany, Senders, senders_listed}
 use Rattle.babel_capture.specs.Tallies.{tally_of}
 
 -- a packet that is not refused
@@ -25,11 +25,11 @@ AreMade wanted (sighting ∷ later) made =
     × (one.link ≡ sighting.link) × (one.came ≡ sighting.came)
     × Finds wanted sighting.what one.what × IsTaken one.what × AreMade wanted later others
 
--- What is made of packets that are taken, each of them: at most 65,536 senders are kept, each
+-- What is made of packets that are taken, each of them: at most 65,536 senders are listed, each
 -- counted at each place where it occurs.
 pub record AreTaken (wanted : Wanted) (sightings : List Sighting) (made : List Made) : Type 0 where
   pub are_made : AreMade wanted sightings made
-  pub few : length (senders_of made) ≤ 65536
+  pub few : length (senders_listed wanted.are_listed made) ≤ 65536
 
 -- what was gathered so far, and the names of the interfaces, which are empty where they have none
 pub record Gathering : Type 0 where
@@ -47,7 +47,7 @@ pub record IsGathered (sightings : List Sighting) (gathering : Gathering) : Type
   pub made : List Made
   pub taken : AreTaken gathering.wanted sightings made
   pub report : gathering.report ≡ counts_of made
-  pub senders : gathering.senders ≡ senders_of made
+  pub senders : gathering.senders ≡ senders_listed gathering.wanted.are_listed made
 
 -- What is made of the packet in the block at this offset is refused: the datagram of a sender that
 -- is named lacks something, or the sender is one more than are kept.

@@ -1,5 +1,6 @@
 -- Laws of the definitions: what is read of one sender at one place. They are this project's own.
-use Rattle.std.specs.Prelude.{◌≡◌, ◌≢◌, ◌≤◌, ℕ, Bool, false, List, [], length, Option, Some}
+use Rattle.std.specs.Prelude.{◌≡◌, ◌≢◌, ◌≤◌, ℕ, Bool, false, true, List, [], length, Option}
+use Rattle.std.specs.Prelude.{Some}
 use Rattle.std.specs.BTreeMap.{is_at}
 use Rattle.std.specs.List.{filter}
 use Rattle.babel_capture.specs.Capture.{IsReadToCut}
@@ -15,7 +16,7 @@ use Rattle.babel_capture.specs.Window.{Extent}
 
 -- the datagrams of this sender at this place
 abbrev pub only : Origin → Wanted
-only origin = record { sender = Some origin.sender; place = Some origin.place }
+only origin = record { sender = Some origin.sender; place = Some origin.place; are_listed = true }
 
 -- where they alone are wanted, one sender at most is counted
 abbrev pub NamedIsOne : Type 0

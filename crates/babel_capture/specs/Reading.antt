@@ -15,7 +15,7 @@ use Rattle.babel_capture.specs.Counts.{Made}
 use Rattle.babel_capture.specs.Gathering.{AreTaken, BlockNeedsMemory, Gathering, IsGathered}
 use Rattle.babel_capture.specs.Gathering.{IsRefused}
 use Rattle.babel_capture.specs.Lengths.{block_len}
-use Rattle.babel_capture.specs.Tallies.{Senders, senders_of}
+use Rattle.babel_capture.specs.Tallies.{Senders, senders_listed}
 use Rattle.babel_capture.specs.Window.{Extent}
 
 -- what the blocks so far say of the capture, what was gathered of their packets, where the next
@@ -65,8 +65,8 @@ pub record Stops (limit : Extent) (wanted : Wanted) (octets : List ℕ) (fault :
   pub whole : octets ≡ octets_of blocks ++ rest
   pub are_blocks : AreBlocks (start limit) 0 blocks
   pub taken : AreTaken wanted (sightings_of blocks) made
-  pub stops : StopsAt wanted (senders_of made) (context_behind (start limit) blocks) (length
-      (octets_of blocks)) rest fault
+  pub stops : StopsAt wanted (senders_listed wanted.are_listed made) (context_behind (start limit) blocks)
+      (length (octets_of blocks)) rest fault
 
 -- octets for which memory is needed: what is left of them is less than a block, and is kept; or the
 -- block that they begin with needs it
@@ -86,8 +86,8 @@ pub record NeedsMemory (limit : Extent) (wanted : Wanted) (fed piece : List ℕ)
   pub are_blocks : AreBlocks (start limit) 0 blocks
   pub taken : AreTaken wanted (sightings_of blocks) made
   pub in_piece : length fed ≤ length (octets_of blocks)
-  pub needs : NeedsMemoryAt wanted (senders_of made) (context_behind (start limit) blocks) (length
-      (octets_of blocks)) rest
+  pub needs : NeedsMemoryAt wanted (senders_listed wanted.are_listed made)
+      (context_behind (start limit) blocks) (length (octets_of blocks)) rest
 
 -- the first block was read, so that the octets are a capture
 abbrev pub IsKnown : Layout → Type 0

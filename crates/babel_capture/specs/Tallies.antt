@@ -95,6 +95,14 @@ senders_with senders time what = senders
 abbrev pub senders_of : List Made → Senders
 senders_of made = fold (λ senders one. senders_with senders (time_of one.came) one.what) [] made
 
--- the sender is one more than are kept
+-- nobody where senders are not listed
+abbrev pub listed_with : (are_listed : Bool) → Senders → Option ℕ → Found → Senders
+listed_with are_listed senders time what =
+    if are_listed then senders_with senders time what else senders
+
+abbrev pub senders_listed : (are_listed : Bool) → List Made → Senders
+senders_listed are_listed made = if are_listed then senders_of made else []
+
+-- the sender is one more than are listed
 abbrev pub IsOneTooMany : Senders → Origin → Type 0
 IsOneTooMany senders origin = (65536 ≤ length senders) × (tally_of senders origin ≡ None)

@@ -85,7 +85,7 @@ impl Gathered {
     }
 
     /// How many packets each wanted sender sent at each place, and of how many octets, by place,
-    /// then by address. Datagrams that were left out are not counted.
+    /// then by address, where senders are listed. Datagrams that were left out are not counted.
     pub fn senders(&self) -> &BTreeMap<Origin, Tally>
         ensures { result.now.entries ≡ self.now.senders }
     {
@@ -132,7 +132,8 @@ impl Gathered {
         self.outside.note(&self.wanted, packet, &seen, &finding);
         let came = packet.time();
         let (counted, time) = (came, came);
-        let interval = self.senders.take(at, came, &finding)?;
+        let are_listed = self.wanted.are_listed;
+        let interval = self.senders.take(at, came, &finding, are_listed)?;
         let section = packet.babel_section(&seen);
         self.report
             .count(packet.link, counted, section, &finding, interval);

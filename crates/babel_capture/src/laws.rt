@@ -1,5 +1,6 @@
 //! What follows from the definitions alone.
 ghost use Rattle.std.specs.Prelude.{◌≡◌, ◌≢◌, ℕ, ◌+◌, ◌<◌, ◌≤◌, ◌++◌, ◌⊎◌, List, [], length, take};
+ghost use Rattle.std.specs.Prelude.{true};
 ghost use Rattle.babel_capture.specs.Capture.{CaptureFault, IsRead};
 ghost use Rattle.babel_capture.specs.Dumps.{dump_of};
 ghost use Rattle.babel_capture.specs.Findings.{Finds, Found, octets_found};
@@ -143,7 +144,7 @@ pub fn dump_is_framed()
 /// octets.
 pub fn senders_are_those_found()
     ensures { (limit : Extent) (octets : List ℕ) (gathering : Gathering)
-        → (read : IsRead limit octets gathering)
+        → (read : IsRead limit octets gathering) → gathering.wanted.are_listed ≡ true
         → AreSenders read.gathered.made gathering.senders }
 {}
 

@@ -4,7 +4,7 @@ ghost use Rattle.babel_capture.specs.Counts.{interval_found};
 ghost use Rattle.babel_capture.specs.Findings.{finding_of};
 ghost use Rattle.babel_capture.specs.Gathering.{FoundNeedsMemory, RefusesFound};
 ghost use Rattle.babel_capture.specs.Tallies.{CountNeedsMemory, IsOneTooMany, Overflows};
-ghost use Rattle.babel_capture.specs.Tallies.{no_packets, one_more, senders_with, tallied, tally_of};
+ghost use Rattle.babel_capture.specs.Tallies.{listed_with, no_packets, one_more, tallied, tally_of};
 ghost use Rattle.babel_capture.specs.Updates.{interval_in, updates_in};
 
 use crate::fault::Fault;
@@ -123,17 +123,18 @@ impl Tallies {
         &self.tallies
     }
 
-    /// Counts the packet in the block at this offset, if one is found there: the greatest Interval
-    /// of its Updates that announce.
+    /// Counts the packet in the block at this offset, if one is found there, for its sender where
+    /// senders are listed: the greatest Interval of its Updates that announce.
     #[inline(always)]
     pub fn take(
         &mut self,
         at: u64,
         time: Option<Time>,
         finding: &Finding<'_>,
+        are_listed: bool,
     ) -> Result<Option<u16>, Fault>
         ensures ok { OnOk result
-            (self.new ≡ senders_with self.old time (finding_of finding.now)) }
+            (self.new ≡ listed_with are_listed self.old time (finding_of finding.now)) }
         ensures interval { IfOk result
             (λ interval. interval ≡ interval_found (finding_of finding.now)) }
         ensures few { OnOk result (length self.old ≤ 65536 → length self.new ≤ 65536) }
@@ -152,7 +153,9 @@ impl Tallies {
             return Ok(None);
         };
         let updates = updates_in(octets);
-        self.add(at, *origin, time, octets, &updates, *has_trailer)?;
+        if are_listed {
+            self.add(at, *origin, time, octets, &updates, *has_trailer)?;
+        }
         Ok(updates.interval)
     }
 

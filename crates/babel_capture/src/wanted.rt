@@ -6,11 +6,13 @@ use crate::seen::Seen;
 use babel_prefix::Addr;
 
 /// Whose datagrams are wanted: those of each sender, or of one where it is named, at each place or
-/// at one.
+/// at one. Where the senders are listed, one more than 65,536 is a fault.
 #[derive(Clone, Copy)]
 pub struct Wanted {
     pub sender: Option<Addr>,
     pub place: Option<Place>,
+    /// Whether the senders are listed.
+    pub are_listed: bool,
 }
 
 impl Wanted {
@@ -21,6 +23,7 @@ impl Wanted {
         Wanted {
             sender: None,
             place: None,
+            are_listed: true,
         }
     }
 

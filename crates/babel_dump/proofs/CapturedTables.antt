@@ -9,7 +9,7 @@ use Rattle.babel_capture.specs.Context.{Before}
 use Rattle.babel_capture.specs.Counts.{Made}
 use Rattle.babel_capture.specs.Gathering.{Gathering}
 use Rattle.babel_capture.specs.Reading.{HasTaken, Stops}
-use Rattle.babel_capture.specs.Tallies.{Senders, senders_of}
+use Rattle.babel_capture.specs.Tallies.{Senders, senders_listed}
 use Rattle.babel_capture.specs.Window.{Extent}
 use Rattle.babel_capture.specs.declared.fault.Fault.{Fault as CaptureFault}
 use Rattle.babel_capture.specs.declared.fault.Fault.TheVariants as capture_faults
@@ -275,7 +275,8 @@ module _ (reader : Input) (first now : PacketFeeder) (f : State) where
       subst (λ (e : Extent). IsReadToCut e all.given gathering cut) (sym is.from.limit)
       (subst (λ (o : List ℕ). IsReadToCut (extent_of (capture_reading_of reader.reading)) o gathering cut) (sym whole) read) in
       let same = same_made f.limit all.given f.progress f.pending gathering cut (wanted ∙ sym is.from.wanted) all.taken again in
-      ap (λ (s : Senders). length s) (again.is_read.gathered.senders ∙ ap senders_of same.1 ∙ sym all.taken.leads.gathered.senders) ∙ told all.given all.fed
+      ap (λ (s : Senders). length s) (again.is_read.gathered.senders ∙ ap (senders_listed gathering.wanted.are_listed) same.1
+      ∙ ap (λ (w : Wanted). senders_listed w.are_listed all.taken.leads.gathered.made) (wanted ∙ sym is.from.wanted) ∙ sym all.taken.leads.gathered.senders) ∙ told all.given all.fed
   told_at_one (Err refusal) is told = refused_at_one reader refusal is.gathered.cause told
 
   -- the packets have a fault, or the capture is refused

@@ -1,5 +1,5 @@
 -- Why a run of `events` fails, from its parts.
-use Rattle.std.proofs.Common.{◌≡◌, ◌≢◌, ℕ, ◌<◌, Bool, true, false, List, [], ◌++◌, map, Option, None, Some, Result, Ok, Err, refl, sym, ap, subst, ◌∙◌, inl, inr}
+use Rattle.std.proofs.Common.{◌≡◌, ◌≢◌, ℕ, ◌<◌, Bool, true, false, List, [], ◌∷◌, ◌++◌, map, Option, None, Some, Result, Ok, Err, refl, sym, ap, subst, ◌∙◌, inl, inr}
 use Rattle.std.specs.Prelude.{IfErr, IsErrAnd, OnOk}
 use Rattle.babel_capture.specs.Capture.{CaptureFault, HasRead, HasReadTo, IsReadToCut, State}
 use Rattle.babel_capture.specs.Blocks.{sightings_of}
@@ -10,6 +10,7 @@ use Rattle.babel_capture.specs.Sinking.{FeedMore, Sinks, StopMore, StopsBehind}
 use Rattle.babel_capture.specs.Window.{Extent}
 use Rattle.babel_capture.specs.declared.fault.Fault.{Fault}
 use Rattle.babel_capture.specs.declared.fault.Fault.TheVariants as capture_faults
+use Rattle.babel_capture.specs.declared.tallies.Origin.{Origin}
 use Rattle.babel_capture.specs.declared.wanted.Wanted.{Wanted}
 use Rattle.babel_tlv.specs.declared.fault.Fault.TheVariants as faults
 use Rattle.babel_timeline.specs.declared.telling.Telling.{Telling}
@@ -17,8 +18,9 @@ use Rattle.babel_dump.specs.CaptureGiven.{BeginsWith, CaptureInput, GaveCapture,
 use Rattle.babel_dump.specs.Device.{Gave, InputState, OutputState}
 use Rattle.babel_dump.specs.EventsCause.{EventsCause, Fails, GaveNobody, GaveRefused, HasNobody, HasUnread, InputFails, IsBackwards, IsRefused, IsTooLate, IsUnreadIn, IsWhole, RefusesOctets, RefusesPiece, RefusesRecord, RefusesWhole, TellsFault, events_input, nameless, reading_by}
 use Rattle.babel_dump.specs.EventsRun.{followed_by, followed_extent}
-use Rattle.babel_dump.specs.Followed.{Follows, HasFollowed, HasHeard, HasStopped, IsFollowed, IsHeardOf, trouble_of}
-use Rattle.babel_dump.specs.HeardSenders.{heard_told, sender_heard}
+use Rattle.babel_dump.specs.Followed.{Follows, HasFollowed, HasHeardFollowed, HasStopped, IsFollowed, IsHeardOf, trouble_of}
+use Rattle.babel_dump.specs.FollowedSenders.{followed as followed_in, with_packets}
+use Rattle.babel_dump.specs.HeardSenders.{heard_of, heard_told}
 use Rattle.babel_dump.specs.LeftOut.{first_left_out}
 use Rattle.babel_dump.specs.Run.{Output, output}
 use Rattle.babel_dump.specs.Trouble.{is_empty_window}
@@ -156,6 +158,10 @@ whole_refused events fed told followed fault is none refused = (
   λ _. none,
 )
 
+of_nobody : (followed : Followed) (origins : List Origin) → map (heard_of followed) origins ≡ [] → origins ≡ []
+of_nobody followed [] none = refl
+of_nobody followed (origin ∷ origins) none = absurd cc
+
 -- nobody is in it
 pub is_whole : (events : Events) (fed : List ℕ) (told : List (Telling Speaker)) (followed : Followed) (cut : Option ℕ) → IsFollowed events fed told followed
     → ((octets : List ℕ) → HasRead followed.capture octets → IsReadToCut followed.capture.limit octets followed.capture.progress.gathering cut) → (events.accept_cut ≡ false → cut ≡ None)
@@ -198,7 +204,7 @@ module _ (events : Events) (fed piece : List ℕ) (told : List (Telling Speaker)
   at_record more took begins =
       let follows = took old.follower [] (follows_none old.follower) in
       let made = is.read.leads.gathered.made in
-      let was = subst (λ (e : Events). HasHeard e made (told ++ old.follower.told.items) old.follower.hearing) (sym is.events_are) is.has_heard in
+      let was = subst (λ (e : Events). HasHeardFollowed e made told old.follower) (sym is.events_are) is.has_heard in
       let has = subst (λ (e : Events). HasStopped e (made ++ more) stop) is.events_are (follows.2 stop stopped is.sound made told was) in
       record { made = made ++ more; begins = begins; front = has.front; one = has.one; back = has.back; are = has.are; refused = has.refused not_memory }
 
@@ -231,18 +237,31 @@ of_stop events R N U W octets stop trouble is refused = subst (Fails events R N 
 
 -- ---- what is not read whole
 
-pub has_unread : (events : Events) (fed : List ℕ) (told : List (Telling Speaker)) (followed : Followed) (cut : Option ℕ) → IsFollowed events fed told followed
-    → ((octets : List ℕ) → HasRead followed.capture octets → IsReadToCut followed.capture.limit octets followed.capture.progress.gathering cut) → (events.accept_cut ≡ false → cut ≡ None)
-    → (senders : List HeardSender) → map heard_told senders ≡ map (sender_heard followed) followed.capture.progress.gathering.senders → (trouble : Trouble) → events.strict ≡ true
-    → IsUnreadIn followed.capture.progress.gathering.report senders trouble → HasUnread events fed trouble
-has_unread events fed told followed cut is read accepted senders are trouble strict unread =
-    let gathering = followed.capture.progress.gathering in
-    let whole = is_whole events fed told followed cut is read accepted in
-    let same = same_made (followed_extent events) fed followed.capture.progress followed.capture.pending gathering whole.cut refl is.read whole.is_read in
-    let made_is = is.has_heard.are_made ∙ sym same.1 in
-    let heard = heard_senders events whole.is_read.is_read.gathered.made followed
-    (λ speaker. subst (λ (m : List Made). IsHeardOf events m followed.follower.hearing.teller.heard.entries speaker) made_is (is.has_heard.heard speaker)) senders gathering.senders are in
-    (gathering, whole, record { strict = strict; senders = senders; are = heard.0; heard = heard.1; unread = unread })
+module _ (events : Events) (fed : List ℕ) (told : List (Telling Speaker)) (followed : Followed) (cut : Option ℕ) (is : IsFollowed events fed told followed)
+    (read : (octets : List ℕ) → HasRead followed.capture octets → IsReadToCut followed.capture.limit octets followed.capture.progress.gathering cut) (accepted : events.accept_cut ≡ false → cut ≡ None)
+    (senders : List HeardSender) (are : map heard_told senders ≡ map (heard_of followed) (with_packets followed.follower.senders.senders.entries)) where
+  whole : IsWhole events fed followed.capture.progress.gathering
+  whole = is_whole events fed told followed cut is read accepted
+
+  abbrev made : List Made
+  made = whole.is_read.is_read.gathered.made
+
+  has_heard : HasHeardFollowed events made told followed.follower
+  has_heard =
+      let same = same_made (followed_extent events) fed followed.capture.progress followed.capture.pending followed.capture.progress.gathering whole.cut refl is.read whole.is_read in
+      subst (λ (m : List Made). HasHeardFollowed events m told followed.follower) (sym same.1) is.has_heard
+
+  pub has_unread : (trouble : Trouble) → events.strict ≡ true → IsUnreadIn followed.capture.progress.gathering.report senders trouble → HasUnread events fed trouble
+  has_unread trouble strict unread =
+      let heard = heard_senders events (followed_in made) followed
+      (λ speaker. subst (λ (m : List Made). IsHeardOf events m followed.follower.hearing.teller.heard.entries speaker) has_heard.1.are_made (has_heard.1.heard speaker)) senders
+      (with_packets followed.follower.senders.senders.entries) are in
+      (followed.capture.progress.gathering, whole, record { strict = strict; senders = senders; are = heard.0 ∙ ap with_packets has_heard.0; heard = heard.1; unread = unread })
+
+  pub has_nobody : senders ≡ [] → HasNobody events fed
+  has_nobody none =
+      let nobody = of_nobody followed (with_packets followed.follower.senders.senders.entries) (sym are ∙ ap (map heard_told) none) in
+      (followed.capture.progress.gathering, whole, ap with_packets (sym has_heard.0) ∙ nobody)
 
 pub of_unread : (events : Events) (R : Fault → Type 0) (N U W : Type 0) (P : Trouble → Type 0) (counts : Counts) (senders : List HeardSender) (trouble : Trouble) → IsUnreadIn counts senders trouble
     → P trouble → Fails events R N U W P trouble

@@ -21,7 +21,7 @@ use Rattle.babel_timeline.specs.SilencesTold.{TellsSilences, hellos_heard, watch
 use Rattle.babel_timeline.specs.Telling.{AskedFor, Hears, TellsEnds, of_rows, said_of}
 use Rattle.babel_timeline.specs.Hearing.{CountsPacket}
 use Rattle.babel_dump.specs.EventsRun.{asked_by, followed_by, followed_extent, speaker_at}
-use Rattle.babel_dump.specs.Followed.{HasHeard, HearsPacket, IsFollowed, Suits}
+use Rattle.babel_dump.specs.Followed.{HasHeard, HasHeardFollowed, HearsPacket, IsFollowed, Suits}
 use Rattle.babel_dump.specs.Speakers.{speaker_cmp}
 use Rattle.babel_dump.specs.declared.events.Followed.{Followed}
 use Rattle.babel_dump.specs.declared.events_job.Events.{Events}
@@ -99,9 +99,10 @@ module _ (cmp : Speaker → Speaker → Ordering) (order : cmp ≡ speaker_cmp) 
 
 -- nothing was read
 pub followed_none : (events : Events) (followed : Followed) → HasRead followed.capture [] → followed.capture.limit ≡ followed_extent events
-    → followed.capture.progress.gathering.wanted ≡ followed_by events → followed.capture.fault ≡ None → followed.follower.events.now ≡ events → HasHeard events [] [] followed.follower.hearing
+    → followed.capture.progress.gathering.wanted ≡ followed_by events → followed.capture.fault ≡ None → followed.follower.events.now ≡ events
+    → followed.follower.senders.senders.entries ≡ [] → HasHeard events [] [] followed.follower.hearing
     → followed.follower.told.items ≡ [] → followed.follower.fault ≡ None → IsFollowed events [] [] followed
-followed_none events followed read limit wanted fault events_are heard told sound =
+followed_none events followed read limit wanted fault events_are nobody heard told sound =
     let taken : HasTaken followed.capture.limit followed.capture.progress followed.capture.pending [] = subst (λ (f : Option Fault). HasReadTo followed.capture f []) fault read in
     let begun = subst (λ (e : Extent). HasTaken e followed.capture.progress followed.capture.pending []) limit taken in
     let none : begun.leads.gathered.made ≡ [] = unread _ followed.capture.progress followed.capture.pending begun in
@@ -112,6 +113,6 @@ followed_none events followed read limit wanted fault events_are heard told soun
       wanted = wanted;
       events_are = events_are;
       sound = sound;
-      has_heard = subst (λ (t : List (Telling Speaker)). HasHeard events begun.leads.gathered.made t followed.follower.hearing) (sym told)
-          (subst (λ (m : List Made). HasHeard events m [] followed.follower.hearing) (sym none) heard);
+      has_heard = subst (λ (m : List Made). HasHeardFollowed events m [] followed.follower) (sym none)
+          (nobody, subst (λ (t : List (Telling Speaker)). HasHeard events [] t followed.follower.hearing) (sym told) heard);
     }

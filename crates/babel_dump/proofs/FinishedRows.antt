@@ -5,14 +5,15 @@ use Rattle.babel_dump.specs.Command.{IsOfMemory}
 use Rattle.babel_dump.specs.Run.{Output}
 use Rattle.babel_dump.specs.SlicedRows.{Finished, found_text}
 use Rattle.babel_dump.specs.Slices.{WroteText}
+use Rattle.babel_dump.specs.declared.format.Format.{Format}
 use Rattle.babel_dump.specs.declared.outcome.Outcome.{Outcome}
 use Rattle.babel_dump.specs.declared.run_fault.RunFault.{RunFault}
 use Rattle.babel_dump.specs.declared.run_fault.RunFault.TheVariants as run_faults
 use Rattle.babel_dump.specs.declared.slices.Found.{Found}
 
-all_written : {T E : Type 0} (writer : Output) (found : Found) (t : T) → WroteText {T = T} {E = E} writer (found_text found) (Ok t)
-    → Finished writer (Ok found) (Ok found.outcome)
-all_written writer found t wrote = inl (
+all_written : {T E : Type 0} (writer : Output) (format : Format) (found : Found) (t : T) → WroteText {T = T} {E = E} writer (found_text format found) (Ok t)
+    → Finished writer format (Ok found) (Ok found.outcome)
+all_written writer format found t wrote = inl (
   record {
     whole = wrote.whole;
     flushed = wrote.flushed;
@@ -26,10 +27,10 @@ all_written writer found t wrote = inl (
   tt,
 )
 
-not_all_written : {T E : Type 0} (writer : Output) (found : Found) (e : E) (result : Result Outcome RunFault) → WroteText {T = T} {E = E} writer (found_text found) (Err e)
-    → IsErrAnd result (λ (fault : RunFault). fault ≡ run_faults.Write) → Finished writer (Ok found) result
-not_all_written writer found e (Ok outcome) wrote failed = absurd failed
-not_all_written writer found e (Err fault) wrote failed = inl (
+not_all_written : {T E : Type 0} (writer : Output) (format : Format) (found : Found) (e : E) (result : Result Outcome RunFault) → WroteText {T = T} {E = E} writer (found_text format found) (Err e)
+    → IsErrAnd result (λ (fault : RunFault). fault ≡ run_faults.Write) → Finished writer format (Ok found) result
+not_all_written writer format found e (Ok outcome) wrote failed = absurd failed
+not_all_written writer format found e (Err fault) wrote failed = inl (
   record {
     whole = tt;
     flushed = tt;
@@ -43,14 +44,14 @@ not_all_written writer found e (Err fault) wrote failed = inl (
   failed,
 )
 
-pub finished_rows : {T E : Type 0} (writer : Output) (found : Result Found RunFault) (it : Found) (t : T) → found ≡ Ok it
-    → WroteText {T = T} {E = E} writer (found_text it) (Ok t) → Finished writer found (Ok it.outcome)
-finished_rows {T = T} {E = E} writer found it t is wrote = rw is (all_written {T = T} {E = E} writer it t wrote)
+pub finished_rows : {T E : Type 0} (writer : Output) (format : Format) (found : Result Found RunFault) (it : Found) (t : T) → found ≡ Ok it
+    → WroteText {T = T} {E = E} writer (found_text format it) (Ok t) → Finished writer format found (Ok it.outcome)
+finished_rows {T = T} {E = E} writer format found it t is wrote = rw is (all_written {T = T} {E = E} writer format it t wrote)
 
-pub failed_rows : {T E : Type 0} (writer : Output) (found : Result Found RunFault) (it : Found) (e : E) (result : Result Outcome RunFault) → found ≡ Ok it
-    → WroteText {T = T} {E = E} writer (found_text it) (Err e) → IsErrAnd result (λ (fault : RunFault). fault ≡ run_faults.Write) → Finished writer found result
-failed_rows {T = T} {E = E} writer found it e result is wrote failed = rw is (not_all_written {T = T} {E = E} writer it e result wrote failed)
+pub failed_rows : {T E : Type 0} (writer : Output) (format : Format) (found : Result Found RunFault) (it : Found) (e : E) (result : Result Outcome RunFault) → found ≡ Ok it
+    → WroteText {T = T} {E = E} writer (found_text format it) (Err e) → IsErrAnd result (λ (fault : RunFault). fault ≡ run_faults.Write) → Finished writer format found result
+failed_rows {T = T} {E = E} writer format found it e result is wrote failed = rw is (not_all_written {T = T} {E = E} writer format it e result wrote failed)
 
-pub no_memory : (writer : Output) (found : Result Found RunFault) (it : Found) (result : Result Outcome RunFault) → found ≡ Ok it → IsErrAnd result IsOfMemory
-    → writer.new ≡ writer.old → Finished writer found result
-no_memory writer found it result is failed same = rw is (inr (failed, same))
+pub no_memory : (writer : Output) (format : Format) (found : Result Found RunFault) (it : Found) (result : Result Outcome RunFault) → found ≡ Ok it → IsErrAnd result IsOfMemory
+    → writer.new ≡ writer.old → Finished writer format found result
+no_memory writer format found it result is failed same = rw is (inr (failed, same))

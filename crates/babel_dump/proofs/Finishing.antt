@@ -12,6 +12,7 @@ use Rattle.babel_table.specs.Rows.{Routes}
 use Rattle.babel_tlv.specs.declared.fault.Fault.{Fault}
 use Rattle.babel_tlv.specs.declared.fault.Fault.TheVariants as faults
 use Rattle.babel_tlv.specs.declared.view.View.{View}
+use Rattle.babel_dump.specs.declared.format.Format.{Format}
 use Rattle.babel_dump.specs.declared.input_fault.InputFault.{InputFault}
 use Rattle.babel_dump.specs.declared.input_fault.InputFault.TheVariants as input_faults
 use Rattle.babel_dump.specs.declared.job.Job.{Job}
@@ -49,11 +50,11 @@ refused writer Cause Holds fault never cause same =
     }
 
 -- memory may run out once something was found
-pub ran : (writer : Output) (Cause : RunFault → Type 0) (Holds : List ℕ → Outcome → Type 0) (found : Result Found RunFault) (result : Result Outcome RunFault)
-    → (Cause run_faults.Write → ⊥) → IfOk found (λ _. Cause of_memory) → IfOk found (Says Holds) → IfErr found Cause → Finished writer found result
+pub ran : (writer : Output) (Cause : RunFault → Type 0) (Holds : List ℕ → Outcome → Type 0) (format : Format) (found : Result Found RunFault) (result : Result Outcome RunFault)
+    → (Cause run_faults.Write → ⊥) → IfOk found (λ _. Cause of_memory) → IfOk found (Says format Holds) → IfErr found Cause → Finished writer format found result
     → Ran writer Cause Holds result
-ran writer Cause Holds (Ok found) (Ok outcome) never memory says cause (inl finished) = record {
-  wrote = (found_text found, subst (λ (o : Outcome). Holds (found_text found) o) (sym finished.1) says, finished.0.whole);
+ran writer Cause Holds format (Ok found) (Ok outcome) never memory says cause (inl finished) = record {
+  wrote = (found_text format found, subst (λ (o : Outcome). Holds (found_text format found) o) (sym finished.1) says, finished.0.whole);
   flushed = finished.0.flushed;
   no_failure = finished.0.no_failure;
   cause = tt;
@@ -61,27 +62,27 @@ ran writer Cause Holds (Ok found) (Ok outcome) never memory says cause (inl fini
   one_failure = finished.0.one_failure;
   one_flush = finished.0.one_flush;
 }
-ran writer Cause Holds (Ok found) (Ok outcome) never memory says cause (inr refuses) = absurd refuses.0
-ran writer Cause Holds (Ok found) (Err fault) never memory says cause (inl finished) = rw finished.2 (record {
+ran writer Cause Holds format (Ok found) (Ok outcome) never memory says cause (inr refuses) = absurd refuses.0
+ran writer Cause Holds format (Ok found) (Err fault) never memory says cause (inl finished) = rw finished.2 (record {
   wrote = tt;
   flushed = tt;
   no_failure = tt;
   cause = finished.0.cause;
-  prefix = (found_text found, found.outcome, says, finished.0.prefix);
+  prefix = (found_text format found, found.outcome, says, finished.0.prefix);
   one_failure = finished.0.one_failure;
   one_flush = finished.0.one_flush;
 })
-ran writer Cause Holds (Ok found) (Err fault) never memory says cause (inr (is, same)) = refused writer Cause Holds fault never (subst Cause (sym is) memory) same
-ran writer Cause Holds (Err fault) result never memory says cause finished = rw finished.0 (refused writer Cause Holds fault never cause finished.1)
+ran writer Cause Holds format (Ok found) (Err fault) never memory says cause (inr (is, same)) = refused writer Cause Holds fault never (subst Cause (sym is) memory) same
+ran writer Cause Holds format (Err fault) result never memory says cause finished = rw finished.0 (refused writer Cause Holds fault never cause finished.1)
 
 -- the readers were called as they were for what was found
-pub called : (calls : Calls) (writer : Output) (found : Result Found RunFault) (result : Result Outcome RunFault) → Called calls found → Finished writer found result
+pub called : (calls : Calls) (writer : Output) (format : Format) (found : Result Found RunFault) (result : Result Outcome RunFault) → Called calls found → Finished writer format found result
     → Called calls result
-called calls writer (Ok found) (Ok outcome) of_found finished =
+called calls writer format (Ok found) (Ok outcome) of_found finished =
     record { no_failure = of_found.no_failure; reads = of_found.reads; failures = of_found.failures; ends = of_found.ends }
-called calls writer (Ok found) (Err fault) of_found finished =
+called calls writer format (Ok found) (Err fault) of_found finished =
     record { no_failure = tt; reads = of_found.reads; failures = of_found.failures; ends = of_found.ends }
-called calls writer (Err fault) result of_found finished =
+called calls writer format (Err fault) result of_found finished =
     rw finished.0 (record { no_failure = tt; reads = of_found.reads; failures = of_found.failures; ends = of_found.ends })
 
 -- what is known of a fault is known of it in weaker words
@@ -140,14 +141,14 @@ ran_weaker writer Cause Causes Holds Others (Err fault) causes says run = record
 }
 
 -- a run over one dump, whose status is answered alone
-pub ran_alone : (reader : Input) (writer : Output) (Refuses : Fault → Type 0) (Holds : List ℕ → Outcome → Type 0) (found : Result Found RunFault)
-    (result : Result Outcome RunFault) → Gathered (calls_of reader) (OfFirst (InputCause reader Refuses)) (Says Holds) found → Finished writer found result
+pub ran_alone : (reader : Input) (writer : Output) (Refuses : Fault → Type 0) (Holds : List ℕ → Outcome → Type 0) (format : Format) (found : Result Found RunFault)
+    (result : Result Outcome RunFault) → Gathered (calls_of reader) (OfFirst (InputCause reader Refuses)) (Says format Holds) found → Finished writer format found result
     → RanAlone reader (InputCause reader Refuses) writer Holds (run_status result)
-ran_alone reader writer Refuses Holds found result gathered finished = (
+ran_alone reader writer Refuses Holds format found result gathered finished = (
   ran_status writer _ Holds result
-      (ran writer _ Holds found result (λ cause. cause) (IfOk-weaker found _ _ (λ it says not_memory. absurd (not_memory refl)) gathered.made) gathered.made
+      (ran writer _ Holds format found result (λ cause. cause) (IfOk-weaker found _ _ (λ it says not_memory. absurd (not_memory refl)) gathered.made) gathered.made
       gathered.cause finished),
-  called_status _ result (called _ writer found result gathered.called finished),
+  called_status _ result (called _ writer format found result gathered.called finished),
 )
 
 -- a cause in weaker words
@@ -206,13 +207,13 @@ no_write (works.Each source pairs with_prefix) reader other untouched (inr (aske
 no_write (works.Two first second view task) reader other untouched cause = not_compared _ _ view _ untouched cause
 no_write (works.Capture reading file task) reader other untouched cause = cause
 
-other_called : (calls : Option Calls) (untouched : Type 0) (writer : Output) (found : Result Found RunFault) (result : Result Outcome RunFault)
-    → OtherCalled calls untouched found → Finished writer found result → OtherCalled calls untouched result
-other_called None untouched writer found result same finished = same
-other_called (Some calls) untouched writer found result of_found finished = called calls writer found result of_found finished
+other_called : (calls : Option Calls) (untouched : Type 0) (writer : Output) (format : Format) (found : Result Found RunFault) (result : Result Outcome RunFault)
+    → OtherCalled calls untouched found → Finished writer format found result → OtherCalled calls untouched result
+other_called None untouched writer format found result same finished = same
+other_called (Some calls) untouched writer format found result of_found finished = called calls writer format found result of_found finished
 
 -- memory may run out once a job has found something
-job_memory : (work : Work) (job : Job) (reader other : Reads) (untouched : Type 0) (found : Found) → Says (SaysBy work job reader other) found
+job_memory : (work : Work) (job : Job) (reader other : Reads) (untouched : Type 0) (found : Found) → Says job.format (SaysBy work job reader other) found
     → OtherCalled {T = Found} (other_calls work other) untouched (Ok found) → CauseBy work reader other untouched of_memory
 job_memory (works.Dump source task) job reader other untouched found says called = λ not_memory. absurd (not_memory refl)
 job_memory (works.Each source pairs with_prefix) job reader other untouched found says called =
@@ -226,9 +227,9 @@ found_memory job reader other untouched (Ok found) by = job_memory job.work job 
 found_memory job reader other untouched (Err fault) by = tt
 
 pub ran_job : (job : Job) (reader other : Reads) (untouched : Type 0) (writer : Output) (found : Result Found RunFault) (result : Result Outcome RunFault)
-    → FoundBy job reader other untouched found → Finished writer found result → RanJob job reader other writer untouched result
+    → FoundBy job reader other untouched found → Finished writer job.format found result → RanJob job reader other writer untouched result
 ran_job job reader other untouched writer found result by finished = record {
-  ran = ran writer _ _ found result (no_write job.work reader other untouched) (found_memory job reader other untouched found by) by.says by.cause finished;
-  called = called _ writer found result by.called finished;
-  other_called = other_called (other_calls job.work other) untouched writer found result by.other_called finished;
+  ran = ran writer _ _ job.format found result (no_write job.work reader other untouched) (found_memory job reader other untouched found by) by.says by.cause finished;
+  called = called _ writer job.format found result by.called finished;
+  other_called = other_called (other_calls job.work other) untouched writer job.format found result by.other_called finished;
 }

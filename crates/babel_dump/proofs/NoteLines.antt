@@ -2,8 +2,10 @@
 use Rattle.std.proofs.Common.{◌≡◌, ℕ, List, [], ◌∷◌, ◌++◌, append-nil, subst, sym, Result, Ok, Err}
 use Rattle.std.specs.Prelude.{codes}
 use Rattle.babel_capture.specs.declared.tallies.Origin.{Origin}
-use Rattle.babel_dump.specs.CaptureText.{escape, escaped, json_escape}
+use Rattle.babel_dump.specs.CaptureText.{escape}
+use Rattle.babel_dump.specs.NameText.{escaped, json_escape}
 use Rattle.babel_dump.specs.Device.{OutputState}
+use Rattle.babel_dump.specs.Names.{plain}
 use Rattle.babel_dump.specs.NoteJson.{note_front, note_of_sender, note_rest}
 use Rattle.babel_dump.specs.Run.{output}
 use Rattle.babel_dump.specs.Slices.{Took, WroteFront}
@@ -17,8 +19,8 @@ use Rattle.babel_dump.proofs.SliceLaws.{broke_on, took_more}
 -- the parts before the octets of the name, these, and those after them are the object
 pub note_parts : (spelling : Spelling) (name : List ℕ) (origin : Origin) (told : SideNote)
     → note_of_sender spelling origin name told
-    ≡ (note_front spelling origin told.note ++ opening (formats.Json spelling) name)
-    ++ (escaped (escape (formats.Json spelling)) name ++ (closing (formats.Json spelling) name ++ note_rest told))
+    ≡ (note_front spelling origin told.note ++ opening (formats.Json (plain spelling)) name)
+    ++ (escaped (escape (formats.Json (plain spelling))) name ++ (closing (formats.Json (plain spelling)) name ++ note_rest told))
 note_parts spelling [] origin told = name_between (note_front spelling origin told.note) (codes "null") [] [] (note_rest told)
 note_parts spelling (octet ∷ octets) origin told =
     name_between (note_front spelling origin told.note) (codes "\"") (escaped json_escape (octet ∷ octets)) (codes "\"") (note_rest told)

@@ -43,6 +43,7 @@ use Rattle.babel_canon.specs.Boxes.{AreBoxes}
 use Rattle.babel_table.specs.Counts.{Counts}
 use Rattle.babel_dump.specs.Command.{HasManyDifferences, ListsDifferences, Tells, TellsRoutes, WritesOctets}
 use Rattle.babel_dump.specs.Each.{LooksUpEach}
+use Rattle.babel_dump.specs.Names.{style_of}
 use Rattle.babel_dump.specs.Octets.{AreOctets, HasTooMany}
 use Rattle.babel_dump.specs.Tasks.{ComparisonFinds, ComparisonFindsTooMany, TaskFinds, TaskFindsTooMany}
 use Rattle.babel_canon.specs.Canonical.{HasManyBoxes}
@@ -191,7 +192,7 @@ compared_one (comparisons.Compare forms.Answers listeds.Count) format view file 
 compared_one (comparisons.Compare forms.Routes listed) format view file other_file reading other_reading table other it too is is_too =
     rows_one (λ rows. listed_in format view listed) table other it too is is_too
 compared_one (comparisons.Diff style) format view file other_file reading other_reading table other it too is is_too =
-    rows_one (diff_in format style view (head_lines style.spelling file other_file reading other_reading)) table other it too is is_too
+    rows_one (diff_in format style view (head_lines (style_of format) file other_file reading other_reading)) table other it too is is_too
 
 few_differences : (limits : Bounds) (view : View) (count : Bool) (format : Format) (table other : Routes) (text : List ℕ) (outcome : Outcome)
     → ListsDifferences limits view count format table other text outcome → HasManyDifferences limits table other → ⊥

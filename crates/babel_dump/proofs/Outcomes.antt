@@ -3,8 +3,8 @@ use Rattle.std.proofs.Common.{◌≡◌, ◌≢◌, refl, ℕ, List, ◌++◌, t
 use Rattle.babel_dump.proofs.CaptureSteps.{capture_fault, capture_one, CaptureComes, gathering_comes, Read, read_of}
 use Rattle.babel_dump.proofs.DumpSteps.{asked_by, dump_fault, dump_one, DumpComes, not_of_octets, pairs_fault, pairs_one, PairsCome, SourceComes, table_comes, table_fault}
 use Rattle.babel_dump.proofs.Steps.{Always, always_one, At, at_one, IsOne, Then, then_one}
-use Rattle.babel_dump.specs.CaptureRun.{capture_text, wanted_of}
-use Rattle.babel_dump.specs.CaptureText.{senders_status}
+use Rattle.babel_dump.proofs.OneLinks.{links_one}
+use Rattle.babel_dump.specs.CaptureRun.{IsCaptureText, capture_status, wanted_of}
 use Rattle.babel_dump.specs.Command.{InTurn}
 use Rattle.babel_dump.specs.Files.{name_of, reading_of}
 use Rattle.babel_dump.specs.Given.{IsFaultOfGiven, dump_of, Input, Reads}
@@ -14,6 +14,8 @@ use Rattle.babel_dump.specs.Run.{InputCause, OfFirst, UnlessWrite}
 use Rattle.babel_dump.specs.declared.format.Format.{Format}
 use Rattle.babel_dump.specs.declared.input_fault.InputFault.TheVariants as input_faults
 use Rattle.babel_dump.specs.declared.input_fault.InputFault.{InputFault}
+use Rattle.babel_dump.specs.LinksHeard.{hellos_made, ihus_made}
+use Rattle.babel_dump.specs.declared.job.CaptureTask.TheVariants as capture_tasks
 use Rattle.babel_dump.specs.declared.job.CaptureTask.{CaptureTask}
 use Rattle.babel_dump.specs.declared.job.Job.{Job}
 use Rattle.babel_dump.specs.declared.job.Work.TheVariants as works
@@ -29,17 +31,28 @@ use Rattle.babel_table.specs.Rows.{Routes}
 use Rattle.babel_tlv.specs.declared.fault.Fault.TheVariants as faults
 use Rattle.babel_tlv.specs.declared.fault.Fault.{Fault}
 use Rattle.std.specs.Io.KnownBytes.{Appends}
+use Rattle.std.specs.Option.{unwrap_or}
 use Rattle.babel_dump.specs.Tasks.{TaskFindsTooMany}
 use Rattle.babel_dump.proofs.OneFound.{comparison_one, ComparisonGives, each_one, EachOf, Said, said, task_one, TaskGives}
 
 -- ---- what is said of a capture
 
 abbrev pub CaptureOf : CaptureTask → Format → Read → Said → Type 0
-CaptureOf task format read it =
-    it ≡ record {
-      text = capture_text task format read.gathering read.made;
-      outcome = record { status = senders_status read.gathering.senders; reports = reports.Capture read.gathering.report read.cut };
-    }
+CaptureOf task format read it = IsCaptureText task format read.moment read.gathering read.made it.text
+    × (it.outcome ≡ record { status = capture_status task read.gathering it.text; reports = reports.Capture read.gathering.report read.cut })
+
+capture_text_one : (task : CaptureTask) (format : Format) (read : Read) (text too : List ℕ) → IsCaptureText task format read.moment read.gathering read.made text
+    → IsCaptureText task format read.moment read.gathering read.made too → text ≡ too
+capture_text_one capture_tasks.Senders format read text too is is_too = is ∙ sym is_too
+capture_text_one (capture_tasks.Extract sender place hex) format read text too is is_too = is ∙ sym is_too
+capture_text_one (capture_tasks.Links place expiry) format read text too is is_too =
+    links_one format expiry (unwrap_or read.moment 0) read.gathering (hellos_made read.made) (ihus_made read.made) text too is is_too
+
+capture_of_one : (task : CaptureTask) (format : Format) (read : Read) (it too : Said) → CaptureOf task format read it → CaptureOf task format read too → it ≡ too
+capture_of_one task format read it too (is, outcome) (is_too, outcome_too) =
+    let texts : it.text ≡ too.text = capture_text_one task format read it.text too.text is is_too in
+    let of : List ℕ → Outcome = λ text. record { status = capture_status task read.gathering text; reports = reports.Capture read.gathering.report read.cut } in
+    said texts (outcome ∙ ap of texts ∙ sym outcome_too)
 
 -- ---- what comes of a job's work
 
@@ -70,7 +83,7 @@ comes_one (works.Two first second view task) job contents other =
     then_one (at_one sides.First (dump_one first.reading contents)) (λ table. then_one (at_one sides.Other (dump_one second.reading other))
     (comparison_one task job.format view (name_of first.file) (name_of second.file) first.reading second.reading table))
 comes_one (works.Capture reading file task) job contents other =
-    then_one (at_one sides.First (capture_one reading (wanted_of task) contents)) (λ read. always_one (λ it too is is_too. is ∙ sym is_too))
+    then_one (at_one sides.First (capture_one reading (wanted_of task) contents)) (λ read. always_one (capture_of_one task job.format read))
 
 -- what a job says of octets comes of them
 says_comes : (work : Work) (job : Job) (reader second : Reads) (contents other text : List ℕ) (outcome : Outcome) → reader.old.left ≡ Some contents
@@ -87,7 +100,7 @@ says_comes (works.Two first another view task) job reader second contents other 
   inl (says.other_table, table_comes (dump_of second another.reading) other other_has says.other_table says.other_gave, says.holds),
 )
 says_comes (works.Capture reading file task) job reader second contents other text outcome has other_has says =
-    inl (read_of says.gave.given, gathering_comes (capture_of reader reading task) contents _ _ has says.gave, said says.text_is says.outcome_is)
+    inl (read_of says.gave.given, gathering_comes (capture_of reader reading task) contents _ _ has says.gave, (says.text_is, says.outcome_is))
 
 -- and so do its faults
 at_first : (Cause : InputFault → Type 0) (Holds : RunFault → Type 0) (fault : RunFault)

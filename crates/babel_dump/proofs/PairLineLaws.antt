@@ -18,14 +18,14 @@ use Rattle.babel_dump.proofs.SliceLaws.{begun, broke_on, broke_within, took_more
 module _ {W : Type 0} (state : W → OutputState) (start old new : PairLines W) (pairs : List Pair) (pair : Pair)
     (same : new.writer.ghost_name ≡ old.writer.ghost_name) (so : HasLines state start old pairs) where
   -- the lines of all pairs, if that of the last is by the first sink's words
-  all_lines : pairs_in start.format start.view (kept_rows start.filter (pairs ++ pair ∷ []))
-      ≡ pairs_in start.format start.view (kept_rows start.filter pairs) ++ pairs_in old.format old.view (kept_rows old.filter (pair ∷ []))
-  all_lines = rw (so.same_format, so.same_view, so.same_filter) (both_kept start.format start.view start.filter pairs (pair ∷ []))
+  all_lines : pairs_in start.format.now start.view (kept_rows start.filter (pairs ++ pair ∷ []))
+      ≡ pairs_in start.format.now start.view (kept_rows start.filter pairs) ++ pairs_in old.format.now old.view (kept_rows old.filter (pair ∷ []))
+  all_lines = rw (so.same_format, so.same_view, so.same_filter) (both_kept start.format.now start.view start.filter pairs (pair ∷ []))
 
   abbrev line : List ℕ
-  line = pairs_in old.format old.view (kept_rows old.filter (pair ∷ []))
+  line = pairs_in old.format.now old.view (kept_rows old.filter (pair ∷ []))
 
-  had : Took (output (state start.writer.now) (state old.writer.now)) (pairs_in start.format start.view (kept_rows start.filter pairs) ++ line) ((old.buffer.now.items ++ line) ++ [])
+  had : Took (output (state start.writer.now) (state old.writer.now)) (pairs_in start.format.now start.view (kept_rows start.filter pairs) ++ line) ((old.buffer.now.items ++ line) ++ [])
   had = rw (append-nil (old.buffer.now.items ++ line)) (took_with _ _ _ line so.took)
 
   pub one_more_line : new.buffer.ghost_name ≡ old.buffer.ghost_name → new.format ≡ old.format → new.filter ≡ old.filter → new.view ≡ old.view
@@ -36,7 +36,7 @@ module _ {W : Type 0} (state : W → OutputState) (start old new : PairLines W) 
     same_format = same_format ∙ so.same_format;
     same_filter = same_filter ∙ so.same_filter;
     same_view = same_view ∙ so.same_view;
-    took = rw all_lines (subst (λ (l : List ℕ). Took (output (state start.writer.now) (state new.writer.now)) (pairs_in start.format start.view (kept_rows start.filter pairs) ++ line) l)
+    took = rw all_lines (subst (λ (l : List ℕ). Took (output (state start.writer.now) (state new.writer.now)) (pairs_in start.format.now start.view (kept_rows start.filter pairs) ++ line) l)
         (append-nil new.buffer.now.items) (took_more _ _ _ _ (old.buffer.now.items ++ line) new.buffer.now.items [] had next));
   }
 
@@ -61,7 +61,7 @@ module _ {W : Type 0} (state : W → OutputState) (start new : PairLines W) (all
   pub wrote_lines : (left : List ℕ) → ((begin : PairLines W) (pairs : List Pair) → HasLines state begin start pairs → HasLines state begin new (pairs ++ all))
       → start.buffer.now.items ≡ []
       → (start.writer.ghost_name ≡ new.writer.ghost_name → writer ≡ new.writer.now) → (start.buffer.ghost_name ≡ new.buffer.ghost_name → left ≡ new.buffer.now.items)
-      → Took (output (state start.writer.now) (state writer)) (pairs_in start.format start.view (kept_rows start.filter all)) left
+      → Took (output (state start.writer.now) (state writer)) (pairs_in start.format.now start.view (kept_rows start.filter all)) left
   wrote_lines left put empty writer_ends buffer_ends =
       let done = put start [] (nothing_yet empty) in
       rw (writer_ends (sym done.same_writer), buffer_ends (sym done.same_buffer)) done.took
@@ -69,10 +69,10 @@ module _ {W : Type 0} (state : W → OutputState) (start new : PairLines W) (all
   -- a write of them failed
   pub broke_lines : ((begin : PairLines W) (pairs : List Pair) → HasLines state begin start pairs → StopsAmong (StoppedAtLine state begin new) pairs all)
       → start.buffer.now.items ≡ [] → (start.writer.ghost_name ≡ new.writer.ghost_name → writer ≡ new.writer.now)
-      → Broke (output (state start.writer.now) (state writer)) (pairs_in start.format start.view (kept_rows start.filter all))
+      → Broke (output (state start.writer.now) (state writer)) (pairs_in start.format.now start.view (kept_rows start.filter all))
   broke_lines stops empty writer_ends =
       let s = stops start [] (nothing_yet empty) in
-      let line = line_in start.format start.view in
+      let line = line_in start.format.now start.view in
       let kept = kept_rows start.filter in
       rw (writer_ends (sym s.stopped.same_writer), s.whole, filter-append (is_kept start.filter) s.first s.rest, flat_map-append line (kept s.first) (kept s.rest))
       (broke_within _ (flat_map line (kept s.first)) (flat_map line (kept s.rest)) s.stopped.broke)

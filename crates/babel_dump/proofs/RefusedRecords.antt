@@ -1,8 +1,9 @@
 -- Why no more is heard than a record, from what a teller refuses of it.
 use Rattle.std.proofs.Common.{◌≡◌, ◌≢◌, ℕ, ◌∷◌, Bool, List, [], ◌++◌, inl, inr, Option, None, Some, refl, sym, ap, subst, ◌∙◌, true, false, take, drop, append_assoc}
+use Rattle.std.specs.Prelude.{if◌then◌else◌}
 use Rattle.std.specs.declared.cmp.Ordering.{Ordering}
 use Rattle.babel_capture.specs.Counts.{Made}
-use Rattle.babel_capture.specs.Findings.{octets_found}
+use Rattle.babel_capture.specs.Findings.{octets_found, passed}
 use Rattle.babel_capture.specs.Sinking.{IsPacketOf, IsTold, packet_said}
 use Rattle.babel_capture.specs.declared.sink.BabelPacket.{BabelPacket}
 use Rattle.babel_capture.specs.declared.sink.Record.{Record}
@@ -20,7 +21,8 @@ use Rattle.babel_timeline.specs.declared.teller.Teller.{Teller}
 use Rattle.babel_timeline.specs.declared.telling.Telling.{Telling}
 use Rattle.babel_dump.specs.EventsCause.{IsPartOf, IsRefused, RefusesAlone, RefusesHeard, RefusesPart, octets_in, start_of}
 use Rattle.babel_dump.specs.EventsRun.{HaveTold, asked_by, speaker_at, told_in}
-use Rattle.babel_dump.specs.Followed.{Follows, HasHeard, HasStopped, IsFrom, IsHeardOf, IsOf, RefusesFront, RefusesPacketRead, RefusesSaid, RefusesTeller, RefusesTold, RefusesUnheard, RefusesUsually, Stops, Suits, octets_before, trouble_of}
+use Rattle.babel_dump.specs.Followed.{Follows, HasHeard, HasHeardFollowed, HasStopped, IsFrom, IsHeardOf, IsOf, RefusesFront, RefusesPacketRead, RefusesSaid, RefusesTeller, RefusesTold, RefusesUnheard, RefusesUsually, Stops, StopsFollowed, Suits, octets_before, trouble_of}
+use Rattle.babel_dump.specs.FollowedSenders.{followed, followed_of, is_followed, sender_of, senders_followed}
 use Rattle.babel_dump.specs.Speakers.{speaker_cmp}
 use Rattle.babel_dump.specs.StrictPackets.{IsFirstOf, IsReadTo, fault_of}
 use Rattle.babel_dump.specs.declared.events_job.Events.{Events}
@@ -36,6 +38,7 @@ use Rattle.babel_dump.specs.declared.stop.Stop.{Stop}
 use Rattle.babel_dump.specs.declared.stop.Stop.TheVariants as stops
 use Rattle.babel_dump.specs.declared.unread_tlv.UnreadTlv.{UnreadTlv}
 use Rattle.babel_dump.proofs.EventsRuns.{told_until}
+use Rattle.babel_dump.proofs.FollowedLaws.{followed-push}
 use Rattle.babel_dump.proofs.UnreadTlvs.{front_of_packet}
 
 -- ---- what a teller refuses
@@ -275,7 +278,20 @@ module _ (events : Events) (made : List Made) (one : Made) (told : Record) (is :
   stops_so mid (stops.LeftOut datagram) refused not_memory = left_so datagram mid refused
   stops_so mid (stops.Ignored origin tlv ignores_4) refused not_memory = ignored_so origin tlv ignores_4 mid refused
 
+-- the record, as far as its sender is followed, is refused behind those before it
+pub stops_followed : (events : Events) (told : Record) (made : List Made) (one : Made) (written : List (Telling Speaker)) (old mid new : Follower) (follows : Bool)
+    → follows ≡ is_followed (senders_followed made) (sender_of one.what) → IsTold (if follows then one else record one { what = passed }) told → mid.hearing ≡ old.hearing
+    → HasHeard events (followed made) written old.hearing → (stop : Stop) → Stops events told mid new stop → stop ≢ stops.Unheard unheard.Memory
+    → IsRefused events (followed made) (followed_of (senders_followed made) one) (trouble_of stop)
+stops_followed events told made one written old mid new follows is is_told hearing was stop stops not_memory =
+    let here : IsTold (followed_of (senders_followed made) one) told = subst (λ (b : Bool). IsTold (if b then one else record one { what = passed }) told) is is_told in
+    let still = subst (HasHeard events (followed made) written) (sym hearing) was in
+    stops_so events (followed made) (followed_of (senders_followed made) one) told here mid written still new stop stops not_memory
+
 -- ---- after a record
+
+one_more : (before made : List Made) (one : Made) → followed (before ++ (made ++ one ∷ [])) ≡ followed (before ++ made) ++ followed_of (senders_followed (before ++ made)) one ∷ []
+one_more before made one = ap followed (sym (append_assoc before made (one ∷ []))) ∙ followed-push (before ++ made) one
 
 -- no more is heard after one for which no more is
 pub follows_still : (start now : Follower) (made : List Made) (one : Made) → Follows start now made → (now.fault ≡ None → ⊥) → Follows start now (made ++ one ∷ [])
@@ -284,28 +300,30 @@ follows_still start now made one follows some = (
   λ sound. absurd (some sound),
   λ stop stopped begun before written heard.
       let has = follows.2 stop stopped begun before written heard in
+      let taken = followed_of (senders_followed (before ++ made)) one in
       record {
         front = has.front;
         one = has.one;
-        back = has.back ++ one ∷ [];
-        are = sym (append_assoc before made (one ∷ [])) ∙ ap (λ (l : List Made). l ++ one ∷ []) has.are ∙ append_assoc has.front (has.one ∷ has.back) (one ∷ []);
+        back = has.back ++ taken ∷ [];
+        are = one_more before made one ∙ ap (λ (l : List Made). l ++ taken ∷ []) has.are ∙ append_assoc has.front (has.one ∷ has.back) (taken ∷ []);
         refused = has.refused;
       },
 )
 
 -- for the next no more is
-pub follows_stopped : (start old mid : Follower) (made : List Made) (one : Made) (told : Record) → IsTold one told → Follows start old made → old.fault ≡ None → (why : Stop)
-    → Stops old.events.now told old mid why → (stop : Stop) → Some why ≡ Some stop → (before : List Made) (written : List (Telling Speaker))
-    → HasHeard start.events.now before (written ++ start.told.items) start.hearing → HasStopped start.events.now (before ++ (made ++ one ∷ [])) stop
-follows_stopped start old mid made one told is follows none why stops stop stopped before written heard =
-    let was = subst (λ (e : Events). HasHeard e (before ++ made) (written ++ old.told.items) old.hearing) (sym follows.0) ((follows.1 none).1 before written heard) in
+pub follows_stopped : (start old : Follower) (made : List Made) (one : Made) (told : Record) → IsTold one told → Follows start old made → old.fault ≡ None → (why : Stop)
+    → StopsFollowed old.events.now told old why → (stop : Stop) → Some why ≡ Some stop → (before : List Made) (written : List (Telling Speaker))
+    → HasHeardFollowed start.events.now before written start → HasStopped start.events.now (before ++ (made ++ one ∷ [])) stop
+follows_stopped start old made one told is follows none why stops stop stopped before written heard =
+    let was = subst (λ (e : Events). HasHeardFollowed e (before ++ made) written old) (sym follows.0) ((follows.1 none).1 before written heard) in
+    let taken = followed_of (senders_followed (before ++ made)) one in
     record {
-      front = before ++ made;
-      one = one;
+      front = followed (before ++ made);
+      one = taken;
       back = [];
-      are = sym (append_assoc before made (one ∷ []));
+      are = one_more before made one;
       refused = λ not_memory.
           let same : why ≡ stop = cc in
-          subst (λ (e : Events). IsRefused e (before ++ made) one (trouble_of stop)) follows.0
-          (stops_so old.events.now (before ++ made) one told is old (written ++ old.told.items) was mid stop (subst (Stops old.events.now told old mid) same stops) not_memory);
+          subst (λ (e : Events). IsRefused e (followed (before ++ made)) taken (trouble_of stop)) follows.0
+          (subst (StopsFollowed old.events.now told old) same stops (before ++ made) one written is was not_memory);
     }

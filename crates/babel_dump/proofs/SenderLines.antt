@@ -4,7 +4,8 @@ use Rattle.std.proofs.lemmas.Grind.{common_steps}
 use Rattle.std.specs.Prelude.{codes}
 use Rattle.babel_capture.specs.declared.tallies.Origin.{Origin}
 use Rattle.babel_capture.specs.declared.tallies.Tally.{Tally}
-use Rattle.babel_dump.specs.CaptureText.{escape, escaped, json_escape, sender_end, sender_end_json, sender_front, sender_front_json, sender_in, text_escape}
+use Rattle.babel_dump.specs.CaptureText.{escape, sender_end, sender_end_json, sender_front, sender_front_json, sender_in}
+use Rattle.babel_dump.specs.NameText.{escaped, json_escape, text_escape}
 use Rattle.babel_dump.specs.Device.{OutputState}
 use Rattle.babel_dump.specs.Run.{Output, output}
 use Rattle.babel_dump.specs.Slices.{Broke, Took}
@@ -19,12 +20,12 @@ name_between front before octets after end = grind (arith, common_steps)
 -- the parts before the octets of the name, these, and those after them are the line
 pub line_parts : (format : Format) (name : List ℕ) (origin : Origin) (tally : Tally)
     → sender_in format name (origin, tally) ≡ to_name format origin name ++ (escaped (escape format) name ++ after_name format (origin, tally) name)
-line_parts (formats.Text spelling) [] origin tally = name_between (sender_front spelling origin) [] [] [] (sender_end origin.place tally)
-line_parts (formats.Text spelling) (octet ∷ octets) origin tally =
-    name_between (sender_front spelling origin) (codes " (") (escaped text_escape (octet ∷ octets)) (codes ")") (sender_end origin.place tally)
-line_parts (formats.Json spelling) [] origin tally = name_between (sender_front_json spelling origin) (codes "null") [] [] (sender_end_json tally)
-line_parts (formats.Json spelling) (octet ∷ octets) origin tally =
-    name_between (sender_front_json spelling origin) (codes "\"") (escaped json_escape (octet ∷ octets)) (codes "\"") (sender_end_json tally)
+line_parts (formats.Text style) [] origin tally = name_between (sender_front style.spelling origin) [] [] [] (sender_end origin.place tally)
+line_parts (formats.Text style) (octet ∷ octets) origin tally =
+    name_between (sender_front style.spelling origin) (codes " (") (escaped text_escape (octet ∷ octets)) (codes ")") (sender_end origin.place tally)
+line_parts (formats.Json style) [] origin tally = name_between (sender_front_json style.spelling origin) (codes "null") [] [] (sender_end_json tally)
+line_parts (formats.Json style) (octet ∷ octets) origin tally =
+    name_between (sender_front_json style.spelling origin) (codes "\"") (escaped json_escape (octet ∷ octets)) (codes "\"") (sender_end_json tally)
 
 -- the text has more, which is not written yet
 pub took_with : (writer : Output) (text left more : List ℕ) → Took writer text left → Took writer (text ++ more) (left ++ more)

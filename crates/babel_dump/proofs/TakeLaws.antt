@@ -16,16 +16,17 @@ use Rattle.babel_timeline.specs.declared.teller.Teller.{Teller}
 use Rattle.babel_timeline.specs.declared.telling.Telling.{Telling}
 use Rattle.babel_timeline.specs.Rows.{AllLast, Rows}
 use Rattle.babel_dump.specs.CaptureRun.{IsOutcomeOf}
-use Rattle.babel_dump.specs.CaptureText.{senders_status}
-use Rattle.babel_dump.specs.EventsRun.{AreReadWhole, HaveTold, Opens, OpensBy, Step, TellsSilent, WroteLines, followed_by, followed_extent, have_come, last_time, made_in, moment_read, since_in, told_from, told_in, unlost, written_in}
-use Rattle.babel_dump.specs.Followed.{Ends, EndsAt, EndsBy, Follows, HasHeard, IsFollowed, Suits, TellsFrom, unlost_by}
-use Rattle.babel_dump.specs.HeardSenders.{heard_told, sender_heard}
+use Rattle.babel_dump.specs.EventsRun.{AreReadWhole, HaveTold, Opens, OpensBy, Step, TellsSilent, WroteLines, followed_by, followed_extent, have_come, heard_status, last_time, made_in, moment_read, since_in, told_from, told_in, unlost, written_in}
+use Rattle.babel_dump.specs.Followed.{Ends, EndsAt, EndsBy, Follows, HasHeard, HasHeardFollowed, IsFollowed, Suits, TellsFrom, unlost_by}
+use Rattle.babel_dump.specs.FollowedSenders.{followed, senders_followed, with_packets}
+use Rattle.babel_dump.specs.HeardSenders.{heard_of, heard_told}
 use Rattle.babel_dump.specs.Run.{Output}
 use Rattle.babel_dump.specs.Speakers.{speaker_cmp}
 use Rattle.babel_dump.specs.declared.events.Followed.{Followed}
 use Rattle.babel_dump.specs.declared.events_job.Events.{Events}
 use Rattle.babel_dump.specs.declared.events_outcome.EventsOutcome.{EventsOutcome}
 use Rattle.babel_dump.specs.declared.speaker.Speaker.{Speaker}
+use Rattle.babel_dump.specs.declared.followed_senders.FollowedSenders.{FollowedSenders}
 use Rattle.babel_dump.specs.declared.follower.Follower.{Follower}
 use Rattle.babel_dump.specs.declared.hearing.Hearing.{Hearing}
 use Rattle.babel_dump.proofs.EventsRuns.{told_so, told_until}
@@ -49,51 +50,56 @@ given_of state extent fed none limit read =
 pub follows_none : (follower : Follower) → Follows follower follower []
 follows_none follower = (
   refl,
-  λ sound. (sound, λ before written heard. subst (λ (m : List Made). HasHeard follower.events.now m (written ++ follower.told.items) follower.hearing) (sym (append-nil before)) heard),
+  λ sound. (sound, λ before written heard. subst (λ (m : List Made). HasHeardFollowed follower.events.now m written follower) (sym (append-nil before)) heard),
   λ stop stopped sound. absurd (let bad : None ≡ Some stop = sym sound ∙ stopped in cc),
 )
 
 -- how far a capture was followed, where this is all that was told
-record IsFollowedBy (events : Events) (fed : List ℕ) (all : Tellings) (capture : State) (hearing : Hearing) : Type 0 where
+record IsFollowedBy (events : Events) (fed : List ℕ) (all : Tellings) (capture : State) (senders : FollowedSenders) (hearing : Hearing) : Type 0 where
   read : HasTaken (followed_extent events) capture.progress capture.pending fed
   no_fault : capture.fault ≡ None
   limit : capture.limit ≡ followed_extent events
   wanted : capture.progress.gathering.wanted ≡ followed_by events
-  has_heard : HasHeard events read.leads.gathered.made all hearing
+  senders_are : senders.senders.entries ≡ senders_followed read.leads.gathered.made
+  has_heard : HasHeard events (followed read.leads.gathered.made) all hearing
 
 -- a follower took the records of a piece more, and what they told was written
 module _ (events : Events) (fed piece : List ℕ) (told : Tellings) (old : Followed) (is : IsFollowed events fed told old) (capture : State) (follower : Follower) where
   followed_by_more : capture.limit ≡ old.capture.limit → capture.progress.gathering.wanted ≡ old.capture.progress.gathering.wanted → capture.fault ≡ None
       → Sinks Follows old.follower follower (FeedMore old.capture.progress old.capture.pending capture.progress capture.pending piece) → follower.fault ≡ None
-      → (follower.events.now ≡ events) × IsFollowedBy events (fed ++ piece) (told ++ follower.told.items) capture follower.hearing
+      → (follower.events.now ≡ events) × IsFollowedBy events (fed ++ piece) (told ++ follower.told.items) capture follower.senders follower.hearing
   followed_by_more limit wanted none sinks sound =
       let follows = sinks.took old.follower [] (follows_none old.follower) in
       let read = sinks.are_read (followed_extent events) fed is.read in
       let made = is.read.leads.gathered.made in
       let here = old.follower.events.now in
-      let was = subst (λ (e : Events). HasHeard e made (told ++ old.follower.told.items) old.follower.hearing) (sym is.events_are) is.has_heard in
-      let heard = subst (λ (e : Events). HasHeard e (made ++ sinks.more) (told ++ follower.told.items) follower.hearing) is.events_are ((follows.1 sound).1 made told was) in (
+      let was = subst (λ (e : Events). HasHeardFollowed e made told old.follower) (sym is.events_are) is.has_heard in
+      let heard = subst (λ (m : List Made). HasHeardFollowed events m told follower) (sym read.1)
+      (subst (λ (e : Events). HasHeardFollowed e (made ++ sinks.more) told follower) is.events_are ((follows.1 sound).1 made told was)) in (
         follows.0 ∙ is.events_are,
         record {
           read = read.0;
           no_fault = none;
           limit = limit ∙ is.limit;
           wanted = wanted ∙ is.wanted;
-          has_heard = subst (λ (m : List Made). HasHeard events m (told ++ follower.told.items) follower.hearing) (sym read.1) heard;
+          senders_are = heard.0;
+          has_heard = heard.1;
         },
       )
 
   pub followed_on : (new : Followed) → capture.limit ≡ old.capture.limit → capture.progress.gathering.wanted ≡ old.capture.progress.gathering.wanted → capture.fault ≡ None
       → Sinks Follows old.follower follower (FeedMore old.capture.progress old.capture.pending capture.progress capture.pending piece) → follower.fault ≡ None
-      → new.capture ≡ capture → new.follower.events.now ≡ follower.events.now → new.follower.hearing ≡ follower.hearing → new.follower.fault ≡ follower.fault → new.follower.told.items ≡ []
+      → new.capture ≡ capture → new.follower.events.now ≡ follower.events.now → new.follower.hearing ≡ follower.hearing → new.follower.fault ≡ follower.fault
+      → new.follower.senders ≡ follower.senders → new.follower.told.items ≡ []
       → IsFollowed events (fed ++ piece) (told ++ follower.told.items) new
-  followed_on new limit wanted none sinks sound same_capture same_events same_hearing same_fault written =
+  followed_on new limit wanted none sinks sound same_capture same_events same_hearing same_fault same_senders written =
       let all = told ++ follower.told.items in
       let by = followed_by_more limit wanted none sinks sound in
       let whole : all ≡ all ++ new.follower.told.items = sym (append-nil all) ∙ ap (λ (v : Tellings). all ++ v) (sym written) in
-      let now = subst (λ (v : Tellings). IsFollowedBy events (fed ++ piece) v new.capture new.follower.hearing) whole
-      (subst (IsFollowedBy events (fed ++ piece) all new.capture) (sym same_hearing)
-      (subst (λ (s : State). IsFollowedBy events (fed ++ piece) all s follower.hearing) (sym same_capture) by.1)) in
+      let now = subst (λ (v : Tellings). IsFollowedBy events (fed ++ piece) v new.capture new.follower.senders new.follower.hearing) whole
+      (subst (IsFollowedBy events (fed ++ piece) all new.capture new.follower.senders) (sym same_hearing)
+      (subst (λ (k : FollowedSenders). IsFollowedBy events (fed ++ piece) all new.capture k follower.hearing) (sym same_senders)
+      (subst (λ (s : State). IsFollowedBy events (fed ++ piece) all s follower.senders follower.hearing) (sym same_capture) by.1))) in
       record {
         read = now.read;
         no_fault = now.no_fault;
@@ -101,7 +107,7 @@ module _ (events : Events) (fed piece : List ℕ) (told : Tellings) (old : Follo
         wanted = now.wanted;
         events_are = same_events ∙ by.0;
         sound = same_fault ∙ sound;
-        has_heard = now.has_heard;
+        has_heard = (now.senders_are, now.has_heard);
       }
 
 -- ---- its end
@@ -167,8 +173,8 @@ pub ending : (events : Events) (fed : List ℕ) (told : Tellings) (writer : Outp
     → (is : IsFollowed events fed told old)
     → ((octets : List ℕ) → HasRead old.capture octets → IsReadToCut old.capture.limit octets old.capture.progress.gathering cut)
     → (events.accept_cut ≡ false → cut ≡ None) → EndsAt events (moment_of old.capture) old new → WroteLines events new.follower.told.items writer
-    → status ≡ senders_status old.capture.progress.gathering.senders → IsOutcomeOf answer.outcome status old.capture.progress.gathering.report cut
-    → map heard_told answer.senders.items ≡ map (sender_heard old) old.capture.progress.gathering.senders
+    → status ≡ heard_status answer.senders.items → IsOutcomeOf answer.outcome status old.capture.progress.gathering.report cut
+    → map heard_told answer.senders.items ≡ map (heard_of old) (with_packets old.follower.senders.senders.entries)
     → (events.strict ≡ true → AreReadWhole old.capture.progress.gathering.report answer.senders.items)
     → Ends events fed told writer answer
 ending events fed told writer old new status cut answer is read accepted ends wrote status_is outcome_is senders whole =
@@ -195,14 +201,14 @@ ending events fed told writer old new status cut answer is read accepted ends wr
         ∙ ap (λ (b : Before). if untimed then None else moment_up_to events.window b.start old.capture.progress.gathering.report.timing.latest)
         (is.read.leads.context ∙ ap (context_behind (start extent)) (sym blocks))
 
-    was : HasHeard events is.read.leads.gathered.made (told ++ old.follower.told.items) old.follower.hearing
-    was = is.has_heard
+    was : HasHeard events (followed is.read.leads.gathered.made) (told ++ old.follower.told.items) old.follower.hearing
+    was = is.has_heard.1
 
     by : (given.is_read.blocks ≡ is.read.leads.blocks) × (given.is_read.gathered.made ≡ is.read.leads.gathered.made) → Ends events fed told writer answer
     by (blocks, made) =
-        let done = ended_by_then events is.read.leads.gathered.made told (if untimed then None else moment) old new
+        let done = ended_by_then events (followed is.read.leads.gathered.made) told (if untimed then None else moment) old new
         (subst (λ (m : Option ℕ). EndsAt events m old new) (same_moment blocks) ends) was in
-        let heard = heard_senders events (made_in was.steps) old was.heard answer.senders.items old.capture.progress.gathering.senders senders in
+        let heard = heard_senders events (made_in was.steps) old was.heard answer.senders.items (with_packets old.follower.senders.senders.entries) senders in
         record {
           more = new.follower.told.items;
           tells = record {
@@ -212,7 +218,7 @@ ending events fed told writer old new status cut answer is read accepted ends wr
             wanted = is.wanted;
             accepted = accepted;
             steps = was.steps;
-            are_made = was.are_made ∙ sym made;
+            are_made = was.are_made ∙ ap followed (sym made);
             each = was.each;
             ended = done.ended;
             rows = done.rows;
@@ -224,7 +230,7 @@ ending events fed told writer old new status cut answer is read accepted ends wr
             opens_last = done.opens;
             opens = was.opens;
             written_is = done.written_is;
-            senders = heard.0;
+            senders = heard.0 ∙ ap with_packets (is.has_heard.0 ∙ ap senders_followed (sym made));
             heard = heard.1;
             outcome_is = subst (λ (s : ℕ). IsOutcomeOf answer.outcome s gathering.report cut) status_is outcome_is;
             whole = whole;

@@ -1,5 +1,5 @@
 -- What comes of what was asked for, over streams: this project's own.
-use Rattle.std.specs.Prelude.{ℕ, ◌≡◌, ◌≢◌, List, [], Option, None, Some, IfSome}
+use Rattle.std.specs.Prelude.{ℕ, ◌≡◌, ◌≢◌, ◌⊎◌, List, [], codes, Option, None, Some, IfSome}
 use Rattle.std.specs.Io.KnownBytes.{Appends, Keeps}
 use Rattle.std.specs.Map.{keys_of}
 use Rattle.babel_dump.specs.Begun.{BeginsSo}
@@ -171,7 +171,7 @@ Did (askeds.Events events) seed stream other = ToldEvents events stream
 
 -- the option that is told as misplaced
 abbrev pub misplaced_told : Trouble → Option (List ℕ)
-misplaced_told (troubles.Misplaced option) = Some option.now
+misplaced_told (troubles.Misplaced side option) = Some option.now
 misplaced_told trouble = None
 
 -- only an option that was misplaced is told so
@@ -180,9 +180,22 @@ IsJobRefused job stream other trouble =
     IfSome (misplaced_told trouble)
     (λ option. (begun : Beginnings job stream other) × (misplaced_at begun ≡ Some option))
 
+-- `--origins` alone is told so, and only where this is so
+abbrev pub IsMisplacedIn : Type 0 → Trouble → Type 0
+IsMisplacedIn IsSo trouble =
+    IfSome (misplaced_told trouble) (λ option. (option ≡ codes "--origins") × IsSo)
+
+abbrev pub IsDump : Option (List ℕ) → Type 0
+IsDump stream = BeginsSo stream beginnings.Dump
+
+-- where one of the streams is a dump
+abbrev pub IsOriginsRefused : (stream other : Option (List ℕ)) → Trouble → Type 0
+IsOriginsRefused stream other = IsMisplacedIn (IsDump stream ⊎ IsDump other)
+
 abbrev pub IsRefused : Asked → (stream other : Option (List ℕ)) → Trouble → Type 0
 IsRefused (askeds.Job job) stream other trouble = IsJobRefused job stream other trouble
 IsRefused (askeds.Lone lone) stream other trouble = IsJobRefused lone.job stream other trouble
+IsRefused (askeds.Origins origins) stream other trouble = IsOriginsRefused stream other trouble
 IsRefused asked stream other trouble = Unit {0}
 
 -- what changed in a capture was not told to its end, for this cause

@@ -1,8 +1,8 @@
 -- What the commands over captures promise, by what their devices say. No RFC speaks of runs: these
 -- are this project's own.
 use Rattle.std.specs.Prelude.{ℕ, false, true, ◌≡◌, ◌≢◌, ◌<◌, ◌≤◌, List, ◌++◌, length}
-use Rattle.std.specs.Prelude.{Option, Some}
-use Rattle.std.specs.Option.{is_some}
+use Rattle.std.specs.Prelude.{Option, None, Some}
+use Rattle.std.specs.Option.{is_some, unwrap_or}
 use Rattle.babel_capture.specs.Counts.{Counts, Made}
 use Rattle.babel_capture.specs.Findings.{everyone}
 use Rattle.babel_capture.specs.Gathering.{Gathering}
@@ -11,9 +11,11 @@ use Rattle.babel_capture.specs.declared.wanted.Wanted.{Wanted}
 use Rattle.babel_tlv.specs.declared.fault.Fault.TheVariants as faults
 use Rattle.babel_table.specs.Moments.{dump_of}
 use Rattle.babel_dump.specs.CaptureGiven.{CaptureInput, GaveLeftOut, GaveSound}
-use Rattle.babel_dump.specs.CaptureGiven.{IsFaultOfCapture, made_in}
+use Rattle.babel_dump.specs.CaptureGiven.{IsFaultOfCapture, made_in, moment_in}
 use Rattle.babel_dump.specs.CaptureText.{dump_text, places_of}
-use Rattle.babel_dump.specs.CaptureText.{senders_in, senders_status}
+use Rattle.babel_dump.specs.CaptureText.{senders_in, senders_status, text_status}
+use Rattle.babel_dump.specs.LinksHeard.{hellos_made, ihus_made}
+use Rattle.babel_dump.specs.LinksTold.{TellsLinks}
 use Rattle.babel_dump.specs.Packets.{packets_made}
 use Rattle.babel_dump.specs.declared.extract.PacketCopy.{PacketCopy}
 use Rattle.babel_dump.specs.declared.format.Format.{Format}
@@ -71,21 +73,34 @@ pub record IsOnSeveral (reader : CaptureInput) (interfaces : Interfaces) : Type 
 abbrev pub wanted_of : CaptureTask → Wanted
 wanted_of capture_tasks.Senders = everyone
 wanted_of (capture_tasks.Extract sender place hex) =
-    record { sender = Some sender; place = place }
+    record { sender = Some sender; place = place; are_listed = true }
+wanted_of (capture_tasks.Links place expiry) =
+    record { sender = None; place = place; are_listed = true }
 
--- the text, by what is gathered of a capture, and made of each of its packets: a line for each
--- sender at each place; the packets, end to end
-abbrev pub capture_text : CaptureTask → Format → Gathering → List Made → List ℕ
-capture_text capture_tasks.Senders format gathering made = senders_in format gathering
-capture_text (capture_tasks.Extract sender place hex) format gathering made =
-    dump_text hex (dump_of (packets_made made))
+-- the text, by what is gathered of a capture, and made of each of its packets, up to this moment: a
+-- line for each sender at each place; the packets, end to end; a line for each link
+abbrev pub IsCaptureText :
+    CaptureTask → Format → (moment : Option ℕ) → Gathering → List Made → List ℕ → Type 0
+IsCaptureText capture_tasks.Senders format moment gathering made text =
+    text ≡ senders_in format gathering
+IsCaptureText (capture_tasks.Extract sender place hex) format moment gathering made text =
+    text ≡ dump_text hex (dump_of (packets_made made))
+IsCaptureText (capture_tasks.Links place expiry) format moment gathering made text =
+    TellsLinks format expiry (unwrap_or moment 0) gathering (hellos_made made) (ihus_made made)
+    text
 
--- so it says, with status 1 if no packets were found; where one sender is wanted, it sent at one place at most
+-- the status: 1 if no packets were found, or no link
+abbrev pub capture_status : CaptureTask → Gathering → (text : List ℕ) → ℕ
+capture_status (capture_tasks.Links place expiry) gathering text = text_status text
+capture_status task gathering text = senders_status gathering.senders
+
+-- so it says; where one sender is wanted, it sent at one place at most
 pub record SaysOfCapture (task : CaptureTask) (format : Format) (reader : CaptureInput)
     (text : List ℕ) (outcome : Outcome) : Type 0 where
   pub gathering : Gathering
   pub cut : Option ℕ
   pub gave : GaveSound reader gathering cut
   pub one_place : is_some reader.wanted.sender ≡ true → length gathering.senders ≤ 1
-  pub text_is : text ≡ capture_text task format gathering (made_in gave.given)
-  pub outcome_is : IsOutcomeOf outcome (senders_status gathering.senders) gathering.report cut
+  pub text_is :
+      IsCaptureText task format (moment_in gave.given) gathering (made_in gave.given) text
+  pub outcome_is : IsOutcomeOf outcome (capture_status task gathering text) gathering.report cut

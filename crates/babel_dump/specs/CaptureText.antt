@@ -1,11 +1,9 @@
 -- The lines that the runs of captures write: this project's own.
-use Rattle.std.specs.Prelude.{ℕ, ◌/◌, ◌%◌, Bool, true, false, ◌==◌, ◌||◌, if◌then◌else◌, List, []}
+use Rattle.std.specs.Prelude.{ℕ, ◌/◌, ◌%◌, Bool, true, false, List, []}
 use Rattle.std.specs.Prelude.{◌∷◌, ◌++◌}
 use Rattle.std.specs.Prelude.{map, codes, Option, None, Some}
 use Rattle.std.specs.List.{flat_map}
 use Rattle.std.specs.Fmt.{decimal}
-use Rattle.std.specs.Char.{is_ascii_alphanumeric}
-use Rattle.hex.specs.Hex.{encode_lower}
 use Rattle.babel_capture.specs.Gathering.{Gathering, name_of}
 use Rattle.babel_capture.specs.Place.{vlan_numbers}
 use Rattle.babel_capture.specs.Tallies.{Senders}
@@ -15,6 +13,7 @@ use Rattle.babel_capture.specs.declared.tallies.Origin.{Origin}
 use Rattle.babel_capture.specs.declared.tallies.Tally.{Tally}
 use Rattle.babel_dump.specs.InFormat.{in_format}
 use Rattle.babel_dump.specs.JsonText.{quoted}
+use Rattle.babel_dump.specs.NameText.{json_escape, name_json, name_text, text_escape}
 use Rattle.babel_dump.specs.RunText.{form_text, newline}
 use Rattle.babel_dump.specs.Spelling.{address_text}
 use Rattle.babel_dump.specs.TimeText.{time_json, time_or, two_digits}
@@ -22,37 +21,8 @@ use Rattle.babel_dump.specs.declared.format.Format.{Format}
 use Rattle.babel_dump.specs.declared.format.Format.TheVariants as formats
 use Rattle.babel_dump.specs.declared.spelling.Spelling.{Spelling}
 
--- the octet of a name stands for itself: a letter, a digit, `.`, `-` or `_`
-abbrev pub is_plain : ℕ → Bool
-is_plain octet = is_ascii_alphanumeric octet || octet == 46 || octet == 45 || octet == 95
-
--- each octet of a name, as it is or as two lower-case hexadecimal digits after an escape
-abbrev pub octet_text : (escape : List ℕ) → ℕ → List ℕ
-octet_text escape octet = if is_plain octet then octet ∷ [] else escape ++ encode_lower (octet ∷ [])
-
-abbrev pub escaped : (escape : List ℕ) → List ℕ → List ℕ
-escaped escape name = flat_map (octet_text escape) name
-
--- `\x`, whose backslash is two in JSON
-abbrev pub text_escape : List ℕ
-text_escape = codes "\\x"
-
-abbrev pub json_escape : List ℕ
-json_escape = codes "\\\\x"
-
 abbrev pub escape : Format → List ℕ
 escape format = in_format format text_escape json_escape
-
--- ` (NAME)`, or nothing where there is none
-abbrev pub name_text : List ℕ → List ℕ
-name_text [] = []
-name_text (octet ∷ octets) =
-    codes " (" ++ escaped text_escape (octet ∷ octets) ++ codes ")"
-
--- `"NAME"`, or `null`
-abbrev pub name_json : List ℕ → List ℕ
-name_json [] = codes "null"
-name_json (octet ∷ octets) = quoted (escaped json_escape (octet ∷ octets))
 
 -- ` link N`, or nothing where there is none
 abbrev pub link_text : Option ℕ → List ℕ
@@ -116,10 +86,10 @@ abbrev pub sender_line : Spelling → (name : List ℕ) → Origin × Tally → 
 sender_line spelling name sender =
     sender_front spelling sender.0 ++ name_text name ++ sender_end sender.0.place sender.1
 
--- `","interface":N,"link":N,"vlans":[N,N],"name":`
+-- `,"interface":N,"link":N,"vlans":[N,N],"name":`
 abbrev pub place_json : Place → List ℕ
 place_json place =
-    codes "\",\"interface\":" ++ decimal place.interface
+    codes ",\"interface\":" ++ decimal place.interface
     ++ codes ",\"link\":" ++ number_json place.link ++ codes ",\"vlans\":"
     ++ vlans_json place.vlans
     ++ codes ",\"name\":"
@@ -128,7 +98,7 @@ place_json place =
 -- `,"packets":N,"octets":N,"updates":N,"interval":N.NN,"first":"TIME","last":"TIME","trailers":N}`
 abbrev pub sender_front_json : Spelling → Origin → List ℕ
 sender_front_json spelling origin =
-    codes "{\"sender\":\"" ++ address_text spelling origin.sender ++ place_json origin.place
+    codes "{\"sender\":" ++ quoted (address_text spelling origin.sender) ++ place_json origin.place
 
 abbrev pub sender_end_json : Tally → List ℕ
 sender_end_json tally =
@@ -146,8 +116,8 @@ sender_json spelling name sender =
     sender_front_json spelling sender.0 ++ name_json name ++ sender_end_json sender.1
 
 abbrev pub sender_in : Format → (name : List ℕ) → Origin × Tally → List ℕ
-sender_in (formats.Text spelling) name sender = sender_line spelling name sender
-sender_in (formats.Json spelling) name sender = sender_json spelling name sender
+sender_in (formats.Text style) name sender = sender_line style.spelling name sender
+sender_in (formats.Json style) name sender = sender_json style.spelling name sender
 
 -- with the name that the capture has for its interface
 abbrev pub named_in : Format → Gathering → Origin × Tally → List ℕ
@@ -163,6 +133,11 @@ senders_in format gathering = flat_map (named_in format gathering) gathering.sen
 abbrev pub senders_status : Senders → ℕ
 senders_status [] = 1
 senders_status (sender ∷ senders) = 0
+
+-- 1 where there is no line
+abbrev pub text_status : List ℕ → ℕ
+text_status [] = 1
+text_status (octet ∷ octets) = 0
 
 -- the place of each sender
 abbrev pub places_of : Senders → List Place

@@ -12,15 +12,15 @@ use Rattle.babel_canon.specs.declared.every_difference.Difference.{Difference}
 use Rattle.babel_dump.specs.CaptureText.{link_text, vlans_text}
 use Rattle.babel_dump.specs.InFormat.{difference_in, in_format}
 use Rattle.babel_dump.specs.KeyText.{file_text}
+use Rattle.babel_dump.specs.Names.{named_address, style_of}
 use Rattle.babel_dump.specs.RunText.{newline, pair_text}
-use Rattle.babel_dump.specs.Spelling.{address_text}
 use Rattle.babel_dump.specs.declared.format.Format.{Format}
 use Rattle.babel_dump.specs.declared.format.Format.TheVariants as formats
 use Rattle.babel_dump.specs.declared.job.DiffStyle.{DiffStyle}
 use Rattle.babel_dump.specs.declared.reading.Reading.{Reading}
 use Rattle.babel_dump.specs.declared.run_fault.Side.{Side}
 use Rattle.babel_dump.specs.declared.run_fault.Side.TheVariants as sides
-use Rattle.babel_dump.specs.declared.spelling.Spelling.{Spelling}
+use Rattle.babel_dump.specs.declared.style.Style.{Style}
 
 -- ` interface N link N vlan N.N`, or nothing where no place is named
 abbrev pub place_text : Option Place → List ℕ
@@ -29,16 +29,16 @@ place_text (Some place) =
     codes " interface " ++ decimal place.interface ++ link_text place.link ++ vlans_text place.vlans
 
 -- `FILE ADDRESS interface N link N vlan N.N`: the file, the sender of its dump, and its place
-abbrev pub head_line : Spelling → (mark file : List ℕ) → Reading → List ℕ
-head_line spelling mark file reading =
-    mark ++ file_text file ++ codes " " ++ address_text spelling reading.sender
+abbrev pub head_line : Style → (mark file : List ℕ) → Reading → List ℕ
+head_line style mark file reading =
+    mark ++ file_text file ++ codes " " ++ named_address style reading.sender
     ++ place_text reading.place ++ newline
 
 abbrev pub head_lines :
-    Spelling → (file other_file : List ℕ) → (reading other_reading : Reading) → List ℕ
-head_lines spelling file other_file reading other_reading =
-    head_line spelling (codes "--- ") file reading
-    ++ head_line spelling (codes "+++ ") other_file other_reading
+    Style → (file other_file : List ℕ) → (reading other_reading : Reading) → List ℕ
+head_lines style file other_file reading other_reading =
+    head_line style (codes "--- ") file reading
+    ++ head_line style (codes "+++ ") other_file other_reading
 
 -- the escape that sets this, where there are colours
 abbrev pub escape : (coloured : Bool) → List ℕ → List ℕ
@@ -54,16 +54,16 @@ abbrev pub row_end : (coloured : Bool) → List ℕ
 row_end coloured = escape coloured (codes "0") ++ newline
 
 -- `-ROW`, `+ROW`, or nothing where the dump on this side has no row
-abbrev pub marked_row : DiffStyle → View → Side → RouteKey → Option Held → List ℕ
-marked_row style view side key None = []
-marked_row style view side key (Some held) =
-    row_mark style.coloured side ++ pair_text style.spelling view (key, held)
-    ++ row_end style.coloured
+abbrev pub marked_row :
+    Style → (coloured : Bool) → View → Side → RouteKey → Option Held → List ℕ
+marked_row style coloured view side key None = []
+marked_row style coloured view side key (Some held) =
+    row_mark coloured side ++ pair_text style view (key, held) ++ row_end coloured
 
-abbrev pub change_text : DiffStyle → View → Difference → List ℕ
-change_text style view difference =
-    marked_row style view sides.First difference.key difference.left
-    ++ marked_row style view sides.Other difference.key difference.right
+abbrev pub change_text : Style → (coloured : Bool) → View → Difference → List ℕ
+change_text style coloured view difference =
+    marked_row style coloured view sides.First difference.key difference.left
+    ++ marked_row style coloured view sides.Other difference.key difference.right
 
 -- `N gone, N new, N changed, N alike`
 abbrev pub stat_text : (gone new changed alike : ℕ) → List ℕ
@@ -93,17 +93,18 @@ abbrev pub stat_after : Format → (stat : Bool) → (rows : ℕ) → List Diffe
 stat_after format stat rows differences = if stat then stat_in format rows differences else []
 
 -- nothing where there is no difference
-abbrev pub diff_text : DiffStyle → View → (heads : List ℕ) → (rows : ℕ) → List Difference → List ℕ
-diff_text style view heads rows [] = []
-diff_text style view heads rows differences =
-    heads ++ flat_map (change_text style view) differences
-    ++ stat_after (formats.Text style.spelling) style.stat rows differences
+abbrev pub diff_text :
+    Format → DiffStyle → View → (heads : List ℕ) → (rows : ℕ) → List Difference → List ℕ
+diff_text format style view heads rows [] = []
+diff_text format style view heads rows differences =
+    heads ++ flat_map (change_text (style_of format) style.coloured view) differences
+    ++ stat_after format style.stat rows differences
 
 -- as JSON an object for each difference, and the numbers also where there is none
 abbrev pub diff_in :
     Format → DiffStyle → View → (heads : List ℕ) → (rows : ℕ) → List Difference → List ℕ
-diff_in (formats.Text spelling) style view heads rows differences =
-    diff_text style view heads rows differences
-diff_in (formats.Json spelling) style view heads rows differences =
-    flat_map (difference_in (formats.Json spelling) view) differences
-    ++ stat_after (formats.Json spelling) style.stat rows differences
+diff_in (formats.Text of_text) style view heads rows differences =
+    diff_text (formats.Text of_text) style view heads rows differences
+diff_in (formats.Json of_json) style view heads rows differences =
+    flat_map (difference_in (formats.Json of_json) view) differences
+    ++ stat_after (formats.Json of_json) style.stat rows differences

@@ -13,6 +13,7 @@ use Rattle.babel_dump.specs.EachSender.{read_by}
 use Rattle.babel_dump.specs.Files.{name_of}
 use Rattle.babel_dump.specs.InFormat.{difference_in, in_format}
 use Rattle.babel_dump.specs.Led.{lead_in, led}
+use Rattle.babel_dump.specs.Names.{style_of}
 use Rattle.babel_dump.specs.RunText.{newline}
 use Rattle.babel_dump.specs.Tasks.{ComparisonFinds}
 use Rattle.babel_dump.specs.declared.each_pair.EachPair.{EachPair}
@@ -27,9 +28,9 @@ use Rattle.babel_dump.specs.declared.run_fault.Side.TheVariants as sides
 
 -- each line led by the sender, but not where `diff` names it before the rows, as people read them
 abbrev pub told_in : Comparison → Format → (lead : List ℕ) → List ℕ → List ℕ
-told_in (comparisons.Diff style) (formats.Text spelling) lead text = text
-told_in (comparisons.Diff style) (formats.Json spelling) lead text =
-    led (formats.Json spelling) lead true text
+told_in (comparisons.Diff style) (formats.Text of_text) lead text = text
+told_in (comparisons.Diff style) (formats.Json of_json) lead text =
+    led (formats.Json of_json) lead true text
 told_in (comparisons.Compare form listed) format lead text = led format lead true text
 
 -- What is told of a sender at its place and its fellow at its own, whose interface has this name:
@@ -66,13 +67,13 @@ first_rows sides.Other rows = 0
 
 -- all its rows, of `diff`, with the lines that name both captures also where it has no row
 abbrev pub all_rows_in : Format → DiffStyle → View → (heads : List ℕ) → Side → List Pair → List ℕ
-all_rows_in (formats.Text spelling) style view heads side rows =
-    (heads ++ flat_map (change_text style view) (map (lone_row side) rows))
-    ++ stat_after (formats.Text style.spelling) style.stat (first_rows side (length rows))
+all_rows_in (formats.Text of_text) style view heads side rows =
+    (heads ++ flat_map (change_text of_text style.coloured view) (map (lone_row side) rows))
+    ++ stat_after (formats.Text of_text) style.stat (first_rows side (length rows))
     (map (lone_row side) rows)
-all_rows_in (formats.Json spelling) style view heads side rows =
-    flat_map (difference_in (formats.Json spelling) view) (map (lone_row side) rows)
-    ++ stat_after (formats.Json spelling) style.stat (first_rows side (length rows))
+all_rows_in (formats.Json of_json) style view heads side rows =
+    flat_map (difference_in (formats.Json of_json) view) (map (lone_row side) rows)
+    ++ stat_after (formats.Json of_json) style.stat (first_rows side (length rows))
     (map (lone_row side) rows)
 
 abbrev pub alone_by : Comparison → EachPair → Side → Origin → List Pair → List ℕ
@@ -80,7 +81,7 @@ alone_by (comparisons.Compare form listed) pairs side origin rows =
     only_in pairs.left.format side
 alone_by (comparisons.Diff style) pairs side origin rows =
     all_rows_in pairs.left.format style pairs.view
-    (head_lines style.spelling (name_of pairs.left.file) (name_of pairs.right.file)
+    (head_lines (style_of pairs.left.format) (name_of pairs.left.file) (name_of pairs.right.file)
     (read_by pairs.left origin 0) (read_by pairs.right origin 0)) side rows
 
 abbrev pub alone_in : EachPair → Side → Origin → List Pair → List ℕ

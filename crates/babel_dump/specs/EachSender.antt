@@ -26,7 +26,9 @@ use Rattle.babel_dump.specs.AnySource.{any_source}
 use Rattle.babel_dump.specs.CaptureGiven.{CaptureInput, GaveCapture, GaveSound, capture_from}
 use Rattle.babel_dump.specs.CaptureGiven.{made_in, moment_in}
 use Rattle.babel_dump.specs.CaptureRun.{CaptureCause, IsNoFault}
-use Rattle.babel_dump.specs.CaptureText.{name_json, place_json}
+use Rattle.babel_dump.specs.CaptureText.{place_json}
+use Rattle.babel_dump.specs.JsonText.{quoted}
+use Rattle.babel_dump.specs.NameText.{name_json}
 use Rattle.babel_dump.specs.Device.{InputState}
 use Rattle.babel_dump.specs.DiffText.{place_text}
 use Rattle.babel_dump.specs.Each.{GavePairsOf}
@@ -105,7 +107,7 @@ sender_name file origin =
 -- `"file":"FILE","sender":"ADDRESS","interface":N,"link":N,"vlans":[N,N],"name":"NAME"`
 abbrev pub sender_members : (file : List ℕ) → Origin → (name : List ℕ) → List ℕ
 sender_members file origin name =
-    file_member file ++ codes ",\"sender\":\"" ++ address_text spellings.Long origin.sender
+    file_member file ++ codes ",\"sender\":" ++ quoted (address_text spellings.Long origin.sender)
     ++ place_json origin.place ++ name_json name
 
 -- what names the dump of a sender whose interface has this name

@@ -11,14 +11,14 @@ use Rattle.babel_dump.specs.declared.speaker.Speaker.{Speaker}
 
 -- the parts of a line before the octets of the interface's name and after them
 abbrev pub event_to_name : Format → (name : List ℕ) → Telling Speaker → List ℕ
-event_to_name (formats.Text spelling) name told =
-    event_front spelling name told ++ opening (formats.Text spelling) name
-event_to_name (formats.Json spelling) name told =
-    event_front_json spelling told ++ opening (formats.Json spelling) name
+event_to_name (formats.Text style) name told =
+    event_front style name told ++ opening (formats.Text style) name
+event_to_name (formats.Json style) name told =
+    event_front_json style told ++ opening (formats.Json style) name
 
 abbrev pub event_after_name :
     Format → View → Option AddrPair → (name : List ℕ) → Telling Speaker → List ℕ
-event_after_name (formats.Text spelling) view pair name told =
-    closing (formats.Text spelling) name ++ event_end spelling view told
-event_after_name (formats.Json spelling) view pair name told =
-    closing (formats.Json spelling) name ++ event_end_json spelling view pair told
+event_after_name (formats.Text style) view pair name told =
+    closing (formats.Text style) name ++ event_end style view told
+event_after_name (formats.Json style) view pair name told =
+    closing (formats.Json style) name ++ event_end_json style view pair told

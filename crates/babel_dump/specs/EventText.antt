@@ -6,7 +6,6 @@ use Rattle.std.specs.Fmt.{decimal}
 use Rattle.std.specs.Option.{option_map}
 use Rattle.std.specs.Ordering.{is_eq}
 use Rattle.std.specs.Str.{bytes_eq}
-use Rattle.hex.specs.Hex.{encode_lower}
 use Rattle.babel_prefix.specs.Address.{Address}
 use Rattle.babel_prefix.specs.Width.{same_family}
 use Rattle.babel_capture.specs.Place.{place_on}
@@ -23,8 +22,10 @@ use Rattle.babel_timeline.specs.declared.change.ChangeKind.{ChangeKind}
 use Rattle.babel_timeline.specs.declared.change.ChangeKind.TheVariants as kinds
 use Rattle.babel_timeline.specs.declared.telling.Telling.{Telling}
 use Rattle.babel_timeline.specs.declared.telling.Telling.TheVariants as tellings
-use Rattle.babel_dump.specs.CaptureText.{link_text, name_json, name_text, place_json, vlans_text}
+use Rattle.babel_dump.specs.CaptureText.{link_text, place_json, vlans_text}
 use Rattle.babel_dump.specs.JsonText.{addressed_json, answer_json}
+use Rattle.babel_dump.specs.NameText.{name_json, name_text}
+use Rattle.babel_dump.specs.Names.{named_address, named_router, named_sender}
 use Rattle.babel_dump.specs.RequestText.{key_json, key_text, request_json, request_text, to_json}
 use Rattle.babel_dump.specs.RequestText.{to_text}
 use Rattle.babel_dump.specs.RunText.{announcement_text, newline}
@@ -35,6 +36,7 @@ use Rattle.babel_dump.specs.declared.format.Format.{Format}
 use Rattle.babel_dump.specs.declared.format.Format.TheVariants as formats
 use Rattle.babel_dump.specs.declared.speaker.Speaker.{Speaker}
 use Rattle.babel_dump.specs.declared.spelling.Spelling.{Spelling}
+use Rattle.babel_dump.specs.declared.style.Style.{Style}
 
 -- ---- of both formats
 
@@ -99,15 +101,15 @@ interface_text place name =
     if tells_place place name then codes " interface " ++ decimal place.interface else []
 
 -- `TIME ADDRESS interface N`; a time after the year 9999, which no event has, is `-`
-abbrev pub event_front : Spelling → (name : List ℕ) → Telling Speaker → List ℕ
-event_front spelling name told =
+abbrev pub event_front : Style → (name : List ℕ) → Telling Speaker → List ℕ
+event_front style name told =
     time_or (within_years (time_of told)) ++ codes " "
-    ++ address_text spelling (speaker_of told).sender ++ interface_text (speaker_of told).place name
+    ++ named_address style (speaker_of told).sender ++ interface_text (speaker_of told).place name
 
 -- ` via NEXTHOP id ROUTERID seqno N metric N`, or nothing where nothing is held any more
-abbrev pub after_text : Spelling → View → Option Announcement → List ℕ
-after_text spelling view None = []
-after_text spelling view (Some ann) = codes " " ++ announcement_text spelling view ann
+abbrev pub after_text : Style → View → Option Announcement → List ℕ
+after_text style view None = []
+after_text style view (Some ann) = codes " " ++ announcement_text style view ann
 
 -- whether two addresses are one
 abbrev pub is_same_address : Address → Address → Bool
@@ -120,25 +122,25 @@ unless_same same name text = if same then [] else name ++ text
 
 -- ` via NEXTHOP id ROUTERID seqno N metric N`, of the fields that are others now. A field that is
 -- ignored is the same.
-abbrev pub differing_text : Spelling → (before now : Announcement) → List ℕ
-differing_text spelling before now =
+abbrev pub differing_text : Style → (before now : Announcement) → List ℕ
+differing_text style before now =
     unless_same (is_same_address before.next_hop now.next_hop) (codes " via ")
-    (address_text spelling before.next_hop)
+    (named_address style before.next_hop)
     ++ unless_same (bytes_eq before.router_id now.router_id) (codes " id ")
-    (encode_lower before.router_id)
+    (named_router style before.router_id)
     ++ unless_same (before.seqno == now.seqno) (codes " seqno ") (decimal before.seqno)
     ++ unless_same (before.metric == now.metric) (codes " metric ") (decimal before.metric)
 
 -- ` was`, and of what was held the fields that are others now, where something else was held
-abbrev pub was_text : Spelling → ChangeKind → List ℕ
-was_text spelling (kinds.Changed before now) = codes " was" ++ differing_text spelling before now
-was_text spelling kind = []
+abbrev pub was_text : Style → ChangeKind → List ℕ
+was_text style (kinds.Changed before now) = codes " was" ++ differing_text style before now
+was_text style kind = []
 
 -- ` DST from SRC via NEXTHOP id ROUTERID seqno N metric N`, of the route that answers, or ` none`
-abbrev pub best_text : Spelling → View → Option BestMatch → List ℕ
-best_text spelling view None = codes " none"
-best_text spelling view (Some best) =
-    key_text spelling best.key ++ after_text spelling view (Some best.ann)
+abbrev pub best_text : Style → View → Option BestMatch → List ℕ
+best_text style view None = codes " none"
+best_text style view (Some best) =
+    key_text style.spelling best.key ++ after_text style view (Some best.ann)
 
 -- ` since TIME, holding N routes`
 abbrev pub silence_text : (since routes : ℕ) → List ℕ
@@ -148,36 +150,36 @@ silence_text since routes = codes " since " ++ time_or (within_years since) ++ c
 -- of a change ` DST from SRC`, what is held after it, and what was before; of an answer the route
 -- that answers; of whom something is requested, and what; of who falls silent since when, and what it
 -- holds; of who returns nothing
-abbrev pub told_text : Spelling → View → Telling Speaker → List ℕ
-told_text spelling view (tellings.Change change) =
-    key_text spelling change.subject.key ++ after_text spelling view (held_after change.kind)
-    ++ was_text spelling change.kind
-told_text spelling view (tellings.Answer time sender answer before) =
-    best_text spelling view answer
-told_text spelling view (tellings.Request time sender to request) =
-    to_text spelling to ++ request_text spelling request
-told_text spelling view (tellings.Silent time sender since routes) = silence_text since routes
-told_text spelling view (tellings.Returns time sender) = []
+abbrev pub told_text : Style → View → Telling Speaker → List ℕ
+told_text style view (tellings.Change change) =
+    key_text style.spelling change.subject.key ++ after_text style view (held_after change.kind)
+    ++ was_text style change.kind
+told_text style view (tellings.Answer time sender answer before) =
+    best_text style view answer
+told_text style view (tellings.Request time sender to request) =
+    to_text style.spelling to ++ request_text style request
+told_text style view (tellings.Silent time sender since routes) = silence_text since routes
+told_text style view (tellings.Returns time sender) = []
 
 -- ` link N vlan N.N VERB `, and what is told
-abbrev pub event_end : Spelling → View → Telling Speaker → List ℕ
-event_end spelling view told =
+abbrev pub event_end : Style → View → Telling Speaker → List ℕ
+event_end style view told =
     link_text (speaker_of told).place.link ++ vlans_text (speaker_of told).place.vlans
-    ++ codes " " ++ verb told ++ told_text spelling view told ++ newline
+    ++ codes " " ++ verb told ++ told_text style view told ++ newline
 
 -- `TIME ADDRESS interface N (NAME) link N vlan N.N VERB DST from SRC via NEXTHOP ..`, or
 -- `TIME ADDRESS interface N (NAME) link N vlan N.N answers none`
-abbrev pub event_line : Spelling → View → (name : List ℕ) → Telling Speaker → List ℕ
-event_line spelling view name told =
-    event_front spelling name told ++ name_text name ++ event_end spelling view told
+abbrev pub event_line : Style → View → (name : List ℕ) → Telling Speaker → List ℕ
+event_line style view name told =
+    event_front style name told ++ name_text name ++ event_end style view told
 
 -- ---- JSON
 
 -- `{"time":"TIME","sender":"ADDRESS","interface":N,"link":N,"vlans":[N,N],"name":`
-abbrev pub event_front_json : Spelling → Telling Speaker → List ℕ
-event_front_json spelling told =
-    codes "{\"time\":" ++ time_json (within_years (time_of told)) ++ codes ",\"sender\":\""
-    ++ address_text spelling (speaker_of told).sender ++ place_json (speaker_of told).place
+abbrev pub event_front_json : Style → Telling Speaker → List ℕ
+event_front_json style told =
+    codes "{\"time\":" ++ time_json (within_years (time_of told)) ++ codes ",\"sender\":"
+    ++ named_sender style (speaker_of told).sender ++ place_json (speaker_of told).place
 
 -- `"destination":"DST","source":"SRC"`, of a change two prefixes, of an answer the two addresses
 -- that are asked for
@@ -193,10 +195,10 @@ route_json spelling (Some best) =
     codes ",\"route\":{" ++ key_json spelling best.key ++ codes "}"
 
 -- `,"answer":ANSWER,"before":ANSWER`
-abbrev pub answers_json : Spelling → View → Telling Speaker → List ℕ
-answers_json spelling view told =
-    codes ",\"answer\":" ++ answer_json spelling view (held_from told)
-    ++ codes ",\"before\":" ++ answer_json spelling view (held_until told)
+abbrev pub answers_json : Style → View → Telling Speaker → List ℕ
+answers_json style view told =
+    codes ",\"answer\":" ++ answer_json style view (held_from told)
+    ++ codes ",\"before\":" ++ answer_json style view (held_until told)
 
 -- `,"since":"TIME","routes":N`
 abbrev pub silence_json : (since routes : ℕ) → List ℕ
@@ -205,35 +207,35 @@ silence_json since routes =
 
 -- of a change and an answer, of what it is and these two, before which an answer has its route; of a
 -- request, of whom, and what; of who falls silent these two; of who returns nothing
-abbrev pub told_json : Spelling → View → Option AddrPair → Telling Speaker → List ℕ
-told_json spelling view pair (tellings.Change change) =
-    codes "," ++ addressed_json (prefix_text spelling change.subject.key.dst)
-    (prefix_text spelling change.subject.key.src)
-    ++ answers_json spelling view (tellings.Change change)
-told_json spelling view pair (tellings.Answer time sender answer before) =
-    codes "," ++ asked_json spelling pair ++ route_json spelling answer
-    ++ answers_json spelling view (tellings.Answer time sender answer before)
-told_json spelling view pair (tellings.Request time sender to request) =
-    codes "," ++ to_json spelling to ++ request_json spelling request
-told_json spelling view pair (tellings.Silent time sender since routes) = silence_json since routes
-told_json spelling view pair (tellings.Returns time sender) = []
+abbrev pub told_json : Style → View → Option AddrPair → Telling Speaker → List ℕ
+told_json style view pair (tellings.Change change) =
+    codes "," ++ addressed_json (prefix_text style.spelling change.subject.key.dst)
+    (prefix_text style.spelling change.subject.key.src)
+    ++ answers_json style view (tellings.Change change)
+told_json style view pair (tellings.Answer time sender answer before) =
+    codes "," ++ asked_json style.spelling pair ++ route_json style.spelling answer
+    ++ answers_json style view (tellings.Answer time sender answer before)
+told_json style view pair (tellings.Request time sender to request) =
+    codes "," ++ to_json style.spelling to ++ request_json style request
+told_json style view pair (tellings.Silent time sender since routes) = silence_json since routes
+told_json style view pair (tellings.Returns time sender) = []
 
 -- `,"event":"VERB"`, what is told, and `}`: of a change, say, `"destination":"DST","source":"SRC",
 -- "answer":ANSWER,"before":ANSWER`
-abbrev pub event_end_json : Spelling → View → Option AddrPair → Telling Speaker → List ℕ
-event_end_json spelling view pair told =
-    codes ",\"event\":\"" ++ verb told ++ codes "\"" ++ told_json spelling view pair told
+abbrev pub event_end_json : Style → View → Option AddrPair → Telling Speaker → List ℕ
+event_end_json style view pair told =
+    codes ",\"event\":\"" ++ verb told ++ codes "\"" ++ told_json style view pair told
     ++ codes "}" ++ newline
 
 -- `{"time":"TIME","sender":"ADDRESS","interface":N,"link":N,"vlans":[N,N],"name":"NAME"`, and then
 -- `,"event":"VERB","destination":"DST","source":"SRC","answer":ANSWER,"before":ANSWER}`
 abbrev pub event_json :
-    Spelling → View → Option AddrPair → (name : List ℕ) → Telling Speaker → List ℕ
-event_json spelling view pair name told =
-    event_front_json spelling told ++ name_json name ++ event_end_json spelling view pair told
+    Style → View → Option AddrPair → (name : List ℕ) → Telling Speaker → List ℕ
+event_json style view pair name told =
+    event_front_json style told ++ name_json name ++ event_end_json style view pair told
 
 -- ---- the line, where the interface has this name, and these addresses are asked for, if any
 abbrev pub event_in :
     Format → View → Option AddrPair → (name : List ℕ) → Telling Speaker → List ℕ
-event_in (formats.Text spelling) view pair name told = event_line spelling view name told
-event_in (formats.Json spelling) view pair name told = event_json spelling view pair name told
+event_in (formats.Text style) view pair name told = event_line style view name told
+event_in (formats.Json style) view pair name told = event_json style view pair name told

@@ -2,7 +2,6 @@
 use Rattle.std.specs.Prelude.{ℕ, ◌≡◌, ◌≢◌, ◌^◌, ◌+◌, ◌<◌, ◌≤◌, ◌⊎◌, true, false, List, [], ◌∷◌}
 use Rattle.std.specs.Prelude.{◌++◌, Contains, None, Option, Some, Err, length, map}
 use Rattle.std.specs.List.{AllByRecursion, flat_map}
-use Rattle.std.specs.Map.{keys_of}
 use Rattle.std.specs.Option.{is_some}
 use Rattle.babel_capture.specs.Capture.{CaptureFault, IsReadToCut}
 use Rattle.babel_capture.specs.Counts.{Counts, Made}
@@ -32,6 +31,7 @@ use Rattle.babel_dump.specs.CaptureGiven.{IsFaultOfCapture, capture_from, made_i
 use Rattle.babel_dump.specs.Device.{Gave, InputState}
 use Rattle.babel_dump.specs.EventsRun.{HaveTold, IsHeardSender, IsReportOf, asked_by, followed_by}
 use Rattle.babel_dump.specs.EventsRun.{followed_extent, packets_heard, speaker_at}
+use Rattle.babel_dump.specs.FollowedSenders.{followed, senders_followed, with_packets}
 use Rattle.babel_dump.specs.LeftOut.{first_left_out}
 use Rattle.babel_dump.specs.Run.{Output}
 use Rattle.babel_dump.specs.Speakers.{speaker_cmp}
@@ -159,14 +159,15 @@ reading_by events = record {
   strict = events.strict;
 }
 
--- a record of the capture with which these octets begin is refused for this
+-- a record of the capture with which these octets begin, as far as its sender is followed, is
+-- refused for this
 pub record RefusesRecord (events : Events) (octets : List ℕ) (trouble : Trouble) : Type 0 where
   pub made : List Made
   pub begins : BeginsWith (reading_by events) (followed_by events) octets made
   pub front : List Made
   pub one : Made
   pub back : List Made
-  pub are : made ≡ front ++ one ∷ back
+  pub are : followed made ≡ front ++ one ∷ back
   pub refused : IsRefused events front one trouble
 
 -- the last moment of a window, if it names one
@@ -196,13 +197,13 @@ IsUnreadIn counts senders (troubles.Sender side origin name fault) =
     × IsNotReadWhole None heard.report fault
 IsUnreadIn counts senders trouble = ⊥
 
--- it is told so of these records and of their senders, which are read strictly
+-- it is told so of these records and of the senders that are followed, which are read strictly
 pub record IsUnread (events : Events) (made : List Made) (gathering : Gathering) (trouble : Trouble)
     : Type 0 where
   pub strict : events.strict ≡ true
   pub senders : List HeardSender
-  pub are : map (λ heard. heard.origin) senders ≡ keys_of gathering.senders
-  pub heard : AllByRecursion (IsHeardSender events made gathering) senders
+  pub are : map (λ heard. heard.origin) senders ≡ with_packets (senders_followed made)
+  pub heard : AllByRecursion (IsHeardSender events (followed made) gathering) senders
   pub unread : IsUnreadIn gathering.report senders trouble
 
 -- ---- causes
@@ -247,6 +248,10 @@ RefusesWhole events octets fault =
     CaptureFault (followed_extent events) (followed_by events) octets fault
     × (events.accept_cut ≡ true → fault ≡ capture_faults.NotCapture)
 
+-- of those who are followed none has a packet among these records
+abbrev pub HasNoPackets : List Made → Type 0
+HasNoPackets made = with_packets (senders_followed made) ≡ []
+
 -- these octets are all of a capture, and this is what its packets give
 pub record IsWhole (events : Events) (octets : List ℕ) (gathering : Gathering) : Type 0 where
   pub cut : Option ℕ
@@ -254,10 +259,11 @@ pub record IsWhole (events : Events) (octets : List ℕ) (gathering : Gathering)
   pub accepted : IsAccepted events.accept_cut cut
   pub wanted : gathering.wanted ≡ followed_by events
 
--- without a packet of those who are wanted
+-- without a packet of those who are followed
 abbrev pub HasNobody : Events → List ℕ → Type 0
 HasNobody events octets =
-    (gathering : Gathering) × IsWhole events octets gathering × (gathering.senders ≡ [])
+    (gathering : Gathering) × (whole : IsWhole events octets gathering)
+    × HasNoPackets whole.is_read.is_read.gathered.made
 
 -- with what is not read, which is told
 abbrev pub HasUnread : Events → List ℕ → Trouble → Type 0
@@ -271,10 +277,11 @@ HasUnread events octets trouble =
 abbrev pub events_input : Events → (old new : InputState) → CaptureInput
 events_input events old new = capture_from old new (reading_by events) (followed_by events)
 
--- the reader gave a capture without a packet of those who are wanted
+-- the reader gave a capture without a packet of those who are followed
 abbrev pub GaveNobody : CaptureInput → Type 0
-GaveNobody reader = (gathering : Gathering) × (cut : Option ℕ) × GaveCapture reader gathering cut
-    × (gathering.senders ≡ [])
+GaveNobody reader =
+    (gathering : Gathering) × (cut : Option ℕ) × (gave : GaveCapture reader gathering cut)
+    × HasNoPackets (made_in gave)
 
 -- it gave octets of which it is told so; or all that it had is not read whole
 abbrev pub GaveRefused : Events → CaptureInput → Trouble → Type 0

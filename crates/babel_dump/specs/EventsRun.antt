@@ -42,10 +42,10 @@ use Rattle.babel_timeline.specs.Rows.{AllLast, Rows}
 use Rattle.babel_timeline.specs.SilencesTold.{TellsWhoIsSilent, hellos_heard, watches}
 use Rattle.babel_timeline.specs.Telling.{AreAnswers, AreLastSaid, AskedFor, answered, of_rows, said_of}
 use Rattle.babel_dump.specs.CaptureRun.{IsOutcomeOf}
-use Rattle.babel_dump.specs.CaptureText.{senders_status}
 use Rattle.babel_dump.specs.Device.{GaveOctets, InputState}
 use Rattle.babel_dump.specs.EventText.{event_in, speaker_of}
 use Rattle.babel_dump.specs.Filter.{if_asked, keeps_key}
+use Rattle.babel_dump.specs.FollowedSenders.{followed, senders_followed, with_packets}
 use Rattle.babel_dump.specs.LeftOut.{LeavesNoneOut}
 use Rattle.babel_dump.specs.declared.filter.Filter.{Filter}
 use Rattle.std.specs.Str.{bytes_eq}
@@ -65,9 +65,11 @@ abbrev pub followed_extent : Events → Extent
 followed_extent events =
     record { octets = 2 ^ 62; window = events.window; to_cut = events.accept_cut }
 
--- whose datagrams are wanted, as they come
+-- Whose datagrams are wanted, as they come. Where a capture is read strictly, one sender more than
+-- 65,536 is a fault.
 abbrev pub followed_by : Events → Wanted
-followed_by events = record { sender = events.sender; place = events.place }
+followed_by events =
+    record { sender = events.sender; place = events.place; are_listed = events.strict }
 
 abbrev pub asked_by : Events → AskedFor
 asked_by events = option_map (λ (pair : AddrPair). (pair.dst, pair.src)) events.pair
@@ -307,6 +309,11 @@ IsHeardSender events made gathering heard =
     (heard.name.items ≡ name_of gathering heard.origin.place.interface)
     × IsReportOf events made (speaker_at heard.origin) heard.report
 
+-- 1 where there is no sender
+abbrev pub heard_status : List HeardSender → ℕ
+heard_status [] = 1
+heard_status (heard ∷ others) = 0
+
 -- no datagram of the capture was left out; of none of these senders a TLV was ignored, and each has
 -- an Update
 abbrev pub AreReadWhole : Counts → List HeardSender → Type 0
@@ -378,11 +385,12 @@ moment_read events blocks gathering =
     moment_up_to events.window (context_behind (start (followed_extent events)) blocks).start
     gathering.report.timing.latest
 
--- The octets are a capture, whose records told what they say, one after another; and then all that
--- ends by the moment that it was read to is told. At each time exactly those senders are told to be
--- silent that are. Of it, and of what each record requests, if that is asked for, this is written: what
--- is told of the moment or later that is asked for, behind the answers just before it; of a sender
--- nothing more once a datagram of it was left out that lacks something. The answer is of what was read.
+-- The octets are a capture. Its records, as far as their senders are followed, told what they say,
+-- one after another; and then all that ends by the moment that it was read to is told. At each time
+-- exactly those senders are told to be silent that are. Of it, and of what each record requests, if
+-- that is asked for, this is written: what is told of the moment or later that is asked for, behind
+-- the answers just before it; of a sender nothing more once a datagram of it was left out that lacks
+-- something. The answer is of what was read.
 pub record TellsCapture (events : Events) (octets : List ℕ) (written : List (Telling Speaker))
     (answer : EventsOutcome) : Type 0 where
   pub gathering : Gathering
@@ -391,7 +399,7 @@ pub record TellsCapture (events : Events) (octets : List ℕ) (written : List (T
   pub wanted : gathering.wanted ≡ followed_by events
   pub accepted : events.accept_cut ≡ false → cut ≡ None
   pub steps : List Step
-  pub are_made : made_in steps ≡ is_read.is_read.gathered.made
+  pub are_made : made_in steps ≡ followed is_read.is_read.gathered.made
   pub each : (front back : List Step) → steps ≡ front ++ back → HaveToldSo events front
   pub opens : (front back : List Step) (step : Step) → steps ≡ front ++ step ∷ back
       → OpensRightly events front step
@@ -415,9 +423,10 @@ pub record TellsCapture (events : Events) (octets : List ℕ) (written : List (T
       (made_in steps) (told_in steps ++ ended) opening
   pub written_is : written ≡ written_in events [] steps
       ++ unlost (made_in steps) (opening ++ told_from (since_in events.since (made_in steps)) ended)
-  pub senders : map (λ heard. heard.origin) answer.senders.items ≡ keys_of gathering.senders
+  pub senders : map (λ heard. heard.origin) answer.senders.items
+      ≡ with_packets (senders_followed is_read.is_read.gathered.made)
   pub heard : AllByRecursion (IsHeardSender events (made_in steps) gathering) answer.senders.items
-  pub outcome_is : IsOutcomeOf answer.outcome (senders_status gathering.senders) gathering.report cut
+  pub outcome_is : IsOutcomeOf answer.outcome (heard_status answer.senders.items) gathering.report cut
   pub whole : events.strict ≡ true → AreReadWhole gathering.report answer.senders.items
 
 -- A run of `events` that ends well: the reader gave a capture, all that it had, and the writer took

@@ -37,6 +37,7 @@ use Rattle.babel_dump.specs.EventsRun.{Opens, OpensRightly, first_time, has_come
 use Rattle.babel_dump.specs.EventsRun.{since_at, since_in, speaker_at, told_early, told_from}
 use Rattle.babel_dump.specs.EventsRun.{told_in}
 use Rattle.babel_dump.specs.EventsRun.{written_in}
+use Rattle.babel_dump.specs.FollowedSenders.{followed, followed_of, senders_followed}
 use Rattle.babel_dump.specs.Run.{Output}
 use Rattle.babel_dump.specs.Speakers.{speaker_cmp}
 use Rattle.babel_dump.specs.StrictPackets.{IsReadTo, IsReadWholly}
@@ -151,6 +152,19 @@ HearsTold events told old new =
     (made : List Made) (one : Made) (before : List (Telling Speaker)) → IsTold one told
     → HasHeard events made (before ++ old.told.items) old.hearing
     → HasHeard events (made ++ one ∷ []) (before ++ new.told.items) new.hearing
+
+-- of these records those of senders that are followed were heard, and this is to be written of what
+-- they told
+abbrev pub HasHeardFollowed : Events → List Made → List (Telling Speaker) → Follower → Type 0
+HasHeardFollowed events made written follower =
+    (follower.senders.senders.entries ≡ senders_followed made)
+    × HasHeard events (followed made) (written ++ follower.told.items) follower.hearing
+
+-- now also of this record
+abbrev pub HearsFollowed : Events → Record → Follower → Follower → Type 0
+HearsFollowed events told old new =
+    (made : List Made) (one : Made) (before : List (Telling Speaker)) → IsTold one told
+    → HasHeardFollowed events made before old → HasHeardFollowed events (made ++ one ∷ []) before new
 
 -- how many octets of the packets of a sender were heard
 abbrev pub octets_before : Follower → Origin → ℕ
@@ -279,12 +293,20 @@ trouble_of (stops.LeftOut datagram) =
 trouble_of (stops.Ignored origin tlv ignores_4) =
     troubles.Sender sides.First origin None (input_faults.Ignored tlv ignores_4)
 
--- of these records those before one were heard, for which no more is, unless memory ran out
+-- no more is heard than this record, as far as its sender is followed, unless memory ran out
+abbrev pub StopsFollowed : Events → Record → Follower → Stop → Type 0
+StopsFollowed events told old stop =
+    (made : List Made) (one : Made) (before : List (Telling Speaker)) → IsTold one told
+    → HasHeardFollowed events made before old → stop ≢ stops.Unheard unheard.Memory
+    → IsRefused events (followed made) (followed_of (senders_followed made) one) (trouble_of stop)
+
+-- of these records, as far as their senders are followed, those before one were heard, for which no
+-- more is, unless memory ran out
 pub record HasStopped (events : Events) (made : List Made) (stop : Stop) : Type 0 where
   pub front : List Made
   pub one : Made
   pub back : List Made
-  pub are : made ≡ front ++ one ∷ back
+  pub are : followed made ≡ front ++ one ∷ back
   pub refused : stop ≢ stops.Unheard unheard.Memory → IsRefused events front one (trouble_of stop)
 
 -- these records made the second of the first: of what they told this is to be written besides
@@ -293,19 +315,19 @@ abbrev pub Follows : Follower → Follower → List Made → Type 0
 Follows start now made =
     (now.events.now ≡ start.events.now) × (now.fault ≡ None → (start.fault ≡ None)
     × ((before : List Made) (written : List (Telling Speaker))
-    → HasHeard start.events.now before (written ++ start.told.items) start.hearing
-    → HasHeard start.events.now (before ++ made) (written ++ now.told.items) now.hearing))
+    → HasHeardFollowed start.events.now before written start
+    → HasHeardFollowed start.events.now (before ++ made) written now))
     × ((stop : Stop) → now.fault ≡ Some stop → start.fault ≡ None
     → (before : List Made) (written : List (Telling Speaker))
-    → HasHeard start.events.now before (written ++ start.told.items) start.hearing
+    → HasHeardFollowed start.events.now before written start
     → HasStopped start.events.now (before ++ made) stop)
 
 -- of what is told now, that of senders that are not lost
 abbrev pub unlost_by : BTreeSet Speaker → List (Telling Speaker) → List (Telling Speaker)
 unlost_by lost told = filter (λ one. not (contains speaker_cmp lost (speaker_of one))) told
 
--- of the capture these octets were read, all of its records that are whole were heard, and this was
--- written before what is told and not written yet
+-- of the capture these octets were read, its records that are whole were heard as far as their senders
+-- are followed, and this was written before what is told and not written yet
 pub record IsFollowed (events : Events) (fed : List ℕ) (written : List (Telling Speaker))
     (followed : Followed) : Type 0 where
   pub read : HasTaken (followed_extent events)
@@ -315,8 +337,7 @@ pub record IsFollowed (events : Events) (fed : List ℕ) (written : List (Tellin
   pub wanted : followed.capture.progress.gathering.wanted ≡ followed_by events
   pub events_are : followed.follower.events.now ≡ events
   pub sound : followed.follower.fault ≡ None
-  pub has_heard : HasHeard events read.leads.gathered.made (written ++ followed.follower.told.items)
-      followed.follower.hearing
+  pub has_heard : HasHeardFollowed events read.leads.gathered.made written followed.follower
 
 -- the line of what is told, with the name of its interface, if the filter keeps it
 abbrev pub named_event : Events → Gathering → Telling Speaker → List ℕ

@@ -87,7 +87,8 @@ capture_reading_of reading = record {
 }
 
 abbrev pub wanted_by : Reading → Wanted
-wanted_by reading = record { sender = Some reading.sender; place = reading.place }
+wanted_by reading =
+    record { sender = Some reading.sender; place = reading.place; are_listed = true }
 
 -- a reader of a dump, as one of a capture that has it
 abbrev pub capture_with : Input → CaptureInput

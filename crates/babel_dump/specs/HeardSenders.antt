@@ -2,7 +2,6 @@
 use Rattle.std.specs.Prelude.{ℕ, List}
 use Rattle.babel_capture.specs.Gathering.{name_of}
 use Rattle.babel_capture.specs.declared.tallies.Origin.{Origin}
-use Rattle.babel_capture.specs.declared.tallies.Tally.{Tally}
 use Rattle.babel_table.specs.Counts.{Counts}
 use Rattle.babel_timeline.specs.Hearing.{report_of}
 use Rattle.babel_dump.specs.Speakers.{speaker_cmp}
@@ -20,6 +19,3 @@ heard_of followed origin = (
   report_of speaker_cmp followed.follower.hearing.teller.heard.entries
       (record { sender = origin.sender; place = origin.place }),
 )
-
-abbrev pub sender_heard : Followed → Origin × Tally → Origin × List ℕ × Counts
-sender_heard followed entry = heard_of followed entry.0

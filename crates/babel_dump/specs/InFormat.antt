@@ -24,12 +24,12 @@ use Rattle.babel_dump.specs.declared.job.Listed.TheVariants as listeds
 
 -- the text, or the JSON that says the same
 abbrev pub in_format : Format → (text json : List ℕ) → List ℕ
-in_format (formats.Text spelling) text json = text
-in_format (formats.Json spelling) text json = json
+in_format (formats.Text style) text json = text
+in_format (formats.Json style) text json = json
 
 abbrev pub line_in : Format → View → RouteKey × Held → List ℕ
-line_in (formats.Text spelling) view pair = pair_line spelling view pair
-line_in (formats.Json spelling) view pair = pair_json spelling view pair
+line_in (formats.Text style) view pair = pair_line style view pair
+line_in (formats.Json style) view pair = pair_json style view pair
 
 -- a line for each pair
 abbrev pub pairs_in : Format → View → List (RouteKey × Held) → List ℕ
@@ -57,31 +57,34 @@ show_in format table = pairs_in format keeps_all table.rows ++ report_in format 
 
 -- what is answered for a destination and a source by this row
 abbrev pub lookup_in : Format → (with_prefix : Bool) → (dst src : Address) → Option Pair → List ℕ
-lookup_in (formats.Text spelling) with_prefix dst src row =
-    row_text spelling with_prefix row ++ newline
-lookup_in (formats.Json spelling) with_prefix dst src row =
-    lookup_json spelling with_prefix dst src row
+lookup_in (formats.Text style) with_prefix dst src row =
+    row_text style with_prefix row ++ newline
+lookup_in (formats.Json style) with_prefix dst src row =
+    lookup_json style with_prefix dst src row
 
 abbrev pub answer_line_in :
     Format → (with_prefix : Bool) → (dst src : Address) → Option Pair → List ℕ
-answer_line_in (formats.Text spelling) with_prefix dst src row =
-    answer_line spelling with_prefix dst src row
-answer_line_in (formats.Json spelling) with_prefix dst src row =
-    lookup_json spelling with_prefix dst src row
+answer_line_in (formats.Text style) with_prefix dst src row =
+    answer_line style with_prefix dst src row
+answer_line_in (formats.Json style) with_prefix dst src row =
+    lookup_json style with_prefix dst src row
+
+-- the line of what a table answers for a pair of addresses
+abbrev pub pair_in : Format → (with_prefix : Bool) → Routes → AddrPair → List ℕ
+pair_in format with_prefix table pair =
+    answer_line_in format with_prefix pair.dst pair.src (row_in table pair.dst pair.src)
 
 -- a line for each pair of addresses
 abbrev pub each_in : Format → (with_prefix : Bool) → Routes → List AddrPair → List ℕ
-each_in format with_prefix table pairs = flat_map
-    (λ pair. answer_line_in format with_prefix pair.dst pair.src (row_in table pair.dst pair.src))
-    pairs
+each_in format with_prefix table pairs = flat_map (pair_in format with_prefix table) pairs
 
 abbrev pub verdict_in : Format → View → Verdict → List ℕ
-verdict_in (formats.Text spelling) view verdict = verdict_text spelling view verdict
-verdict_in (formats.Json spelling) view verdict = verdict_json spelling view verdict
+verdict_in (formats.Text style) view verdict = verdict_text style view verdict
+verdict_in (formats.Json style) view verdict = verdict_json style view verdict
 
 abbrev pub difference_in : Format → View → Difference → List ℕ
-difference_in (formats.Text spelling) view difference = difference_text spelling view difference
-difference_in (formats.Json spelling) view difference = difference_json spelling view difference
+difference_in (formats.Text style) view difference = difference_text style view difference
+difference_in (formats.Json style) view difference = difference_json style view difference
 
 -- `same` where there is no difference
 abbrev pub differences_in : Format → View → List Difference → List ℕ

@@ -19,9 +19,11 @@ use Rattle.babel_canon.specs.declared.verdict.Verdict.{Verdict}
 use Rattle.babel_canon.specs.declared.verdict.Verdict.TheVariants as verdicts
 use Rattle.babel_canon.specs.declared.every_difference.Difference.{Difference}
 use Rattle.babel_dump.specs.Ignored.{ignored_for}
+use Rattle.babel_dump.specs.Names.{address_name, name_member, router_name}
 use Rattle.babel_dump.specs.RunText.{newline, reason_name}
 use Rattle.babel_dump.specs.Spelling.{address_text, prefix_text}
 use Rattle.babel_dump.specs.declared.spelling.Spelling.{Spelling}
+use Rattle.babel_dump.specs.declared.style.Style.{Style}
 
 -- `"TEXT"`
 abbrev pub quoted : List ℕ → List ℕ
@@ -31,19 +33,34 @@ quoted text = codes "\"" ++ text ++ codes "\""
 abbrev pub kept_json : (kept : Bool) → List ℕ → List ℕ
 kept_json kept value = if kept then value else codes "null"
 
--- `{"next_hop":"ADDRESS","router_id":"ROUTERID","seqno":N,"metric":N}`
-abbrev pub announcement_json : Spelling → View → Announcement → List ℕ
-announcement_json spelling view ann =
-    codes "{\"next_hop\":" ++ kept_json view.next_hop (quoted (address_text spelling ann.next_hop))
-    ++ codes ",\"router_id\":" ++ kept_json view.router_id (quoted (encode_lower ann.router_id))
+-- `"ADDRESS","next_hop_name":"NAME"`, or nulls where the next hop is ignored
+abbrev pub next_hop_json : Style → (kept : Bool) → Address → List ℕ
+next_hop_json style kept next_hop =
+    if kept then quoted (address_text style.spelling next_hop)
+    ++ name_member style (codes "next_hop_name") (address_name style next_hop)
+    else codes "null" ++ name_member style (codes "next_hop_name") []
+
+-- `"ROUTERID","router_name":"NAME"`, or nulls where the router-id is ignored
+abbrev pub router_json : Style → (kept : Bool) → (router_id : List ℕ) → List ℕ
+router_json style kept router_id =
+    if kept then quoted (encode_lower router_id)
+    ++ name_member style (codes "router_name") (router_name style router_id)
+    else codes "null" ++ name_member style (codes "router_name") []
+
+-- `{"next_hop":"ADDRESS","next_hop_name":"NAME","router_id":"ROUTERID","router_name":"NAME",
+-- "seqno":N,"metric":N}`, with the names where they are asked for
+abbrev pub announcement_json : Style → View → Announcement → List ℕ
+announcement_json style view ann =
+    codes "{\"next_hop\":" ++ next_hop_json style view.next_hop ann.next_hop
+    ++ codes ",\"router_id\":" ++ router_json style view.router_id ann.router_id
     ++ codes ",\"seqno\":" ++ kept_json view.seqno (decimal ann.seqno)
     ++ codes ",\"metric\":" ++ kept_json view.metric (decimal ann.metric) ++ codes "}"
 
 -- the announcement, `{"unreachable":true}`, or `null`
-abbrev pub answer_json : Spelling → View → Option Held → List ℕ
-answer_json spelling view None = codes "null"
-answer_json spelling view (Some (helds.Route ann)) = announcement_json spelling view ann
-answer_json spelling view (Some helds.Unreachable) = codes "{\"unreachable\":true}"
+abbrev pub answer_json : Style → View → Option Held → List ℕ
+answer_json style view None = codes "null"
+answer_json style view (Some (helds.Route ann)) = announcement_json style view ann
+answer_json style view (Some helds.Unreachable) = codes "{\"unreachable\":true}"
 
 -- `"destination":"DST","source":"SRC"`, of their texts
 abbrev pub addressed_json : (dst src : List ℕ) → List ℕ
@@ -51,19 +68,19 @@ addressed_json dst src =
     codes "\"destination\":\"" ++ dst ++ codes "\",\"source\":\"" ++ src ++ codes "\""
 
 -- `{"destination":"DST","source":"SRC","answer":ANSWER`
-abbrev pub answered_front : Spelling → View → (dst src : List ℕ) → Option Held → List ℕ
-answered_front spelling view dst src answer =
-    codes "{" ++ addressed_json dst src ++ codes ",\"answer\":" ++ answer_json spelling view answer
+abbrev pub answered_front : Style → View → (dst src : List ℕ) → Option Held → List ℕ
+answered_front style view dst src answer =
+    codes "{" ++ addressed_json dst src ++ codes ",\"answer\":" ++ answer_json style view answer
 
 -- the end of an object on a line of its own
 abbrev pub line_end : List ℕ
 line_end = codes "}" ++ newline
 
 -- `{"destination":"DST","source":"SRC","answer":ANSWER}`
-abbrev pub pair_json : Spelling → View → RouteKey × Held → List ℕ
-pair_json spelling view pair =
-    answered_front spelling view (prefix_text spelling pair.0.dst) (prefix_text spelling pair.0.src)
-    (Some pair.1) ++ line_end
+abbrev pub pair_json : Style → View → RouteKey × Held → List ℕ
+pair_json style view pair =
+    answered_front style view (prefix_text style.spelling pair.0.dst)
+    (prefix_text style.spelling pair.0.src) (Some pair.1) ++ line_end
 
 -- `{"destination":"DST","source":"SRC"}`, the prefixes of the row, or `null`
 abbrev pub route_json : Spelling → Option Pair → List ℕ
@@ -79,10 +96,11 @@ route_member spelling with_prefix row =
 
 -- the same of a lookup, with the member for the row that answers
 abbrev pub lookup_json :
-    Spelling → (with_prefix : Bool) → (dst src : Address) → Option Pair → List ℕ
-lookup_json spelling with_prefix dst src row =
-    answered_front spelling keeps_all (address_text spelling dst) (address_text spelling src)
-    (held_of row) ++ route_member spelling with_prefix row ++ line_end
+    Style → (with_prefix : Bool) → (dst src : Address) → Option Pair → List ℕ
+lookup_json style with_prefix dst src row =
+    answered_front style keeps_all (address_text style.spelling dst)
+    (address_text style.spelling src) (held_of row)
+    ++ route_member style.spelling with_prefix row ++ line_end
 
 -- `{"routes":N,"pairs":N}`
 abbrev pub counts_json : ℕ → ℕ → List ℕ
@@ -124,23 +142,24 @@ same_json = codes "{\"same\":true}" ++ newline
 
 -- `{"same":false,"destination":"DST","source":"SRC","left":ANSWER,"right":ANSWER}`, of two texts
 abbrev pub differ_json :
-    Spelling → View → (dst src : List ℕ) → (left right : Option Held) → List ℕ
-differ_json spelling view dst src left right =
+    Style → View → (dst src : List ℕ) → (left right : Option Held) → List ℕ
+differ_json style view dst src left right =
     codes "{\"same\":false," ++ addressed_json dst src
-    ++ codes ",\"left\":" ++ answer_json spelling view left
-    ++ codes ",\"right\":" ++ answer_json spelling view right ++ codes "}" ++ newline
+    ++ codes ",\"left\":" ++ answer_json style view left
+    ++ codes ",\"right\":" ++ answer_json style view right ++ codes "}" ++ newline
 
 -- the line of a verdict, of two addresses
-abbrev pub verdict_json : Spelling → View → Verdict → List ℕ
-verdict_json spelling view verdicts.Same = same_json
-verdict_json spelling view (verdicts.Differ dst src left right) =
-    differ_json spelling view (address_text spelling dst) (address_text spelling src) left right
+abbrev pub verdict_json : Style → View → Verdict → List ℕ
+verdict_json style view verdicts.Same = same_json
+verdict_json style view (verdicts.Differ dst src left right) =
+    differ_json style view (address_text style.spelling dst) (address_text style.spelling src)
+    left right
 
 -- the line of a difference, of two prefixes
-abbrev pub difference_json : Spelling → View → Difference → List ℕ
-difference_json spelling view difference =
-    differ_json spelling view (prefix_text spelling difference.key.dst)
-    (prefix_text spelling difference.key.src) difference.left difference.right
+abbrev pub difference_json : Style → View → Difference → List ℕ
+difference_json style view difference =
+    differ_json style view (prefix_text style.spelling difference.key.dst)
+    (prefix_text style.spelling difference.key.src) difference.left difference.right
 
 -- `{"NAME":N}`
 abbrev pub count_json : List ℕ → ℕ → List ℕ

@@ -1,7 +1,7 @@
 -- The sender that alone announces in a capture, whose dump is read where there is no `--from`. It is
 -- this project's own.
 use Rattle.std.specs.Prelude.{ℕ, ◌≡◌, ◌≢◌, is_some, if◌then◌else◌, List, [], ◌∷◌, ◌++◌, codes}
-use Rattle.std.specs.Prelude.{Option, None, Some}
+use Rattle.std.specs.Prelude.{Option, None, Some, true}
 use Rattle.std.specs.Io.KnownBytes.{Keeps}
 use Rattle.std.specs.List.{flat_map}
 use Rattle.babel_capture.specs.Gathering.{Gathering, name_of}
@@ -9,14 +9,16 @@ use Rattle.babel_capture.specs.declared.tallies.Origin.{Origin}
 use Rattle.babel_capture.specs.declared.tallies.Tally.{Tally}
 use Rattle.babel_dump.specs.Begun.{BeginsSo}
 use Rattle.babel_dump.specs.CaptureGiven.{CaptureInput, GaveSound, capture_from}
-use Rattle.babel_dump.specs.CaptureText.{name_json, place_json}
+use Rattle.babel_dump.specs.CaptureText.{place_json}
+use Rattle.babel_dump.specs.JsonText.{quoted}
+use Rattle.babel_dump.specs.NameText.{name_json}
+use Rattle.babel_dump.specs.Names.{style_of}
 use Rattle.babel_dump.specs.Given.{Reads}
 use Rattle.babel_dump.specs.RunText.{newline}
 use Rattle.babel_dump.specs.Spelling.{address_text}
 use Rattle.babel_dump.specs.declared.begun.Begins.{Begins}
 use Rattle.babel_dump.specs.declared.begun.Begins.TheVariants as beginnings
 use Rattle.babel_dump.specs.declared.format.Format.{Format}
-use Rattle.babel_dump.specs.declared.format.Format.TheVariants as formats
 use Rattle.babel_dump.specs.declared.job.CaptureTask.{CaptureTask}
 use Rattle.babel_dump.specs.declared.job.CaptureTask.TheVariants as capture_tasks
 use Rattle.babel_dump.specs.declared.job.DumpSource.{DumpSource}
@@ -34,13 +36,12 @@ announcing = flat_map (λ entry. if is_some entry.1.interval then entry.0 ∷ []
 -- `{"note":"from","sender":"ADDRESS","interface":N,"link":N,"vlans":[N,N],"name":"NAME"}`
 abbrev pub from_note : Spelling → Origin → (name : List ℕ) → List ℕ
 from_note spelling origin name =
-    codes "{\"note\":\"from\",\"sender\":\"" ++ address_text spelling origin.sender
+    codes "{\"note\":\"from\",\"sender\":" ++ quoted (address_text spelling origin.sender)
     ++ place_json origin.place ++ name_json name ++ codes "}" ++ newline
 
 -- how a format writes addresses
 abbrev pub spelling_of : Format → Spelling
-spelling_of (formats.Text spelling) = spelling
-spelling_of (formats.Json spelling) = spelling
+spelling_of format = (style_of format).spelling
 
 -- one alone announces, and is told so
 pub record IsLoneIn (spelling : Spelling) (gathering : Gathering) (lone : LoneSender) : Type 0 where
@@ -56,7 +57,7 @@ source_with origin source = record source
 abbrev pub task_with : Origin → CaptureTask → CaptureTask
 task_with origin (capture_tasks.Extract sender place hex) =
     capture_tasks.Extract origin.sender (Some origin.place) hex
-task_with origin capture_tasks.Senders = capture_tasks.Senders
+task_with origin task = task
 
 abbrev pub with_sender : Origin → Work → Work
 with_sender origin (works.Dump source task) = works.Dump (source_with origin source) task
@@ -68,7 +69,7 @@ with_sender origin work = work
 -- is; its dump is the one that is asked for
 abbrev pub lone_from : Lone → Reads → CaptureInput
 lone_from lone reader = capture_from reader.old reader.new lone.reading
-    (record { sender = None; place = lone.place })
+    (record { sender = None; place = lone.place; are_listed = true })
 
 pub record FoundLone (asked : Lone) (stream : Option (List ℕ)) (lone : Lone) : Type 0 where
   pub begins : Begins

@@ -5,7 +5,8 @@ use Rattle.std.specs.Fmt.{decimal}
 use Rattle.babel_prefix.specs.Address.{Address}
 use Rattle.babel_capture.specs.declared.tallies.Origin.{Origin}
 use Rattle.babel_table.specs.Counts.{Counts}
-use Rattle.babel_dump.specs.CaptureText.{name_json, place_json, seconds_text}
+use Rattle.babel_dump.specs.CaptureText.{place_json, seconds_text}
+use Rattle.babel_dump.specs.NameText.{name_json}
 use Rattle.babel_dump.specs.JsonText.{comma_separated, counted_objects, quoted, report_members}
 use Rattle.babel_dump.specs.LeftOut.{left_out_for, left_out_name, told_reasons}
 use Rattle.babel_dump.specs.RunText.{newline}
@@ -27,9 +28,11 @@ note_name (notes.Trailers packets) = codes "trailers"
 note_name (notes.CaptureCut at) = codes "capture-cut"
 note_name (notes.TooShort frames) = codes "too-short"
 note_name (notes.Backwards packet) = codes "backwards"
+note_name (notes.NotFollowed packet) = codes "not-followed"
 note_name (notes.ShortSpan span interval) = codes "short-span"
 note_name (notes.Expired routes) = codes "expired"
 note_name notes.NoUpdates = codes "no-updates"
+note_name notes.NoIhus = codes "no-ihus"
 note_name (notes.RoutesDiffer routes) = codes "routes-differ"
 note_name (notes.Source spelling source) = codes "source"
 
@@ -69,6 +72,7 @@ note_members (notes.Trailers packets) = number_member (codes "packets") packets
 note_members (notes.CaptureCut at) = number_member (codes "at") at
 note_members (notes.TooShort frames) = number_member (codes "frames") frames
 note_members (notes.Backwards packet) = number_member (codes "packet") packet
+note_members (notes.NotFollowed packet) = number_member (codes "packet") packet
 note_members (notes.ShortSpan span interval) =
     seconds_member (codes "span") span ++ seconds_member (codes "interval") interval
 note_members (notes.Expired routes) = number_member (codes "routes") routes
@@ -76,6 +80,7 @@ note_members (notes.RoutesDiffer routes) = number_member (codes "routes") routes
 note_members (notes.Source spelling source) = source_member spelling source
 note_members notes.Cooked = []
 note_members notes.NoUpdates = []
+note_members notes.NoIhus = []
 
 -- `,"other":true` where a note is about the other dump
 abbrev pub side_member : Side → List ℕ
@@ -97,7 +102,7 @@ note_json told =
 abbrev pub note_front : Spelling → Origin → Note → List ℕ
 note_front spelling origin note =
     codes "{\"note\":\"" ++ note_name note ++ codes "\",\"sender\":\""
-    ++ address_text spelling origin.sender ++ place_json origin.place
+    ++ address_text spelling origin.sender ++ codes "\"" ++ place_json origin.place
 
 -- `{"note":"NAME","sender":"ADDRESS","interface":N,"link":N,"vlans":[N,N],"name":"NAME",..}`
 abbrev pub note_of_sender : Spelling → Origin → (name : List ℕ) → SideNote → List ℕ

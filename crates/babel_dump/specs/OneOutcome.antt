@@ -131,5 +131,5 @@ NothingWritten =
 abbrev pub NamedIsNotSeveral : Type 0
 NamedIsNotSeveral =
     (reader : CaptureInput) (sender : Address) (place : Place) (interfaces : Interfaces)
-    → reader.wanted ≡ record { sender = Some sender; place = Some place }
+    → reader.wanted ≡ record { sender = Some sender; place = Some place; are_listed = true }
     → ¬ IsOnSeveral reader interfaces

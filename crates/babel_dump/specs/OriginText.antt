@@ -4,25 +4,24 @@ use Rattle.std.specs.Prelude.{List, [], ◌++◌, codes, filter, is_none, is_som
 use Rattle.std.specs.Prelude.{Option, None, Some}
 use Rattle.std.specs.List.{flat_map}
 use Rattle.std.specs.Fmt.{decimal}
-use Rattle.hex.specs.Hex.{encode_lower}
 use Rattle.babel_dump.specs.DiffText.{row_end, row_mark, stat_json, stat_text}
 use Rattle.babel_dump.specs.Files.{name_of}
 use Rattle.babel_dump.specs.InFormat.{in_format}
-use Rattle.babel_dump.specs.JsonText.{addressed_json, kept_json, line_end}
+use Rattle.babel_dump.specs.JsonText.{addressed_json, kept_json, line_end, router_json}
 use Rattle.babel_dump.specs.KeyText.{file_text}
+use Rattle.babel_dump.specs.Names.{named_router}
 use Rattle.babel_dump.specs.RunText.{differences_status, kept_text, newline}
 use Rattle.babel_dump.specs.Spelling.{from_prefix, prefix_text}
 use Rattle.babel_dump.specs.declared.each_sender.EachSender.{EachSender}
 use Rattle.babel_dump.specs.declared.format.Format.{Format}
 use Rattle.babel_dump.specs.declared.format.Format.TheVariants as formats
-use Rattle.babel_dump.specs.declared.job.DiffStyle.{DiffStyle}
 use Rattle.babel_dump.specs.declared.originated.Announced.{Announced}
 use Rattle.babel_dump.specs.declared.originated.OnSides.{OnSides}
 use Rattle.babel_dump.specs.declared.originated.Origination.{Origination}
 use Rattle.babel_dump.specs.declared.origins_job.Origins.{Origins}
 use Rattle.babel_dump.specs.declared.run_fault.Side.{Side}
 use Rattle.babel_dump.specs.declared.run_fault.Side.TheVariants as sides
-use Rattle.babel_dump.specs.declared.spelling.Spelling.{Spelling}
+use Rattle.babel_dump.specs.declared.style.Style.{Style}
 
 -- the capture on this side, if there is one
 abbrev pub capture_on : Side → Origins → Option EachSender
@@ -30,18 +29,21 @@ capture_on sides.First origins = Some origins.left
 capture_on sides.Other origins = origins.right
 
 -- `DST from SRC id ROUTERID metric N senders N`
-abbrev pub origin_text : Spelling → (has_metric : Bool) → Origination → Announced → List ℕ
-origin_text spelling has_metric one announced =
-    prefix_text spelling one.key.dst ++ from_prefix spelling one.key.src
-    ++ codes " id " ++ encode_lower one.router_id
+abbrev pub origin_text : Style → (has_metric : Bool) → Origination → Announced → List ℕ
+origin_text style has_metric one announced =
+    prefix_text style.spelling one.key.dst ++ from_prefix style.spelling one.key.src
+    ++ codes " id " ++ named_router style one.router_id
     ++ codes " metric " ++ kept_text has_metric (decimal announced.metric)
     ++ codes " senders " ++ decimal announced.senders
 
--- `{"destination":"DST","source":"SRC","router_id":"ROUTERID",`
-abbrev pub origin_front : Spelling → Origination → List ℕ
-origin_front spelling one =
-    codes "{" ++ addressed_json (prefix_text spelling one.key.dst) (prefix_text spelling one.key.src)
-    ++ codes ",\"router_id\":\"" ++ encode_lower one.router_id ++ codes "\","
+-- `{"destination":"DST","source":"SRC","router_id":"ROUTERID",`, with the name where names are
+-- asked for
+abbrev pub origin_front : Style → Origination → List ℕ
+origin_front style one =
+    let dst = prefix_text style.spelling one.key.dst in
+    let src = prefix_text style.spelling one.key.src in
+    codes "{" ++ addressed_json dst src
+    ++ codes ",\"router_id\":" ++ router_json style true one.router_id ++ codes ","
 
 -- `"metric":N,"senders":N`
 abbrev pub origin_members : (has_metric : Bool) → Announced → List ℕ
@@ -49,18 +51,18 @@ origin_members has_metric announced =
     codes "\"metric\":" ++ kept_json has_metric (decimal announced.metric)
     ++ codes ",\"senders\":" ++ decimal announced.senders
 
-abbrev pub origin_json : Spelling → Origination → Announced → List ℕ
-origin_json spelling one announced =
-    origin_front spelling one ++ origin_members true announced ++ line_end
+abbrev pub origin_json : Style → Origination → Announced → List ℕ
+origin_json style one announced =
+    origin_front style one ++ origin_members true announced ++ line_end
 
 -- ---- of one capture
 
 -- a line of what it has
 abbrev pub shown_by : Format → Origination → Option Announced → List ℕ
 shown_by format one None = []
-shown_by (formats.Text spelling) one (Some announced) =
-    origin_text spelling true one announced ++ newline
-shown_by (formats.Json spelling) one (Some announced) = origin_json spelling one announced
+shown_by (formats.Text style) one (Some announced) =
+    origin_text style true one announced ++ newline
+shown_by (formats.Json style) one (Some announced) = origin_json style one announced
 
 abbrev pub shown_in : Format → Origination × OnSides → List ℕ
 shown_in format one = shown_by format one.0 one.1.left
@@ -81,17 +83,16 @@ abbrev pub changes_of : (has_metric : Bool) → List (Origination × OnSides)
 changes_of has_metric all = filter (λ one. differs has_metric one.1) all
 
 -- `-ORIGIN`, `+ORIGIN`, or nothing where the capture on this side does not have it
-abbrev pub marked_origin :
-    DiffStyle → (has_metric : Bool) → Side → Origination → Option Announced → List ℕ
-marked_origin style has_metric side one None = []
-marked_origin style has_metric side one (Some announced) =
-    row_mark style.coloured side ++ origin_text style.spelling has_metric one announced
-    ++ row_end style.coloured
+abbrev pub marked_origin : Style → (coloured has_metric : Bool) → Side → Origination
+    → Option Announced → List ℕ
+marked_origin style coloured has_metric side one None = []
+marked_origin style coloured has_metric side one (Some announced) =
+    row_mark coloured side ++ origin_text style has_metric one announced ++ row_end coloured
 
-abbrev pub change_line : DiffStyle → (has_metric : Bool) → Origination → OnSides → List ℕ
-change_line style has_metric one on =
-    marked_origin style has_metric sides.First one on.left
-    ++ marked_origin style has_metric sides.Other one on.right
+abbrev pub change_line : Style → (coloured has_metric : Bool) → Origination → OnSides → List ℕ
+change_line style coloured has_metric one on =
+    marked_origin style coloured has_metric sides.First one on.left
+    ++ marked_origin style coloured has_metric sides.Other one on.right
 
 -- `{"metric":N,"senders":N}`, or `null`
 abbrev pub side_json : (has_metric : Bool) → Option Announced → List ℕ
@@ -100,17 +101,15 @@ side_json has_metric (Some announced) =
     codes "{" ++ origin_members has_metric announced ++ codes "}"
 
 -- `{"destination":"DST","source":"SRC","router_id":"ROUTERID","left":SIDE,"right":SIDE}`
-abbrev pub change_json : Spelling → (has_metric : Bool) → Origination → OnSides → List ℕ
-change_json spelling has_metric one on =
-    origin_front spelling one ++ codes "\"left\":" ++ side_json has_metric on.left
+abbrev pub change_json : Style → (has_metric : Bool) → Origination → OnSides → List ℕ
+change_json style has_metric one on =
+    origin_front style one ++ codes "\"left\":" ++ side_json has_metric on.left
     ++ codes ",\"right\":" ++ side_json has_metric on.right ++ line_end
 
-abbrev pub change_in :
-    Format → DiffStyle → (has_metric : Bool) → Origination × OnSides → List ℕ
-change_in (formats.Text spelling) style has_metric one =
-    change_line style has_metric one.0 one.1
-change_in (formats.Json spelling) style has_metric one =
-    change_json spelling has_metric one.0 one.1
+abbrev pub change_in : Format → (coloured has_metric : Bool) → Origination × OnSides → List ℕ
+change_in (formats.Text style) coloured has_metric one =
+    change_line style coloured has_metric one.0 one.1
+change_in (formats.Json style) coloured has_metric one = change_json style has_metric one.0 one.1
 
 -- how many the first has alone, the other alone, both with another metric, and both alike
 abbrev pub numbers_in : Format → (count : ℕ) → List (Origination × OnSides) → List ℕ
@@ -131,7 +130,7 @@ origin_head mark file = mark ++ file_text file ++ newline
 
 abbrev pub origin_changes : Origins → (count : ℕ) → List (Origination × OnSides) → List ℕ
 origin_changes origins count changes =
-    flat_map (change_in origins.left.format origins.style origins.has_metric) changes
+    flat_map (change_in origins.left.format origins.style.coloured origins.has_metric) changes
     ++ numbers_after origins.left.format origins.style.stat count changes
 
 -- nothing where there is no change
@@ -145,9 +144,9 @@ changed_text origins other_file count changes =
 -- as JSON an object for each change, and the numbers also where there is none
 abbrev pub changed_in :
     Format → Origins → (other_file : List ℕ) → (count : ℕ) → List (Origination × OnSides) → List ℕ
-changed_in (formats.Text spelling) origins other_file count changes =
+changed_in (formats.Text style) origins other_file count changes =
     changed_text origins other_file count changes
-changed_in (formats.Json spelling) origins other_file count changes =
+changed_in (formats.Json style) origins other_file count changes =
     origin_changes origins count changes
 
 -- ---- of either

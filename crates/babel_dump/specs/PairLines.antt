@@ -17,7 +17,7 @@ module _ {W : Type 0} (state : W → OutputState) where
   -- the device counts one failure more, and the buffer has room for a line once it is empty
   pub record CanWrite (lines : PairLines W) : Type 0 where
     pub few_failures : (state lines.writer.now).failures < 2 ^ 64 - 1
-    pub room : 512 ≤ vec_capacity lines.buffer.now
+    pub room : 2048 ≤ vec_capacity lines.buffer.now
 
   -- of the lines of these pairs the device took all but what the buffer has
   pub record HasLines (start lines : PairLines W) (pairs : List Pair) : Type 0 where
@@ -27,13 +27,13 @@ module _ {W : Type 0} (state : W → OutputState) where
     pub same_filter : lines.filter ≡ start.filter
     pub same_view : lines.view ≡ start.view
     pub took : Took (output (state start.writer.now) (state lines.writer.now))
-        (pairs_in start.format start.view (kept_rows start.filter pairs)) lines.buffer.now.items
+        (pairs_in start.format.now start.view (kept_rows start.filter pairs)) lines.buffer.now.items
 
   -- a write of the lines of these pairs failed
   pub record StoppedAtLine (start lines : PairLines W) (pairs : List Pair) : Type 0 where
     pub same_writer : lines.writer.ghost_name ≡ start.writer.ghost_name
     pub broke : Broke (output (state start.writer.now) (state lines.writer.now))
-        (pairs_in start.format start.view (kept_rows start.filter pairs))
+        (pairs_in start.format.now start.view (kept_rows start.filter pairs))
 
 -- so many of these pairs were counted as the filter keeps, if a number of 64 bits says how many
 pub record HasCounted (start kept : KeptCount) (pairs : List Pair) : Type 0 where

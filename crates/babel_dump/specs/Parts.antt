@@ -48,16 +48,16 @@ pub record Gathered {T E : Type 0} (calls : Calls) (Cause : E → Type 0) (Made 
   pub cause : IfErr result Cause
   pub called : Called calls result
 
--- what was found says this in its text and its outcome
-abbrev pub Says : (List ℕ → Outcome → Type 0) → Found → Type 0
-Says Holds found = Holds (found_text found) found.outcome
+-- what was found says this in its text, in this format, and its outcome
+abbrev pub Says : Format → (List ℕ → Outcome → Type 0) → Found → Type 0
+Says format Holds found = Holds (found_text format found) found.outcome
 
 -- what a task finds of a capture that a reader gave
 abbrev pub FoundIn :
     CaptureTask → Format → (reader : CaptureInput) → Result Found RunFault → Type 0
 FoundIn task format reader =
     Gathered (capture_calls reader) (OfFirst (CaptureCause reader (IsOnSeveral reader)))
-    (Says (SaysOfCapture task format reader))
+    (Says format (SaysOfCapture task format reader))
 
 -- why nothing was found of a table: it has too many pairs, of which this holds, or memory ran out
 abbrev pub FoundTooMany : (Many : Type 0) → Fault → Type 0
@@ -81,7 +81,7 @@ GaveSeen reader other view seen =
 -- what a job finds of what its readers gave
 pub record FoundBy (job : Job) (reader other : Reads) (untouched : Type 0)
     (result : Result Found RunFault) : Type 0 where
-  pub says : IfOk result (Says (SaysBy job.work job reader other))
+  pub says : IfOk result (Says job.format (SaysBy job.work job reader other))
   pub cause : IfErr result (CauseBy job.work reader other untouched)
   pub called : Called (first_calls job.work reader) result
   pub other_called : OtherCalled (other_calls job.work other) untouched result

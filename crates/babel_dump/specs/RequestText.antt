@@ -1,14 +1,15 @@
 -- What `events` writes of a request: this project's own.
-use Rattle.std.specs.Prelude.{ℕ, List, [], ◌++◌, Option, None, Some, codes}
+use Rattle.std.specs.Prelude.{ℕ, List, [], ◌++◌, Option, None, Some, codes, true}
 use Rattle.std.specs.Fmt.{decimal}
-use Rattle.hex.specs.Hex.{encode_lower}
 use Rattle.babel_prefix.specs.Address.{Address}
 use Rattle.babel_tlv.specs.declared.request.Request.{Request}
 use Rattle.babel_tlv.specs.declared.request.Request.TheVariants as requests
 use Rattle.babel_tlv.specs.Route.{RouteKey}
-use Rattle.babel_dump.specs.JsonText.{addressed_json}
+use Rattle.babel_dump.specs.JsonText.{addressed_json, router_json}
+use Rattle.babel_dump.specs.Names.{named_router}
 use Rattle.babel_dump.specs.Spelling.{address_text, from_prefix, prefix_text}
 use Rattle.babel_dump.specs.declared.spelling.Spelling.{Spelling}
+use Rattle.babel_dump.specs.declared.style.Style.{Style}
 
 -- ` DST from SRC`
 abbrev pub key_text : Spelling → RouteKey → List ℕ
@@ -20,11 +21,11 @@ to_text spelling None = []
 to_text spelling (Some address) = codes " to " ++ address_text spelling address
 
 -- ` all`, or ` DST from SRC`, or ` DST from SRC id ROUTERID seqno N`
-abbrev pub request_text : Spelling → Request → List ℕ
-request_text spelling requests.All = codes " all"
-request_text spelling (requests.Route key) = key_text spelling key
-request_text spelling (requests.Seqno key router_id seqno) =
-    key_text spelling key ++ codes " id " ++ encode_lower router_id
+abbrev pub request_text : Style → Request → List ℕ
+request_text style requests.All = codes " all"
+request_text style (requests.Route key) = key_text style.spelling key
+request_text style (requests.Seqno key router_id seqno) =
+    key_text style.spelling key ++ codes " id " ++ named_router style router_id
     ++ codes " seqno " ++ decimal seqno
 
 -- `"to":"ADDRESS",`, or null where it is not requested of one
@@ -40,11 +41,11 @@ key_json spelling key =
 
 -- `"destination":"DST","source":"SRC","router_id":"ROUTERID","seqno":N`, or null for what is not
 -- requested
-abbrev pub request_json : Spelling → Request → List ℕ
-request_json spelling requests.All =
+abbrev pub request_json : Style → Request → List ℕ
+request_json style requests.All =
     codes "\"destination\":null,\"source\":null,\"router_id\":null,\"seqno\":null"
-request_json spelling (requests.Route key) =
-    key_json spelling key ++ codes ",\"router_id\":null,\"seqno\":null"
-request_json spelling (requests.Seqno key router_id seqno) =
-    key_json spelling key ++ codes ",\"router_id\":\"" ++ encode_lower router_id
-    ++ codes "\",\"seqno\":" ++ decimal seqno
+request_json style (requests.Route key) =
+    key_json style.spelling key ++ codes ",\"router_id\":null,\"seqno\":null"
+request_json style (requests.Seqno key router_id seqno) =
+    key_json style.spelling key ++ codes ",\"router_id\":" ++ router_json style true router_id
+    ++ codes ",\"seqno\":" ++ decimal seqno

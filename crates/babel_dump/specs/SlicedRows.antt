@@ -6,50 +6,47 @@ use Rattle.babel_dump.specs.CaptureText.{senders_in}
 use Rattle.babel_dump.specs.Command.{IsOfMemory}
 use Rattle.babel_dump.specs.DiffText.{change_text}
 use Rattle.babel_dump.specs.Filter.{kept_rows}
-use Rattle.babel_dump.specs.InFormat.{answer_line_in, difference_in, pairs_in}
+use Rattle.babel_dump.specs.InFormat.{difference_in, each_in, pairs_in}
 use Rattle.babel_dump.specs.Run.{Output}
+use Rattle.babel_dump.specs.Names.{style_of}
 use Rattle.babel_dump.specs.Slices.{WroteText}
 use Rattle.babel_dump.specs.declared.diff_rows.DiffRows.{DiffRows}
 use Rattle.babel_dump.specs.declared.format.Format.{Format}
 use Rattle.babel_dump.specs.declared.outcome.Outcome.{Outcome}
-use Rattle.babel_dump.specs.declared.output.Answered.{Answered}
 use Rattle.babel_dump.specs.declared.run_fault.RunFault.{RunFault}
 use Rattle.babel_dump.specs.declared.run_fault.RunFault.TheVariants as run_faults
 use Rattle.babel_dump.specs.declared.slices.Found.{Found}
 use Rattle.babel_dump.specs.declared.slices.Rows.{Rows}
+use Rattle.babel_dump.specs.declared.style.Style.{Style}
 use Rattle.babel_dump.specs.declared.slices.Rows.TheVariants as rows
 
--- what is answered for a destination and a source
-abbrev pub answered_in : Format → Answered → List ℕ
-answered_in format answered =
-    answer_line_in format answered.with_prefix answered.pair.dst answered.pair.src answered.row
-
 -- the lines that name two dumps, and the rows that they hold differently
-abbrev pub diff_lines : DiffRows → List ℕ
-diff_lines diff =
-    diff.heads.items ++ flat_map (change_text diff.style diff.view) diff.list.items
+abbrev pub diff_lines : Style → DiffRows → List ℕ
+diff_lines style diff =
+    diff.heads.items ++ flat_map (change_text style diff.coloured diff.view) diff.list.items
 
 -- a line for each row
 abbrev pub lines_of : Format → Rows → List ℕ
 lines_of format (rows.Table filter view table) = pairs_in format view (kept_rows filter table.rows)
 lines_of format (rows.Pairs filter view pairs) = pairs_in format view (kept_rows filter pairs)
-lines_of format (rows.Answers answers) = flat_map (answered_in format) answers.items
+lines_of format (rows.Answers with_prefix pairs table) = each_in format with_prefix table pairs.items
 lines_of format (rows.Differences view differences) =
     flat_map (difference_in format view) differences.items
-lines_of format (rows.Diff diff) = diff_lines diff
+lines_of format (rows.Diff diff) = diff_lines (style_of format) diff
 lines_of format (rows.Senders gathered) = senders_in format gathered
 lines_of format rows.Empty = []
 
--- the whole text of what was found
-abbrev pub found_text : Found → List ℕ
-found_text found = lines_of found.format found.rows ++ found.after.items
+-- the whole text of what was found, in this format
+abbrev pub found_text : Format → Found → List ℕ
+found_text format found = lines_of format found.rows ++ found.after.items
 
 -- What was found was written, and its outcome is answered, or that a write failed; or memory ran
 -- out. Where nothing was found the fault is answered. Then the writer is as it was.
-abbrev pub Finished : Output → Result Found RunFault → Result Outcome RunFault → Type 0
-Finished writer (Ok found) result =
-    (WroteText writer (found_text found) result
+abbrev pub Finished :
+    Output → Format → Result Found RunFault → Result Outcome RunFault → Type 0
+Finished writer format (Ok found) result =
+    (WroteText writer (found_text format found) result
     × IfOk result (λ outcome. outcome ≡ found.outcome)
     × IfErr result (λ fault. fault ≡ run_faults.Write))
     ⊎ (IsErrAnd result IsOfMemory × (writer.new ≡ writer.old))
-Finished writer (Err fault) result = (result ≡ Err fault) × (writer.new ≡ writer.old)
+Finished writer format (Err fault) result = (result ≡ Err fault) × (writer.new ≡ writer.old)

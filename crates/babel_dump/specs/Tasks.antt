@@ -15,6 +15,7 @@ use Rattle.babel_dump.specs.Filter.{kept_pairs_in, kept_rows}
 use Rattle.babel_dump.specs.Given.{Input}
 use Rattle.babel_dump.specs.InFormat.{listed_in, rows_or_count_in}
 use Rattle.babel_dump.specs.KeyText.{file_in, key_in}
+use Rattle.babel_dump.specs.Names.{style_of}
 use Rattle.babel_dump.specs.Octets.{AreOctets, HasTooMany}
 use Rattle.babel_dump.specs.RunText.{form_text, row_in}
 use Rattle.babel_dump.specs.Summary.{shown_in}
@@ -83,7 +84,7 @@ ComparisonFinds (comparisons.Compare forms.Routes listed) format view file secon
     other_reading = TellsRoutes (λ rows differences. listed_in format view listed differences)
 ComparisonFinds (comparisons.Diff style) format view file second reading other_reading =
     TellsRoutes
-    (diff_in format style view (head_lines style.spelling file second reading other_reading))
+    (diff_in format style view (head_lines (style_of format) file second reading other_reading))
 
 -- they have too many differences for it
 abbrev pub ComparisonFindsTooMany : Comparison → Bounds → (table other : Routes) → Type 0

@@ -43,10 +43,10 @@ closing format (octet ∷ octets) = in_format format (codes ")") (codes "\"")
 
 -- the parts of a sender's line before the octets of the name and after them
 abbrev pub to_name : Format → Origin → (name : List ℕ) → List ℕ
-to_name (formats.Text spelling) origin name =
-    sender_front spelling origin ++ opening (formats.Text spelling) name
-to_name (formats.Json spelling) origin name =
-    sender_front_json spelling origin ++ opening (formats.Json spelling) name
+to_name (formats.Text style) origin name =
+    sender_front style.spelling origin ++ opening (formats.Text style) name
+to_name (formats.Json style) origin name =
+    sender_front_json style.spelling origin ++ opening (formats.Json style) name
 
 abbrev pub after_name : Format → Origin × Tally → (name : List ℕ) → List ℕ
 after_name format sender name =

@@ -11,6 +11,8 @@ use Rattle.babel_dump.specs.declared.done.DumpRead.{DumpRead}
 use Rattle.babel_dump.specs.declared.done.ToldSender.{ToldSender}
 use Rattle.babel_dump.specs.declared.input_fault.InputFault.{InputFault}
 use Rattle.babel_dump.specs.declared.input_fault.InputFault.TheVariants as input_faults
+use Rattle.babel_dump.specs.declared.names_fault.NamesFault.{NamesFault}
+use Rattle.babel_dump.specs.declared.names_fault.NamesFault.TheVariants as names_faults
 use Rattle.babel_dump.specs.declared.run_fault.RunFault.TheVariants as run_faults
 use Rattle.babel_dump.specs.declared.trouble.Trouble.{Trouble}
 use Rattle.babel_dump.specs.declared.trouble.Trouble.TheVariants as troubles
@@ -25,14 +27,21 @@ abbrev pub unwritten_status : Option Error → ℕ
 unwritten_status (Some error) = status_of_kind (error_kind error)
 unwritten_status None = 4
 
+-- where the names are refused
+abbrev pub names_status : NamesFault → ℕ
+names_status names_faults.Read = 4
+names_status names_faults.Memory = 5
+names_status fault = 2
+
 -- where nothing came of it: 2 where the words don't suit the input, or else that of the fault
 abbrev pub trouble_status : (unwritten : Option Error) → Trouble → ℕ
-trouble_status unwritten (troubles.Misplaced option) = 2
+trouble_status unwritten (troubles.Misplaced side option) = 2
 trouble_status unwritten (troubles.NoSender side) = 2
 trouble_status unwritten (troubles.NotOneSender senders) = 2
 trouble_status unwritten troubles.ReadOnce = 2
 trouble_status unwritten (troubles.Backwards since until) = 2
 trouble_status unwritten troubles.TooManyRoutes = 3
+trouble_status unwritten (troubles.Names fault) = names_status fault
 trouble_status unwritten (troubles.Fault run_faults.Write) = unwritten_status unwritten
 trouble_status unwritten (troubles.Fault fault) = fault_status fault
 trouble_status unwritten (troubles.Sender side origin name fault) = input_status fault

@@ -40,7 +40,7 @@ impl Absence {
     /// That of the packets that are wanted of this capture, which was read in this window.
     pub(crate) fn of(capture: &Capture, window: &Window) -> Absence {
         let gathered = capture.gathered();
-        let Wanted { sender, place } = gathered.wanted();
+        let Wanted { sender, place, .. } = gathered.wanted();
         let (since, until) = moments_of(window);
         let start = match capture.start() {
             Some(start) => Some(start.nanoseconds()),

@@ -1,6 +1,7 @@
 //! What a comparison tells of a sender that only one of two captures has.
 ghost use Rattle.std.specs.Prelude.{◌≡◌, IfOk, map};
 ghost use Rattle.babel_dump.specs.EachPair.{all_rows_in, first_rows, lone_row, only_in};
+ghost use Rattle.babel_dump.specs.Names.{style_of};
 ghost use Rattle.babel_dump.specs.Parts.{Says};
 ghost use Rattle.babel_dump.specs.DiffText.{head_lines};
 ghost use Rattle.babel_dump.specs.Command.{Tells};
@@ -21,11 +22,11 @@ use std::alloc::{AllocError, Global};
 /// The line of `compare`.
 pub(crate) fn found_only(
     alloc: Global,
-    format: Format,
+    format: &Format,
     side: Side,
     table: &Table,
 ) -> Result<Found, AllocError>
-    ensures { IfOk result (Says (Tells table.now.report (only_in format side) 1)) }
+    ensures { IfOk result (Says format.now (Tells table.now.report (only_in format.now side) 1)) }
 {
     let mut text = Vec::new(alloc);
     text.extend_from_slice(only_words(format, side).as_bytes())?;
@@ -33,8 +34,8 @@ pub(crate) fn found_only(
 }
 
 /// That only the capture on this side has the sender.
-fn only_words(format: Format, side: Side) -> &'static str
-    ensures { result.now ≡ only_in format side }
+fn only_words(format: &Format, side: Side) -> &'static str
+    ensures { result.now ≡ only_in format.now side }
 {
     match (format, side) {
         (Format::Text(_), Side::First) => "only left\n",
@@ -51,36 +52,36 @@ pub(crate) fn found_all_rows(
     other_reading: Reading,
     view: View,
     style: DiffStyle,
-    format: Format,
+    format: &Format,
     file: &str,
     other_file: &str,
     side: Side,
     table: &Table,
 ) -> Result<Found, AllocError>
-    ensures { IfOk result (Says (Tells table.now.report (all_rows_in format style view
-        (head_lines style.spelling file.now other_file.now reading other_reading) side
+    ensures { IfOk result (Says format.now (Tells table.now.report
+        (all_rows_in format.now style view
+        (head_lines (style_of format.now) file.now other_file.now reading other_reading) side
         table.now.rows) 1)) }
 {
     let outcome = Outcome::of_dump(1, *table.report());
     let list = lone_rows(alloc, side, table)?;
     let rows = first_rows(side, table.rows().len());
     match format {
-        Format::Text(_) => {
-            let (spelling, stat) = (style.spelling, style.stat);
-            let after = stat_after(alloc, Format::Text(spelling), stat, rows, &list)?;
-            let heads = head_lines(alloc, spelling, file, other_file, reading, other_reading)?;
+        Format::Text(of_text) => {
+            let after = stat_after(alloc, format, style.stat, rows, &list)?;
+            let heads = head_lines(alloc, of_text, file, other_file, reading, other_reading)?;
             let diff = DiffRows {
                 heads,
-                style,
+                coloured: style.coloured,
                 view,
                 list,
             };
-            Ok(Found::rows(Format::Text(spelling), Rows::Diff(diff), after, outcome))
+            Ok(Found::rows(Rows::Diff(diff), after, outcome))
         }
         Format::Json(_) => {
             let after = stat_after(alloc, format, style.stat, rows, &list)?;
             let lines = Rows::Differences(view, list);
-            Ok(Found::rows(format, lines, after, outcome))
+            Ok(Found::rows(lines, after, outcome))
         }
     }
 }

@@ -21,10 +21,11 @@ pub(crate) fn found_any_source(
     alloc: Global,
     dst: Addr,
     with_prefix: bool,
-    format: Format,
+    format: &Format,
     table: &Table,
 ) -> Result<Found, AllocError>
-    ensures { IfOk result (Says (LooksUpAnySource format with_prefix dst table.now)) }
+    ensures { IfOk result
+        (Says format.now (LooksUpAnySource format.now with_prefix dst table.now)) }
 {
     let src = any_source(dst.family());
     let row = table.best(&dst, &src);

@@ -1,4 +1,5 @@
 //! What the program's words ask for.
+use crate::byte_in::FromReader;
 use crate::each_pair::EachPair;
 use crate::each_sender::EachSender;
 use crate::events_job::Events;
@@ -8,8 +9,12 @@ use crate::key_text::Named;
 use crate::lone_sender::{Lone, LoneSender};
 use crate::origins_job::Origins;
 use crate::reading::capture_limit;
+use crate::run_fault::Side;
 use crate::spelling::Spelling;
+use crate::trouble::Trouble;
 use babel_table::Limits;
+use std::alloc::Global;
+use std::io::Read;
 
 /// What is asked for: of one input, or of two.
 #[derive(Drop)]
@@ -52,6 +57,22 @@ impl Asked {
                 None => None,
             },
             Asked::Lone(_) | Asked::Events(_) => None,
+        }
+    }
+
+    /// Where the input on this side is read from.
+    pub(crate) fn input(&self, side: Side) -> Option<&DumpFile> {
+        match side {
+            Side::First => Some(self.file()),
+            Side::Other => self.other(),
+        }
+    }
+
+    /// The same of a capture alone, as `--origins` reads one.
+    pub(crate) fn capture(&self, side: Side) -> Option<&DumpFile> {
+        match self {
+            Asked::Origins(_) => self.input(side),
+            _ => None,
         }
     }
 
@@ -106,17 +127,53 @@ impl Asked {
     /// How addresses are written in the notes of the output, if it is JSON and has notes; that of
     /// `key` has none.
     pub(crate) fn json_notes(&self) -> Option<Spelling> {
-        let format = match self {
-            Asked::Job(job) | Asked::Lone(Lone { job, .. }) => job.format,
-            Asked::EachSender(each) => each.format,
-            Asked::EachPair(pairs) => pairs.left.format,
-            Asked::Origins(origins) => origins.left.format,
-            Asked::Events(events) => events.format,
-        };
         let is_key = self.named().0.is_some();
-        match format {
-            Format::Json(spelling) if !self.is_quiet() && !is_key => Some(spelling),
+        match self.format() {
+            Format::Json(style) if !self.is_quiet() && !is_key => Some(style.spelling),
             _ => None,
+        }
+    }
+
+    /// Where the names are read from that stand after addresses and router-ids, if any do.
+    pub fn names(&self) -> Option<&DumpFile> {
+        match &self.format().style().names {
+            Some(names) => Some(&names.file),
+            None => None,
+        }
+    }
+
+    /// Reads the names, if any are asked for.
+    ///
+    /// # Errors
+    ///
+    /// Why they are refused.
+    pub fn read_names<R: Read + Drop>(&mut self, alloc: Global, reader: R) -> Result<(), Trouble> {
+        let format = match self {
+            Asked::Job(job) | Asked::Lone(Lone { job, .. }) => &mut job.format,
+            Asked::EachSender(each) => &mut each.format,
+            Asked::EachPair(pairs) => &mut pairs.left.format,
+            Asked::Origins(origins) => &mut origins.left.format,
+            Asked::Events(events) => &mut events.format,
+        };
+        match format {
+            Format::Text(style) | Format::Json(style) => match &mut style.names {
+                Some(names) => {
+                    let read = names.read(alloc, &mut FromReader::new(reader));
+                    read.map_err(Trouble::Names)
+                }
+                None => Ok(()),
+            },
+        }
+    }
+
+    /// How what is found is written.
+    fn format(&self) -> &Format {
+        match self {
+            Asked::Job(job) | Asked::Lone(Lone { job, .. }) => &job.format,
+            Asked::EachSender(each) => &each.format,
+            Asked::EachPair(pairs) => &pairs.left.format,
+            Asked::Origins(origins) => &origins.left.format,
+            Asked::Events(events) => &events.format,
         }
     }
 

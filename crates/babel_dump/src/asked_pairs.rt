@@ -39,7 +39,7 @@ pub(crate) fn asked_pairs(alloc: Global, text: &[u8]) -> Result<Vec<AddrPair>, R
     ensures fault { IfErr result (IsFaultOfLines (lines_of text.now)) }
 {
     let lines = lines(alloc, text)?;
-    let mut pairs = Vec::new(alloc);
+    let mut pairs = Vec::with_capacity(alloc, lines.len())?;
     for (index, line) in lines.iter().enumerate() {
         match asked_by(alloc, line)? {
             Asked::Nothing => {}
@@ -51,7 +51,7 @@ pub(crate) fn asked_pairs(alloc: Global, text: &[u8]) -> Result<Vec<AddrPair>, R
 }
 
 /// The lines of a text.
-fn lines(alloc: Global, text: &[u8]) -> Result<Vec<&[u8]>, AllocError>
+pub(crate) fn lines(alloc: Global, text: &[u8]) -> Result<Vec<&[u8]>, AllocError>
     ensures { IfOk result (λ lines. map (λ line. line.now) lines.items ≡ lines_of text.now) }
 {
     text.split(|octet| *octet == b'\n').collect(alloc)
@@ -65,7 +65,7 @@ fn asked_by(alloc: Global, line: &[u8]) -> Result<Asked, AllocError>
 }
 
 /// The first words of a line, at most three: a pair has two.
-fn first_words(alloc: Global, line: &[u8]) -> Result<Vec<&[u8]>, AllocError>
+pub(crate) fn first_words(alloc: Global, line: &[u8]) -> Result<Vec<&[u8]>, AllocError>
     ensures { IfOk result (λ words. map (λ word. word.now) words.items
         ≡ take 3 (words_of line.now)) }
 {

@@ -1,12 +1,14 @@
 //! Does what is asked for, over streams: whether one is a capture is seen by its first octets.
-ghost use Rattle.std.specs.Prelude.{IfErr, IfOk, IfSome, OnOk, Some};
+ghost use Rattle.std.specs.Prelude.{◌≡◌, ◌⊎◌, IfErr, IfOk, IfSome, None, OnOk, Some};
 ghost use Rattle.std.specs.Io.KnownBytes.{Keeps};
 ghost use Rattle.babel_dump.specs.Begun.{BeginsSo};
 ghost use Rattle.babel_dump.specs.Device.{HasRoomToWrite};
 ghost use Rattle.babel_dump.specs.Run.{output};
 ghost use Rattle.babel_dump.specs.AskedRun.{Did, DidJob, Failed, FailedEvents, GaveOn};
-ghost use Rattle.babel_dump.specs.AskedRun.{IsJobRefused, IsRefused, ToldEvents, WroteOrigins};
-ghost use Rattle.babel_dump.specs.AskedRun.{WrotePairs, WroteSenders};
+ghost use Rattle.babel_dump.specs.AskedRun.{IsDump, IsJobRefused, IsMisplacedIn};
+ghost use Rattle.babel_dump.specs.AskedRun.{IsOriginsRefused, IsRefused, ToldEvents};
+ghost use Rattle.babel_dump.specs.AskedRun.{WroteOrigins, WrotePairs, WroteSenders};
+ghost use Rattle.babel_dump.specs.AskedRun.{misplaced_told};
 ghost use Rattle.babel_dump.specs.OriginText.{capture_on};
 ghost use Rattle.babel_dump.specs.OriginsMade.{TakesOn};
 ghost use Rattle.babel_dump.specs.Files.{reading_of};
@@ -91,7 +93,7 @@ fn do_job<R: Read + Drop, S: Read + Drop, W: ByteOut>(
     let first = Begun::new(reader);
     let second = begun_other(job, other);
     if let Err(option) = job.begin(first.begins(), second.begins(), seed) {
-        return Err(Trouble::Misplaced(option));
+        return Err(Trouble::Misplaced(Side::First, option));
     }
     let done = Done::new(alloc)?;
     let (mut first, mut second) = (first.into_device(), second.into_device());
@@ -164,8 +166,10 @@ fn tell_pairs<R: Read + Drop, S: Read + Drop, W: ByteOut>(
         pairs.moment_options(Side::First),
         pairs.moment_options(Side::Other),
     );
-    let left = gather_on(alloc, seed, &pairs.left, Side::First, first, reader)?;
-    let right = gather_on(alloc, seed, &pairs.right, Side::Other, second, other)?;
+    let (one, two) = (Side::First, Side::Other);
+    let (no_one, no_two) = (Trouble::NoSender(one), Trouble::NoSender(two));
+    let left = gather_on(alloc, seed, &pairs.left, one, first, no_one, reader)?;
+    let right = gather_on(alloc, seed, &pairs.right, two, second, no_two, other)?;
     let done = Done::new(alloc)?;
     let SendersRead { read, tables } = left;
     let SendersRead {
@@ -192,8 +196,9 @@ fn tell_origins<R: Read + Drop, S: Read + Drop, W: ByteOut>(
     writer: &mut W,
 ) -> Result<Done, Trouble>
     requires { HasRoomToWrite (W.state writer.old) }
-    ensures { IfOk result (WroteOrigins origins.now (R.remaining reader) (S.remaining other)
+    ensures done { IfOk result (WroteOrigins origins.now (R.remaining reader) (S.remaining other)
         (output (W.state writer.old) (W.state writer.new))) }
+    ensures refused { IfErr result (IsOriginsRefused (R.remaining reader) (S.remaining other)) }
 {
     let mut done = Done::new(alloc)?;
     let mut told = ToldOrigins::new(alloc);
@@ -235,8 +240,9 @@ fn take_on<R: Read + Drop>(
     told: &mut ToldOrigins,
     done: &mut Done,
 ) -> Result<(), Trouble>
-    ensures { OnOk result (TakesOn origins.now.filter side (capture_on side origins.now)
+    ensures taken { OnOk result (TakesOn origins.now.filter side (capture_on side origins.now)
         (R.remaining reader) told.old.originated.all.entries told.new.originated.all.entries) }
+    ensures refused { IfErr result (IsMisplacedIn (IsDump (R.remaining reader))) }
 {
     match origins.on(side) {
         Some(each) => {
@@ -260,10 +266,14 @@ fn take_capture<R: Read + Drop>(
     told: &mut ToldOrigins,
     done: &mut Done,
 ) -> Result<(), Trouble>
-    ensures { OnOk result (TakesOn filter.now side (Some each.now) (R.remaining reader)
+    ensures taken { OnOk result (TakesOn filter.now side (Some each.now) (R.remaining reader)
         told.old.originated.all.entries told.new.originated.all.entries) }
+    ensures refused { IfErr result (IsMisplacedIn (IsDump (R.remaining reader))) }
 {
-    let SendersRead { read, tables } = gather_on(alloc, seed, each, side, options, reader)?;
+    let refusal = Trouble::Misplaced(side, "--origins");
+    let SendersRead { read, tables } = gather_on(
+        alloc, seed, each, side, options, refusal, reader,
+    )?;
     done.add_capture(side, each, &read)?;
     let captured = Captured {
         side,
@@ -274,20 +284,23 @@ fn take_capture<R: Read + Drop>(
 }
 
 /// Reads the capture on a side, which is to have a sender that is asked for; these options have it
-/// read from a moment and up to one.
+/// read from a moment and up to one. A dump is refused so.
 fn gather_on<R: Read + Drop>(
     alloc: Global,
     seed: u128,
     each: &EachSender,
     side: Side,
     options: (&'static str, &'static str),
+    refusal: Trouble,
     reader: R,
 ) -> Result<SendersRead, Trouble>
-    ensures { IfOk result (GaveOn each.now (R.remaining reader)) }
+    ensures made { IfOk result (GaveOn each.now (R.remaining reader)) }
+    ensures refused { IfErr result (λ trouble. (misplaced_told trouble ≡ None)
+        ⊎ ((trouble ≡ refusal) × IsDump (R.remaining reader))) }
 {
     let begun = Begun::new(reader);
     if let Begins::Dump = begun.begins() {
-        return Err(Trouble::NoSender(side));
+        return Err(refusal);
     }
     match each.gather(alloc, seed, &mut begun.into_device()) {
         Ok(read) => {

@@ -3,6 +3,7 @@ ghost use Rattle.std.specs.Prelude.{◌≡◌, IfOk, Some};
 ghost use Rattle.babel_dump.specs.SlicedRows.{found_text};
 
 use crate::byte_out::ByteOut;
+use crate::format::Format;
 use crate::slices::{Found, finish};
 use std::alloc::{AllocError, Global};
 use std::io;
@@ -38,16 +39,16 @@ impl ByteOut for Collected {
     }
 }
 
-/// The whole text of what was found.
-pub(crate) fn text_of(alloc: Global, found: Found) -> Result<Vec<u8>, AllocError>
-    ensures { IfOk result (λ text. text.items ≡ found_text found) }
+/// The whole text of what was found, in this format.
+pub(crate) fn text_of(alloc: Global, format: &Format, found: Found) -> Result<Vec<u8>, AllocError>
+    ensures { IfOk result (λ text. text.items ≡ found_text format.now found) }
 {
     let mut collected = Collected {
         text: Vec::new(alloc),
         failures: 0,
         flushes: 0,
     };
-    match finish(alloc, &mut collected, Ok(found)) {
+    match finish(alloc, &mut collected, format, Ok(found)) {
         Ok(_) => Ok(collected.text),
         Err(_) => Err(AllocError),
     }

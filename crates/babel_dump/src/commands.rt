@@ -118,6 +118,17 @@ const AFTER_SENDERS: &str = after_help!(
     "1  there are no senders"
 );
 
+const AFTER_LINKS: &str = after_help!(
+    refused: "a capture";
+    "Each packet has to have a time. What the neighbour says of the router is after back; infinite \
+     is a cost that rules the link out, and - one that was not said, or has lapsed.\n",
+    examples:
+    "links x.pcap",
+    "links --until +30 --expiry 6 x.pcap";
+    "0  there are links",
+    "1  there are no IHUs"
+);
+
 const AFTER_EXTRACT: &str = after_help!(
     refused: "a capture";
     examples:
@@ -141,7 +152,7 @@ const AFTER_EVENTS: &str = after_help!(
 );
 
 /// The commands, by the options that they have in common.
-pub(crate) const ALL: [&str; 10] = [
+pub(crate) const ALL: [&str; 11] = [
     "show",
     "lookup",
     "normalise",
@@ -150,6 +161,7 @@ pub(crate) const ALL: [&str; 10] = [
     "compare",
     "diff",
     "senders",
+    "links",
     "extract",
     "events",
 ];
@@ -172,9 +184,9 @@ pub(crate) const OF_TWO: [&str; 2] = ["compare", "diff"];
 pub(crate) const FILTERED: [&str; 3] = ["show", "pairs", "events"];
 
 /// Those that read captures alone; and without limits on routes.
-pub(crate) const OF_CAPTURES: [&str; 3] = ["senders", "extract", "events"];
+pub(crate) const OF_CAPTURES: [&str; 4] = ["senders", "links", "extract", "events"];
 
-pub(crate) const OF_OCTETS: [&str; 2] = ["senders", "extract"];
+pub(crate) const OF_OCTETS: [&str; 3] = ["senders", "links", "extract"];
 
 /// Those that are of one sender, and those that may need its place.
 pub(crate) const OF_SENDER: [&str; 2] = ["normalise", "extract"];
@@ -258,6 +270,12 @@ pub(crate) static COMMANDS: &[CommandRow] = &[
         name: "senders",
         about: "List who sent Babel packets in a capture, where, and how much",
         after_help: AFTER_SENDERS,
+        groups: &[],
+    },
+    CommandRow {
+        name: "links",
+        about: "List which neighbours each router in a capture hears, and at which cost",
+        after_help: AFTER_LINKS,
         groups: &[],
     },
     CommandRow {

@@ -17,11 +17,11 @@ use std::alloc::Global;
 pub(crate) fn found_verdict(
     alloc: Global,
     view: View,
-    format: Format,
+    format: &Format,
     seen: &SeenTables,
 ) -> Result<Found, RunFault>
     ensures ok { IfOk result
-        (Says (Compares view format seen.now.left seen.now.right)) }
+        (Says format.now (Compares view format.now seen.now.left seen.now.right)) }
     ensures err { IfErr result IsOfMemory }
 {
     let verdict = babel_canon::compare(alloc, &seen.left, &seen.right)?;

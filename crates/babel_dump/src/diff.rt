@@ -3,23 +3,24 @@ ghost use Rattle.std.specs.Prelude.{◌≡◌, ◌++◌, IfErr, IfOk, OnOk, filt
 ghost use Rattle.babel_dump.specs.Command.{IsOfMemory, TellsRoutes};
 ghost use Rattle.babel_dump.specs.DiffText.{diff_in, diff_text, head_line, head_lines};
 ghost use Rattle.babel_dump.specs.DiffText.{place_text, stat_after, stat_in, stat_json, stat_text};
+ghost use Rattle.babel_dump.specs.Names.{style_of};
 ghost use Rattle.babel_dump.specs.Parts.{Says};
 ghost use Rattle.babel_dump.specs.SlicedRows.{lines_of};
 ghost use Rattle.babel_dump.specs.Slices.{HasRoom, TookRoom};
-ghost use Rattle.babel_dump.specs.declared.format.Format.TheVariants as formats;
 
 use crate::both::SeenTables;
 use crate::diff_rows::DiffRows;
 use crate::differences::differences_status;
 use crate::format::Format;
 use crate::job::DiffStyle;
+use crate::key_name::push_name_text;
 use crate::key_text::push_file;
 use crate::push::{push_decimal, push_link, push_marked, push_octet, push_text};
 use crate::push_addr::push_addr;
 use crate::reading::Reading;
 use crate::run_fault::RunFault;
 use crate::slices::{Found, Rows};
-use crate::spelling::Spelling;
+use crate::style::Style;
 use babel_canon::{Difference, route_differences};
 use babel_capture::Place;
 use babel_tlv::View;
@@ -35,13 +36,13 @@ pub(crate) fn found_diff(
     other_reading: Reading,
     view: View,
     style: DiffStyle,
-    format: Format,
+    format: &Format,
     file: &str,
     other_file: &str,
     seen: &SeenTables,
 ) -> Result<Found, RunFault>
-    ensures ok { IfOk result (Says (TellsRoutes (diff_in format style view
-        (head_lines style.spelling file.now other_file.now reading other_reading))
+    ensures ok { IfOk result (Says format.now (TellsRoutes (diff_in format.now style view
+        (head_lines (style_of format.now) file.now other_file.now reading other_reading))
         seen.now.left seen.now.right)) }
     ensures err { IfErr result IsOfMemory }
 {
@@ -49,16 +50,15 @@ pub(crate) fn found_diff(
     let outcome = seen.outcome(differences_status(list.len()));
     let rows = seen.left.rows().len();
     match format {
-        Format::Text(_) => {
-            let spelling = style.spelling;
-            let heads = head_lines(alloc, spelling, file, other_file, reading, other_reading)?;
-            let (lines, after) = diff_rows(alloc, view, style, heads, rows, list)?;
-            Ok(Found::rows(Format::Text(spelling), lines, after, outcome))
+        Format::Text(of_text) => {
+            let heads = head_lines(alloc, of_text, file, other_file, reading, other_reading)?;
+            let (lines, after) = diff_rows(alloc, view, style, format, heads, rows, list)?;
+            Ok(Found::rows(lines, after, outcome))
         }
         Format::Json(_) => {
             let after = stat_after(alloc, format, style.stat, rows, &list)?;
             let lines = Rows::Differences(view, list);
-            Ok(Found::rows(format, lines, after, outcome))
+            Ok(Found::rows(lines, after, outcome))
         }
     }
 }
@@ -68,20 +68,21 @@ fn diff_rows(
     alloc: Global,
     view: View,
     style: DiffStyle,
+    format: &Format,
     heads: Vec<u8>,
     rows: usize,
     list: Vec<Difference>,
 ) -> Result<(Rows, Vec<u8>), AllocError>
-    ensures { IfOk result (λ found. lines_of (formats.Text style.spelling) found.0 ++ found.1.items
-        ≡ diff_text style view heads.items rows list.items) }
+    ensures { IfOk result (λ found. lines_of format.now found.0 ++ found.1.items
+        ≡ diff_text format.now style view heads.items rows list.items) }
 {
     if list.is_empty() {
         return Ok((Rows::Empty, Vec::new(alloc)));
     }
-    let after = stat_after(alloc, Format::Text(style.spelling), style.stat, rows, &list)?;
+    let after = stat_after(alloc, format, style.stat, rows, &list)?;
     let diff = DiffRows {
         heads,
-        style,
+        coloured: style.coloured,
         view,
         list,
     };
@@ -91,37 +92,39 @@ fn diff_rows(
 /// The lines that name the two dumps.
 pub(crate) fn head_lines(
     alloc: Global,
-    spelling: Spelling,
+    style: &Style,
     file: &str,
     other_file: &str,
     reading: Reading,
     other_reading: Reading,
 ) -> Result<Vec<u8>, AllocError>
     ensures { IfOk result (λ text. text.items
-        ≡ head_lines spelling file.now other_file.now reading other_reading) }
+        ≡ head_lines style.now file.now other_file.now reading other_reading) }
 {
     let mut text = Vec::new(alloc);
-    push_head(&mut text, spelling, "--- ", file, reading)?;
-    push_head(&mut text, spelling, "+++ ", other_file, other_reading)?;
+    push_head(&mut text, style, "--- ", file, reading)?;
+    push_head(&mut text, style, "+++ ", other_file, other_reading)?;
     Ok(text)
 }
 
 /// Appends the line that names a dump: its file, its sender, and its place, where one is named.
 fn push_head(
     text: &mut Vec<u8>,
-    spelling: Spelling,
+    style: &Style,
     mark: &str,
     file: &str,
     reading: Reading,
 ) -> Result<(), AllocError>
     ensures { OnOk result (text.new.items
-        ≡ text.old.items ++ head_line spelling mark.now file.now reading) }
+        ≡ text.old.items ++ head_line style.now mark.now file.now reading) }
 {
     text.extend_from_slice(mark.as_bytes())?;
     push_file(text, file.as_bytes())?;
     text.reserve(ROOM)?;
     push_octet(text, b' ');
-    push_addr(text, spelling, reading.sender);
+    push_addr(text, style.spelling, reading.sender);
+    push_name_text(text, style.of_address(reading.sender))?;
+    text.reserve(ROOM)?;
     push_place(text, reading.place);
     push_octet(text, b'\n');
     Ok(())
@@ -145,12 +148,12 @@ pub(crate) fn push_place(buffer: &mut Vec<u8>, place: Option<Place>)
 /// asked for.
 pub(crate) fn stat_after(
     alloc: Global,
-    format: Format,
+    format: &Format,
     stat: bool,
     rows: usize,
     list: &[Difference],
 ) -> Result<Vec<u8>, AllocError>
-    ensures { IfOk result (λ text. text.items ≡ stat_after format stat rows list.now) }
+    ensures { IfOk result (λ text. text.items ≡ stat_after format.now stat rows list.now) }
 {
     if stat {
         stat_output(alloc, format, rows, list)
@@ -162,11 +165,11 @@ pub(crate) fn stat_after(
 /// The line of how many rows are gone, new, changed, and alike.
 fn stat_output(
     alloc: Global,
-    format: Format,
+    format: &Format,
     rows: usize,
     list: &[Difference],
 ) -> Result<Vec<u8>, AllocError>
-    ensures { IfOk result (λ text. text.items ≡ stat_in format rows list.now) }
+    ensures { IfOk result (λ text. text.items ≡ stat_in format.now rows list.now) }
 {
     let (gone, new) = (gone_count(list), new_count(list));
     let changed = list.len().saturating_sub(gone).saturating_sub(new);

@@ -7,10 +7,10 @@ ghost use Rattle.babel_dump.specs.SlicedRows.{diff_lines};
 ghost use Rattle.babel_dump.specs.Slices.{HasRoom, TookRoom, WroteFront};
 
 use crate::byte_out::ByteOut;
-use crate::job::DiffStyle;
 use crate::push::{push_pair, push_text};
 use crate::run_fault::Side;
 use crate::slices::make_room;
+use crate::style::Style;
 use crate::write::{WriteFailed, write_all};
 use babel_canon::Difference;
 use babel_tlv::{Held, Key, View};
@@ -19,7 +19,8 @@ use babel_tlv::{Held, Key, View};
 #[derive(Drop)]
 pub(crate) struct DiffRows {
     pub heads: Vec<u8>,
-    pub style: DiffStyle,
+    /// Whether the rows are in colour.
+    pub coloured: bool,
     pub view: View,
     pub list: Vec<Difference>,
 }
@@ -27,37 +28,57 @@ pub(crate) struct DiffRows {
 /// Writes these lines, but for the last of them, which the buffer has.
 pub(crate) fn write_diff<W: ByteOut>(
     writer: &mut W,
+    style: &Style,
     diff: &DiffRows,
     buffer: &mut Vec<u8>,
 ) -> Result<(), WriteFailed>
     requires few_failures { (W.state writer.old).failures < 2 ^ 64 - 1 }
     requires empty { buffer.old.items ≡ [] }
-    requires room { 512 ≤ vec_capacity buffer.old }
+    requires room { 2048 ≤ vec_capacity buffer.old }
     ensures { WroteFront (output (W.state writer.old) (W.state writer.new))
-        (diff_lines diff.now) buffer.new.items result }
+        (diff_lines style.now diff.now) buffer.new.items result }
 {
     write_all(writer, &diff.heads)?;
-    write_changes(writer, diff.style, diff.view, &diff.list, buffer)
+    write_changes(writer, style, diff.coloured, diff.view, &diff.list, buffer)
 }
 
 /// Writes the rows of differences, but for the last of them, which the buffer has.
 fn write_changes<W: ByteOut>(
     writer: &mut W,
-    style: DiffStyle,
+    style: &Style,
+    coloured: bool,
     view: View,
     list: &[Difference],
     buffer: &mut Vec<u8>,
 ) -> Result<(), WriteFailed>
     requires few_failures { (W.state writer.old).failures < 2 ^ 64 - 1 }
     requires empty { buffer.old.items ≡ [] }
-    requires room { 512 ≤ vec_capacity buffer.old }
+    requires room { 2048 ≤ vec_capacity buffer.old }
     ensures { WroteFront (output (W.state writer.old) (W.state writer.new))
-        (flat_map (change_text style view) list.now) buffer.new.items result }
+        (flat_map (change_text style.now coloured view) list.now) buffer.new.items result }
 {
     for difference in list {
         let Difference { key, left, right } = *difference;
-        write_row(writer, style, view, Side::First, key, left, buffer)?;
-        write_row(writer, style, view, Side::Other, key, right, buffer)?;
+        write_row(
+            writer,
+            style,
+            coloured,
+            view,
+            Side::First,
+            key,
+            left,
+            buffer,
+        )?;
+        write_row(
+            writer,
+            style,
+            coloured,
+            view,
+            Side::Other,
+            key,
+            right,
+            buffer,
+        )?;
     }
     Ok(())
 }
@@ -66,7 +87,8 @@ fn write_changes<W: ByteOut>(
 /// last of both, which the buffer has then.
 fn write_row<W: ByteOut>(
     writer: &mut W,
-    style: DiffStyle,
+    style: &Style,
+    coloured: bool,
     view: View,
     side: Side,
     key: Key,
@@ -74,35 +96,36 @@ fn write_row<W: ByteOut>(
     buffer: &mut Vec<u8>,
 ) -> Result<(), WriteFailed>
     requires few_failures { (W.state writer.old).failures < 2 ^ 64 - 1 }
-    requires room { 512 ≤ vec_capacity buffer.old }
+    requires room { 2048 ≤ vec_capacity buffer.old }
     ensures front { WroteFront (output (W.state writer.old) (W.state writer.new))
-        (buffer.old.items ++ marked_row style view side key held)
+        (buffer.old.items ++ marked_row style.now coloured view side key held)
         buffer.new.items result }
-    ensures room { OnOk result (512 ≤ vec_capacity buffer.new) }
+    ensures room { OnOk result (2048 ≤ vec_capacity buffer.new) }
 {
     make_room(writer, buffer)?;
-    push_row(buffer, style, view, side, key, held);
+    push_row(buffer, style, coloured, view, side, key, held);
     Ok(())
 }
 
 /// Appends the row of the dump on this side, if it has one: a line.
 fn push_row(
     buffer: &mut Vec<u8>,
-    style: DiffStyle,
+    style: &Style,
+    coloured: bool,
     view: View,
     side: Side,
     key: Key,
     held: Option<Held>,
 )
-    requires { HasRoom buffer.old 196 }
+    requires { HasRoom buffer.old 842 }
     ensures text { buffer.new.items
-        ≡ buffer.old.items ++ marked_row style view side key held }
-    ensures room { TookRoom buffer.old buffer.new 196 }
+        ≡ buffer.old.items ++ marked_row style.now coloured view side key held }
+    ensures room { TookRoom buffer.old buffer.new 842 }
 {
     if let Some(held) = held {
-        push_text(buffer, row_mark(style.coloured, side));
-        push_pair(buffer, style.spelling, view, key, held);
-        push_text(buffer, row_end(style.coloured));
+        push_text(buffer, row_mark(coloured, side));
+        push_pair(buffer, style, view, key, held);
+        push_text(buffer, row_end(coloured));
     }
 }
 

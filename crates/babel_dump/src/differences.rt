@@ -22,11 +22,11 @@ pub(crate) fn found_differences(
     limits: Limits,
     view: View,
     count: bool,
-    format: Format,
+    format: &Format,
     seen: SeenTables,
 ) -> Result<Found, RunFault>
     ensures ok { IfOk result
-        (Says (ListsDifferences limits view count format seen.left seen.right)) }
+        (Says format.now (ListsDifferences limits view count format.now seen.left seen.right)) }
     ensures err { IfErr result
         (ComparedTooMany (HasManyDifferences limits seen.left seen.right)) }
 {
@@ -40,18 +40,18 @@ pub(crate) fn found_differences(
     let outcome = seen.compared(alloc, differences_status(differences.len()))?;
     drop(seen);
     let (rows, after) = difference_rows(alloc, view, format, differences)?;
-    Ok(Found::rows(format, rows, after, outcome))
+    Ok(Found::rows(rows, after, outcome))
 }
 
 /// The lines of each difference, or `same` where there is none.
 pub(crate) fn difference_rows(
     alloc: Global,
     view: View,
-    format: Format,
+    format: &Format,
     differences: Vec<Difference>,
 ) -> Result<(Rows, Vec<u8>), AllocError>
-    ensures { IfOk result (λ found.
-        lines_of format found.0 ++ found.1.items ≡ differences_in format view differences.items) }
+    ensures { IfOk result (λ found. lines_of format.now found.0 ++ found.1.items
+        ≡ differences_in format.now view differences.items) }
 {
     if differences.is_empty() {
         return Ok((Rows::Empty, same_output(alloc, format)?));

@@ -1,13 +1,10 @@
 ghost use Rattle.std.specs.Prelude.{◌≡◌, IfOk, map};
-ghost use Rattle.std.specs.List.{flat_map};
 ghost use Rattle.babel_dump.specs.Device.{HasRoomToCount};
 ghost use Rattle.babel_dump.specs.Each.{GavePairsOf, LooksUpEach, RefusesPairs};
 ghost use Rattle.babel_dump.specs.Given.{read_from};
-ghost use Rattle.babel_dump.specs.InFormat.{each_in};
 ghost use Rattle.babel_dump.specs.Parts.{Gathered, Says};
 ghost use Rattle.babel_dump.specs.Run.{stream_calls};
 ghost use Rattle.babel_dump.specs.RunText.{pair_status};
-ghost use Rattle.babel_dump.specs.SlicedRows.{answered_in};
 ghost use Rattle.babel_dump.specs.declared.format.Format.{Format};
 
 use crate::addr_pair::AddrPair;
@@ -17,7 +14,6 @@ use crate::format::Format;
 use crate::input::read_text;
 use crate::lookup::lookup_status;
 use crate::outcome::Outcome;
-use crate::output::Answered;
 use crate::reading::Reading;
 use crate::run_fault::RunFault;
 use crate::slices::{Found, Rows};
@@ -44,45 +40,28 @@ pub(crate) fn read_pairs<S: ByteIn>(
 pub(crate) fn found_answers(
     alloc: Global,
     with_prefix: bool,
-    format: Format,
-    asked: &[AddrPair],
-    table: &Table,
+    asked: Vec<AddrPair>,
+    table: Table,
 ) -> Result<(Found, Vec<u8>), AllocError>
-    ensures found { IfOk result
-        (λ found. Says (LooksUpEach format with_prefix asked.now table.now) found.0) }
+    ensures found { IfOk result (λ found. (format : Format)
+        → Says format (LooksUpEach format with_prefix asked.items table) found.0) }
     ensures statuses { IfOk result
-        (λ found. found.1.items ≡ map (pair_status table.now) asked.now) }
+        (λ found. found.1.items ≡ map (pair_status table) asked.items) }
 {
-    let (answers, statuses) = answers(alloc, with_prefix, table, asked)?;
+    let statuses = pair_statuses(alloc, &table, &asked)?;
     let outcome = Outcome::of_dump(status_of_all(&statuses), *table.report());
-    let rows = Rows::Answers(answers);
-    let found = Found::rows(format, rows, Vec::new(alloc), outcome);
-    Ok((found, statuses))
+    let rows = Rows::Answers(with_prefix, asked, table);
+    Ok((Found::rows(rows, Vec::new(alloc), outcome), statuses))
 }
 
-/// What a table answers for each of these pairs, and the status of each.
-fn answers(
-    alloc: Global,
-    with_prefix: bool,
-    table: &Table,
-    asked: &[AddrPair],
-) -> Result<(Vec<Answered>, Vec<u8>), AllocError>
-    ensures answers { IfOk result (λ answers. (format : Format)
-        → flat_map (answered_in format) answers.0.items
-        ≡ each_in format with_prefix table.now asked.now) }
-    ensures statuses { IfOk result
-        (λ answers. answers.1.items ≡ map (pair_status table.now) asked.now) }
+/// The status of what a table answers for each of these pairs.
+fn pair_statuses(alloc: Global, table: &Table, asked: &[AddrPair]) -> Result<Vec<u8>, AllocError>
+    ensures { IfOk result
+        (λ statuses. statuses.items ≡ map (pair_status table.now) asked.now) }
 {
-    let mut answers = Vec::with_capacity(alloc, asked.len())?;
     let mut statuses = Vec::with_capacity(alloc, asked.len())?;
     for pair in asked {
-        let row = table.best(&pair.dst, &pair.src);
-        statuses.push(lookup_status(&row))?;
-        answers.push(Answered {
-            pair: *pair,
-            row,
-            with_prefix,
-        })?;
+        statuses.push(lookup_status(&table.best(&pair.dst, &pair.src)))?;
     }
-    Ok((answers, statuses))
+    Ok(statuses)
 }

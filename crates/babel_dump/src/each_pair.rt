@@ -75,7 +75,7 @@ impl EachPair {
         };
         let (one, two) = (self.left.reading(left, 0), self.right.reading(right, 0));
         let (file, other_file) = (self.left.file.name(), self.right.file.name());
-        let (view, task, format) = (self.view, self.task, self.left.format);
+        let (view, task, format) = (self.view, self.task, &self.left.format);
         let found = found_of_both(alloc, one, two, view, task, format, file, other_file, seen)?;
         Ok(self.told(alloc, left, name, found)?)
     }
@@ -107,10 +107,10 @@ impl EachPair {
         origin: &Origin,
         table: &Table,
     ) -> Result<Found, AllocError>
-        ensures { IfOk result (Says (Tells table.now.report
+        ensures { IfOk result (Says self.now.left.format (Tells table.now.report
             (alone_in self.now side origin.now table.now.rows) 1)) }
     {
-        let format = self.left.format;
+        let format = &self.left.format;
         let style = match self.task {
             Comparison::Compare { .. } => return found_only(alloc, format, side, table),
             Comparison::Diff(style) => style,
@@ -135,12 +135,12 @@ impl EachPair {
     ) -> Result<PairText, AllocError>
         ensures text { IfOk result (λ text. text.lines.items ≡ told_in self.now.task
             self.now.left.format (lead_in self.now.left.format origin name.now)
-            (found_text found)) }
+            (found_text self.now.left.format found)) }
         ensures status { IfOk result (λ text. text.status ≡ found.outcome.status) }
     {
-        let (format, status) = (self.left.format, found.outcome.status);
+        let (format, status) = (&self.left.format, found.outcome.status);
         let routes = found.outcome.routes_note();
-        let text = text_of(alloc, found)?;
+        let text = text_of(alloc, format, found)?;
         if let (Comparison::Diff(_), Format::Text(_)) = (self.task, format) {
             return Ok(PairText {
                 lines: text,

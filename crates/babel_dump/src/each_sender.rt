@@ -286,7 +286,7 @@ impl EachSender {
     {
         match task {
             Task::Key { form, view } => {
-                let (format, file) = (self.format, self.file.name());
+                let (format, file) = (&self.format, self.file.name());
                 let named = origin_output(alloc, format, file, origin, name)?;
                 make_key(alloc, reading, form, view, format, &named, table)
             }
@@ -309,9 +309,9 @@ impl EachSender {
     {
         let (report, rows) = (*table.report(), table.rows().len());
         let (text, statuses, source) = self.found(alloc, reading, table)?;
-        let lead = lead_output(alloc, self.format, origin, name)?;
+        let lead = lead_output(alloc, &self.format, origin, name)?;
         let mut line = Vec::new(alloc);
-        push_led(&mut line, self.format, &lead, &text)?;
+        push_led(&mut line, &self.format, &lead, &text)?;
         Ok(TableText {
             line,
             report,
@@ -337,7 +337,7 @@ impl EachSender {
         match &self.task {
             SenderTask::Dump(task) => self.found_by(alloc, reading, *task, table),
             SenderTask::Each { with_prefix, .. } => {
-                let (text, statuses) = self.found_answers(alloc, *with_prefix, &table)?;
+                let (text, statuses) = self.found_answers(alloc, *with_prefix, table)?;
                 Ok((text, statuses, None))
             }
         }
@@ -356,11 +356,11 @@ impl EachSender {
         ensures err { IfErr result
             (FoundTooMany (TaskFindsTooMany task reading.limits table)) }
     {
-        let (format, quiet) = (self.format, self.quiet);
+        let (format, quiet) = (&self.format, self.quiet);
         let found = found_of(alloc, reading, &self.file, task, format, quiet, table)?;
         let statuses = one_status(alloc, found.outcome.status)?;
         let source = found.outcome.source_note(format.spelling());
-        Ok((text_of(alloc, found)?, statuses, source))
+        Ok((text_of(alloc, format, found)?, statuses, source))
     }
 
     /// What it answers for each of the pairs.
@@ -368,15 +368,17 @@ impl EachSender {
         &self,
         alloc: Global,
         with_prefix: bool,
-        table: &Table,
+        table: Table,
     ) -> Result<(Vec<u8>, Vec<u8>), AllocError>
         ensures text { IfOk result (λ found.
-            found.0.items ≡ each_in self.now.format with_prefix table.now self.now.asked.items) }
+            found.0.items ≡ each_in self.now.format with_prefix table self.now.asked.items) }
         ensures statuses { IfOk result (λ found.
-            found.1.items ≡ map (pair_status table.now) self.now.asked.items) }
+            found.1.items ≡ map (pair_status table) self.now.asked.items) }
     {
-        let (found, statuses) = found_answers(alloc, with_prefix, self.format, &self.asked, table)?;
-        Ok((text_of(alloc, found)?, statuses))
+        let mut asked = Vec::with_capacity(alloc, self.asked.len())?;
+        asked.extend_from_slice(&self.asked)?;
+        let (found, statuses) = found_answers(alloc, with_prefix, asked, table)?;
+        Ok((text_of(alloc, &self.format, found)?, statuses))
     }
 
     /// How many rows tables have in all, where some have so many, and one more so many; `None` if

@@ -24,7 +24,7 @@ use babel_tlv::View;
 /// if it is.
 pub fn write_event<W: ByteOut>(
     writer: &mut W,
-    format: Format,
+    format: &Format,
     view: View,
     pair: Option<AddrPair>,
     name: &[u8],
@@ -32,11 +32,11 @@ pub fn write_event<W: ByteOut>(
     buffer: &mut Vec<u8>,
 ) -> Result<(), WriteFailed>
     requires few_failures { (W.state writer.old).failures < 2 ^ 64 - 1 }
-    requires room { 512 ≤ vec_capacity buffer.old }
+    requires room { 2048 ≤ vec_capacity buffer.old }
     ensures front { WroteFront (output (W.state writer.old) (W.state writer.new))
-        (buffer.old.items ++ event_in format view pair name.now told.now)
+        (buffer.old.items ++ event_in format.now view pair name.now told.now)
         buffer.new.items result }
-    ensures room { OnOk result (512 ≤ vec_capacity buffer.new) }
+    ensures room { OnOk result (2048 ≤ vec_capacity buffer.new) }
 {
     make_room(writer, buffer)?;
     push_to_name(buffer, format, name, told);
@@ -47,15 +47,15 @@ pub fn write_event<W: ByteOut>(
 }
 
 /// Appends a line up to the octets of its interface's name.
-fn push_to_name(buffer: &mut Vec<u8>, format: Format, name: &[u8], told: &Telling<Speaker>)
-    requires { HasRoom buffer.old 512 }
+fn push_to_name(buffer: &mut Vec<u8>, format: &Format, name: &[u8], told: &Telling<Speaker>)
+    requires { HasRoom buffer.old 2048 }
     ensures text { buffer.new.items
-        ≡ buffer.old.items ++ event_to_name format name.now told.now }
-    ensures room { TookRoom buffer.old buffer.new 512 }
+        ≡ buffer.old.items ++ event_to_name format.now name.now told.now }
+    ensures room { TookRoom buffer.old buffer.new 2048 }
 {
     match format {
-        Format::Text(spelling) => push_event_front(buffer, spelling, name, told),
-        Format::Json(spelling) => push_event_front_json(buffer, spelling, told),
+        Format::Text(style) => push_event_front(buffer, style, name, told),
+        Format::Json(style) => push_event_front_json(buffer, style, told),
     }
     push_text(buffer, opening(format, name));
 }
@@ -63,20 +63,20 @@ fn push_to_name(buffer: &mut Vec<u8>, format: Format, name: &[u8], told: &Tellin
 /// Appends a line after the octets of its interface's name.
 fn push_after_name(
     buffer: &mut Vec<u8>,
-    format: Format,
+    format: &Format,
     view: View,
     pair: Option<AddrPair>,
     name: &[u8],
     told: &Telling<Speaker>,
 )
-    requires { HasRoom buffer.old 512 }
+    requires { HasRoom buffer.old 2048 }
     ensures text { buffer.new.items
-        ≡ buffer.old.items ++ event_after_name format view pair name.now told.now }
-    ensures room { TookRoom buffer.old buffer.new 512 }
+        ≡ buffer.old.items ++ event_after_name format.now view pair name.now told.now }
+    ensures room { TookRoom buffer.old buffer.new 2048 }
 {
     push_text(buffer, closing(format, name));
     match format {
-        Format::Text(spelling) => push_event_end(buffer, spelling, view, told),
-        Format::Json(spelling) => push_event_end_json(buffer, spelling, view, pair, told),
+        Format::Text(style) => push_event_end(buffer, style, view, told),
+        Format::Json(style) => push_event_end_json(buffer, style, view, pair, told),
     }
 }

@@ -1,19 +1,20 @@
 //! `events`: what the senders in a capture announce, change and retract, and what expires, told as
 //! the capture is read.
 ghost use Rattle.std.specs.Prelude.{◌≡◌, ◌+◌, ◌-◌, ◌++◌, ◌^◌, ◌<◌, ◌≤◌, ℕ, List, []};
-ghost use Rattle.std.specs.Prelude.{None, IfErr, IfOk, OnOk, false, map, true, vec_capacity};
+ghost use Rattle.std.specs.Prelude.{◌∷◌, None, IfErr, IfOk, OnOk, false, if◌then◌else◌, map};
+ghost use Rattle.std.specs.Prelude.{true, vec_capacity};
 ghost use Rattle.std.specs.List.{flat_map};
 ghost use Rattle.babel_capture.specs.Capture.{HasRead, IsReadToCut, moment_read};
 ghost use Rattle.babel_timeline.specs.declared.telling.Telling.{Telling as TellingSaid};
-ghost use Rattle.babel_dump.specs.CaptureText.{senders_status};
 ghost use Rattle.babel_dump.specs.Device.{HasRoomToCount, HasRoomToWrite};
 ghost use Rattle.babel_dump.specs.EventsCause.{EventsCause, Fails, HasNobody, HasUnread};
 ghost use Rattle.babel_dump.specs.EventsCause.{IsBackwards, IsTooLate, IsUnreadIn, RefusesOctets};
 ghost use Rattle.babel_dump.specs.EventsCause.{RefusesPiece, RefusesWhole, TellsFault, nameless};
-ghost use Rattle.babel_dump.specs.EventsRun.{AreReadWhole, TellsEvents, WroteLines};
+ghost use Rattle.babel_dump.specs.EventsRun.{AreReadWhole, TellsEvents, WroteLines, heard_status};
 ghost use Rattle.babel_dump.specs.Followed.{Ends, EndsAt, Goes, HasFollowed, IsFollowed};
 ghost use Rattle.babel_dump.specs.Followed.{Suits, named_event};
-ghost use Rattle.babel_dump.specs.HeardSenders.{heard_of, heard_told, sender_heard};
+ghost use Rattle.babel_dump.specs.FollowedSenders.{with_packets};
+ghost use Rattle.babel_dump.specs.HeardSenders.{heard_of, heard_told};
 ghost use Rattle.babel_dump.specs.Run.{output};
 ghost use Rattle.babel_dump.specs.Slices.{WroteFront};
 ghost use Rattle.babel_dump.specs.declared.input_fault.InputFault.TheVariants as input_faults;
@@ -95,12 +96,16 @@ impl<'a> Followed<'a> {
         ensures none { IfOk result (IsFollowed events.now [] []) }
         ensures told { IfOk result (λ followed. followed.follower.told.items ≡ []) }
         ensures empty { IfOk result (λ followed. followed.buffer.items ≡ []) }
-        ensures room { IfOk result (λ followed. 512 ≤ vec_capacity followed.buffer) }
+        ensures room { IfOk result (λ followed. 2048 ≤ vec_capacity followed.buffer) }
         ensures memory { IfErr result (Fails events.now (λ _. ⊥) ⊥ ⊥ ⊥ (λ _. ⊥)) }
     {
         let buffer = slice_buffer(alloc)?;
         let (sender, place) = (events.sender, events.place);
-        let wanted = Wanted { sender, place };
+        let wanted = Wanted {
+            sender,
+            place,
+            are_listed: events.strict,
+        };
         let capture = Capture::within(alloc, MOST, events.window, events.accept_cut, wanted);
         let follower = Follower::new(alloc, events);
         Ok(Followed {
@@ -124,7 +129,7 @@ impl<'a> Followed<'a> {
         requires none { IsFollowed events.now [] [] self.old }
         requires told { self.old.follower.told.items ≡ [] }
         requires empty { self.old.buffer.items ≡ [] }
-        requires room { 512 ≤ vec_capacity self.old.buffer }
+        requires room { 2048 ≤ vec_capacity self.old.buffer }
         ensures tells { IfOk result (λ answer. TellsEvents events.now (R.state reader.old)
             (R.state reader.new) (output (W.state writer.old) (W.state writer.new)) answer) }
         ensures cause { IfErr result (EventsCause events.now (R.state reader.old)
@@ -147,10 +152,10 @@ impl<'a> Followed<'a> {
         requires none { IsFollowed events.now [] [] self.old }
         requires told { self.old.follower.told.items ≡ [] }
         requires empty { self.old.buffer.items ≡ [] }
-        requires room { 512 ≤ vec_capacity self.old.buffer }
+        requires room { 2048 ≤ vec_capacity self.old.buffer }
         ensures told { OnOk result (self.new.follower.told.items ≡ []) }
         ensures empty { OnOk result (self.new.buffer.items ≡ []) }
-        ensures room { OnOk result (512 ≤ vec_capacity self.new.buffer) }
+        ensures room { OnOk result (2048 ≤ vec_capacity self.new.buffer) }
         ensures failures { OnOk result ((W.state writer.new).failures
             ≡ (W.state writer.old).failures) }
         ensures flushes { OnOk result ((W.state writer.new).flushes
@@ -186,10 +191,10 @@ impl<'a> Followed<'a> {
         requires few_flushes { (W.state writer.old).flushes < 2 ^ 64 - 1 }
         requires told { self.old.follower.told.items ≡ [] }
         requires empty { self.old.buffer.items ≡ [] }
-        requires room { 512 ≤ vec_capacity self.old.buffer }
+        requires room { 2048 ≤ vec_capacity self.old.buffer }
         ensures told { OnOk result (self.new.follower.told.items ≡ []) }
         ensures empty { OnOk result (self.new.buffer.items ≡ []) }
-        ensures room { OnOk result (512 ≤ vec_capacity self.new.buffer) }
+        ensures room { OnOk result (2048 ≤ vec_capacity self.new.buffer) }
         ensures failures { OnOk result ((W.state writer.new).failures
             ≡ (W.state writer.old).failures) }
         ensures flushes { OnOk result ((W.state writer.new).flushes
@@ -239,14 +244,15 @@ impl<'a> Followed<'a> {
         requires few_failures { (W.state writer.old).failures < 2 ^ 64 - 1 }
         requires few_flushes { (W.state writer.old).flushes < 2 ^ 64 - 1 }
         requires empty { self.old.buffer.items ≡ [] }
-        requires room { 512 ≤ vec_capacity self.old.buffer }
+        requires room { 2048 ≤ vec_capacity self.old.buffer }
         ensures same { (self.new.capture ≡ self.old.capture)
             × (self.new.follower.events.now ≡ self.old.follower.events.now)
             × (self.new.follower.hearing ≡ self.old.follower.hearing)
             × (self.new.follower.fault ≡ self.old.follower.fault) }
+        ensures senders { self.new.follower.senders ≡ self.old.follower.senders }
         ensures told { OnOk result (self.new.follower.told.items ≡ []) }
         ensures empty { OnOk result (self.new.buffer.items ≡ []) }
-        ensures room { OnOk result (512 ≤ vec_capacity self.new.buffer) }
+        ensures room { OnOk result (2048 ≤ vec_capacity self.new.buffer) }
         ensures failures { OnOk result ((W.state writer.new).failures
             ≡ (W.state writer.old).failures) }
         ensures flushes { OnOk result ((W.state writer.new).flushes
@@ -277,7 +283,7 @@ impl<'a> Followed<'a> {
         requires few_flushes { (W.state writer.old).flushes < 2 ^ 64 - 1 }
         requires told { self.old.follower.told.items ≡ [] }
         requires empty { self.old.buffer.items ≡ [] }
-        requires room { 512 ≤ vec_capacity self.old.buffer }
+        requires room { 2048 ≤ vec_capacity self.old.buffer }
         ensures ends { IfOk result (λ answer. (fed : List ℕ) (told : List (TellingSaid SpeakerSaid))
             → IsFollowed events.now fed told self.old → Ends events.now fed told
             (output (W.state writer.old) (W.state writer.new)) answer) }
@@ -288,8 +294,8 @@ impl<'a> Followed<'a> {
             (HasUnread events.now fed) trouble) }
     {
         let cut = self.cut(events)?;
-        let status = self.status(events)?;
         let senders = self.senders(alloc)?;
+        let status = self.status(events, &senders)?;
         self.expire(events)?;
         self.write(events, writer)?;
         let report = self.capture.gathered().report();
@@ -302,6 +308,7 @@ impl<'a> Followed<'a> {
         Ok(EventsOutcome {
             outcome,
             senders,
+            not_followed: self.follower.not_followed(),
             other_sources,
         })
     }
@@ -315,16 +322,34 @@ impl<'a> Followed<'a> {
         Ok(self.follower.other_sources.take())
     }
 
-    /// What was heard of each sender, by place, then by address.
+    /// What was heard of each sender that is followed and has packets, by place, then by address.
     fn senders(&self, alloc: Global) -> Result<Vec<HeardSender>, AllocError>
         ensures { IfOk result (λ senders. map heard_told senders.items
-            ≡ map (sender_heard self.now) self.now.capture.progress.gathering.senders) }
+            ≡ map (heard_of self.now) (with_packets self.now.follower.senders.senders.entries)) }
     {
         let mut senders = Vec::new(alloc);
-        for (origin, _tally) in self.capture.gathered().senders().iter() {
-            senders.push(self.heard(alloc, *origin)?)?;
+        for (origin, has_packets) in self.follower.senders.senders.iter() {
+            self.add_heard(alloc, *origin, *has_packets, &mut senders)?;
         }
         Ok(senders)
+    }
+
+    /// Adds what was heard of this sender, if it has packets.
+    fn add_heard(
+        &self,
+        alloc: Global,
+        origin: Origin,
+        has_packets: bool,
+        senders: &mut Vec<HeardSender>,
+    ) -> Result<(), AllocError>
+        ensures { OnOk result (map heard_told senders.new.items ≡ map heard_told senders.old.items
+            ++ (if has_packets then heard_of self.now origin ∷ [] else [])) }
+    {
+        if !has_packets {
+            return Ok(());
+        }
+        senders.push(self.heard(alloc, origin)?)?;
+        Ok(())
     }
 
     /// What was heard of this sender.
@@ -387,13 +412,12 @@ impl<'a> Followed<'a> {
     }
 
     /// The exit status: 1 where no sender has packets, and none is named.
-    fn status(&self, events: &Events) -> Result<u8, Trouble>
-        ensures status { IfOk result (λ status. status
-            ≡ senders_status self.now.capture.progress.gathering.senders) }
-        ensures cause { IfErr result (Fails events.now (λ _. ⊥)
-            (self.now.capture.progress.gathering.senders ≡ []) ⊥ ⊥ (λ _. ⊥)) }
+    fn status(&self, events: &Events, senders: &[HeardSender]) -> Result<u8, Trouble>
+        ensures status { IfOk result (λ status. status ≡ heard_status senders.now) }
+        ensures cause { IfErr result (Fails events.now (λ _. ⊥) (senders.now ≡ []) ⊥ ⊥
+            (λ _. ⊥)) }
     {
-        if !self.capture.gathered().senders().is_empty() {
+        if !senders.is_empty() {
             return Ok(0);
         }
         if events.sender.is_some() {
@@ -415,10 +439,10 @@ fn write_told<W: ByteOut>(
 ) -> Result<(), WriteFailed>
     requires few_failures { (W.state writer.old).failures < 2 ^ 64 - 1 }
     requires empty { buffer.old.items ≡ [] }
-    requires room { 512 ≤ vec_capacity buffer.old }
+    requires room { 2048 ≤ vec_capacity buffer.old }
     ensures front { WroteFront (output (W.state writer.old) (W.state writer.new))
         (flat_map (named_event events.now gathered.now) told.now) buffer.new.items result }
-    ensures room { OnOk result (512 ≤ vec_capacity buffer.new) }
+    ensures room { OnOk result (2048 ≤ vec_capacity buffer.new) }
 {
     for telling in told {
         write_kept(writer, events, gathered, telling, buffer)?;
@@ -436,16 +460,16 @@ fn write_kept<W: ByteOut>(
     buffer: &mut Vec<u8>,
 ) -> Result<(), WriteFailed>
     requires few_failures { (W.state writer.old).failures < 2 ^ 64 - 1 }
-    requires room { 512 ≤ vec_capacity buffer.old }
+    requires room { 2048 ≤ vec_capacity buffer.old }
     ensures front { WroteFront (output (W.state writer.old) (W.state writer.new))
         (buffer.old.items ++ named_event events.now gathered.now told.now) buffer.new.items result }
-    ensures room { OnOk result (512 ≤ vec_capacity buffer.new) }
+    ensures room { OnOk result (2048 ≤ vec_capacity buffer.new) }
 {
     if keeps_told(&events.filter, told) {
         let name = gathered.name(speaker_of(told).place.interface);
         write_event(
             writer,
-            events.format,
+            &events.format,
             events.view,
             events.pair,
             name,

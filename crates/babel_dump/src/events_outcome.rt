@@ -8,9 +8,11 @@ use babel_table::Report;
 #[derive(Drop)]
 pub struct EventsOutcome {
     pub outcome: Outcome,
-    /// What was heard of each sender at each place of which packets are read: by place, then by
-    /// address.
+    /// What was heard of each sender that is followed, at each place of which packets are read: by
+    /// place, then by address.
     pub senders: Vec<HeardSender>,
+    /// The number of the first packet of a sender that is not followed.
+    pub not_followed: Option<u64>,
     /// Where the answers are for any source, the routes for others.
     pub(crate) other_sources: Option<OtherSources>,
 }

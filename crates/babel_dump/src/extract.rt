@@ -47,18 +47,19 @@ pub(crate) fn find_packets<R: ByteIn>(
     sender: Addr,
     place: Option<Place>,
     hex: bool,
-    format: Format,
+    format: &Format,
     reader: &mut R,
 ) -> Result<Found, RunFault>
     requires { HasRoomToCount (R.state reader.old) }
     ensures { let task = CaptureTask.Extract sender place hex in
         let input =
         capture_from (R.state reader.old) (R.state reader.new) reading (wanted_of task) in
-        FoundIn task format input result }
+        FoundIn task format.now input result }
 {
     let wanted = Wanted {
         sender: Some(sender),
         place,
+        are_listed: true,
     };
     let mut copy = PacketCopy {
         octets: Vec::new(alloc),

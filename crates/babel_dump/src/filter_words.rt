@@ -1,8 +1,8 @@
 //! The words of `--within`, `--match`, `--source` and `--id`.
 use crate::filter::Filter;
 use crate::given_words::GivenWords;
+use crate::router_word::parse_router_id;
 use babel_prefix::{Prefix, parse_addr};
-use hex::FromHex;
 
 /// The filter that a command's words ask for.
 pub(crate) fn filter(given: &mut GivenWords<'_, '_>) -> Filter {
@@ -25,7 +25,13 @@ fn prefix(given: &mut GivenWords<'_, '_>, id: &str) -> Option<Prefix> {
 fn router_id(given: &mut GivenWords<'_, '_>) -> Option<[u8; 8]> {
     let word = given.word("id")?;
     let takes = "16 hexadecimal digits, or 8 pairs of them joined by colons";
-    given.value(parse_router_id(word), word, "a router-id", "id", takes)
+    given.value(
+        parse_router_id(word.as_bytes()),
+        word,
+        "a router-id",
+        "id",
+        takes,
+    )
 }
 
 /// The prefix that a word is: an address, `/` and a length in bits, or an address alone, for its
@@ -45,22 +51,4 @@ fn parse_len(word: &str) -> Option<u8> {
         return None;
     }
     word.parse().ok()
-}
-
-/// The router-id that a word is: 16 hexadecimal digits in either case, or 8 pairs of them with `:`
-/// between each two, as babeld writes it. `None` for any other word.
-pub(crate) fn parse_router_id(word: &str) -> Option<[u8; 8]> {
-    if let Ok(id) = <[u8; 8] as FromHex>::from_hex(word) {
-        return Some(id);
-    }
-    let mut id = [0; 8];
-    let mut pairs = word.split(':');
-    for octet in &mut id {
-        let [value] = <[u8; 1] as FromHex>::from_hex(pairs.next()?).ok()?;
-        *octet = value;
-    }
-    match pairs.next() {
-        Some(_) => None,
-        None => Some(id),
-    }
 }

@@ -1,14 +1,20 @@
 //! What the records of a capture tell, heard as they are read.
-ghost use Rattle.std.specs.Prelude.{◌≡◌, ◌+◌, ◌^◌, ◌<◌, ◌≤◌, [], IfErr, IsErr, None, OnOk, Some};
-ghost use Rattle.std.specs.Prelude.{drop, false, length, take, true};
-ghost use Rattle.babel_capture.specs.Sinking.{left_said, packet_said};
+ghost use Rattle.std.specs.Prelude.{◌≡◌, ◌+◌, ◌^◌, ◌<◌, ◌≤◌, [], IfErr, IfOk, IsErr, None};
+ghost use Rattle.std.specs.Prelude.{OnOk, Some, drop, false, length, take, true};
+ghost use Rattle.babel_capture.specs.Counts.{Made};
+ghost use Rattle.babel_capture.specs.Sinking.{IsTold, left_said, packet_said};
 ghost use Rattle.babel_tlv.specs.Framing.{framed};
-ghost use Rattle.babel_dump.specs.Followed.{HasHeard, HearsFront, HearsTold, IsWholeTold};
-ghost use Rattle.babel_dump.specs.Followed.{IsFrom, RefusesFront, RefusesTold, RefusesUnheard};
-ghost use Rattle.babel_dump.specs.Followed.{RefusesUsually, Stops, Suits, trouble_of};
+ghost use Rattle.babel_dump.specs.Followed.{HasHeard, HearsFollowed, HearsFront, HearsTold};
+ghost use Rattle.babel_dump.specs.Followed.{IsFrom, IsWholeTold, RefusesFront, RefusesTold};
+ghost use Rattle.babel_dump.specs.Followed.{RefusesUnheard, RefusesUsually, Stops, StopsFollowed};
+ghost use Rattle.babel_dump.specs.Followed.{Suits, trouble_of};
+ghost use Rattle.babel_dump.specs.FollowedSenders.{is_followed, with_followed};
+ghost use Rattle.babel_dump.specs.FollowedSenders.{sender_of as sender_found};
+ghost use Rattle.babel_dump.specs.declared.hearing.Unheard.TheVariants as unheard;
 ghost use Rattle.babel_dump.specs.declared.stop.Stop.{Stop as StopSaid};
 
 use crate::events_job::Events;
+use crate::followed_senders::{FollowedSenders, sender_of};
 use crate::hearing::{Hearing, Unheard};
 use crate::left_out::LeftOutDatagram;
 use crate::other_sources::OtherSources;
@@ -28,6 +34,8 @@ use std::alloc::{AllocError, Global};
 pub(crate) struct Follower<'a> {
     alloc: Global,
     events: &'a Events,
+    /// Whose records are heard.
+    pub senders: FollowedSenders,
     pub hearing: Hearing,
     /// What was told and is not written yet.
     pub told: Vec<Telling<Speaker>>,
@@ -43,6 +51,7 @@ impl<'a> Follower<'a> {
     /// Nothing was heard.
     pub(crate) fn new(alloc: Global, events: &'a Events) -> Follower<'a>
         ensures events { result.events.now ≡ events.now }
+        ensures nobody { result.senders.senders.entries ≡ [] }
         ensures none { HasHeard events.now [] [] result.hearing }
         ensures told { result.told.items ≡ [] }
         ensures fault { result.fault ≡ None }
@@ -50,6 +59,7 @@ impl<'a> Follower<'a> {
         Follower {
             alloc,
             events,
+            senders: FollowedSenders::new(alloc),
             hearing: Hearing::new(alloc, events),
             told: Vec::new(alloc),
             other_sources: other_sources(alloc, events),
@@ -70,10 +80,50 @@ impl<'a> Follower<'a> {
         }
     }
 
+    /// Hears a record; of a sender that is not followed no more than that it came.
+    fn follow(&mut self, told: &Record<'_>) -> Result<(), Stop>
+        ensures same { (self.new.events.now ≡ self.old.events.now)
+            × (self.new.fault ≡ self.old.fault) }
+        ensures heard { OnOk result
+            (HearsFollowed self.old.events.now told.now self.old self.new) }
+        ensures stops { IfErr result (StopsFollowed self.old.events.now told.now self.old) }
+    {
+        if self.follows(told)? {
+            return self.hear_all(told);
+        }
+        self.hear_all(&Record {
+            said: Said::Nothing,
+            ..*told
+        })
+    }
+
+    /// Whether the sender of a record is followed, if it has one. There is to say which is the first
+    /// that is not.
+    fn follows(&mut self, told: &Record<'_>) -> Result<bool, Unheard>
+        ensures same { (self.new.events.now ≡ self.old.events.now)
+            × (self.new.hearing ≡ self.old.hearing) × (self.new.told ≡ self.old.told)
+            × (self.new.fault ≡ self.old.fault) }
+        ensures follows { IfOk result (λ follows. (one : Made) → IsTold one told.now
+            → (follows ≡ is_followed self.old.senders.senders.entries (sender_found one.what))
+            × (self.new.senders.senders.entries
+            ≡ with_followed self.old.senders.senders.entries (sender_found one.what))) }
+        ensures memory { IfErr result (λ why. why ≡ unheard.Memory) }
+    {
+        let Some((origin, is_packet)) = sender_of(told) else {
+            return Ok(true);
+        };
+        if self.senders.meet(&origin, is_packet)? {
+            return Ok(true);
+        }
+        self.remarks.not_followed(&origin, told.number)?;
+        Ok(false)
+    }
+
     /// Hears a record, and the routes for other sources, if they are asked for.
     fn hear_all(&mut self, told: &Record<'_>) -> Result<(), Stop>
         ensures same { (self.new.events.now ≡ self.old.events.now)
             × (self.new.fault ≡ self.old.fault) }
+        ensures senders { self.new.senders ≡ self.old.senders }
         ensures heard { OnOk result
             (HearsTold self.old.events.now told.now self.old self.new) }
         ensures stops { IfErr result (Stops self.old.events.now told.now self.old self.new) }
@@ -89,6 +139,7 @@ impl<'a> Follower<'a> {
     fn hear_others(&mut self, told: &Record<'_>) -> Result<(), Unheard>
         ensures same { (self.new.events ≡ self.old.events) × (self.new.hearing ≡ self.old.hearing)
             × (self.new.told ≡ self.old.told) × (self.new.fault ≡ self.old.fault) }
+        ensures senders { self.new.senders ≡ self.old.senders }
         ensures from { IfErr result (IsFrom told.now) }
     {
         let Some(others) = &mut self.other_sources else {
@@ -105,8 +156,10 @@ impl<'a> Follower<'a> {
 
     /// Takes what has expired by this moment of the routes for other sources.
     pub(crate) fn expire_others(&mut self, until: u128) -> Result<(), AllocError>
-        ensures { (self.new.events ≡ self.old.events) × (self.new.hearing ≡ self.old.hearing)
-            × (self.new.told ≡ self.old.told) × (self.new.fault ≡ self.old.fault) }
+        ensures same { (self.new.events ≡ self.old.events)
+            × (self.new.hearing ≡ self.old.hearing) × (self.new.told ≡ self.old.told)
+            × (self.new.fault ≡ self.old.fault) }
+        ensures senders { self.new.senders ≡ self.old.senders }
     {
         match &mut self.other_sources {
             Some(others) => others.expire(until, self.hearing.since()),
@@ -118,6 +171,7 @@ impl<'a> Follower<'a> {
     fn hear(&mut self, told: &Record<'_>) -> Result<(), Stop>
         ensures same { (self.new.events.now ≡ self.old.events.now)
             × (self.new.fault ≡ self.old.fault) }
+        ensures senders { self.new.senders ≡ self.old.senders }
         ensures heard { OnOk result
             (HearsTold self.old.events.now told.now self.old self.new) }
         ensures whole { OnOk result (self.old.events.now.strict ≡ true
@@ -138,6 +192,7 @@ impl<'a> Follower<'a> {
     fn hear_whole(&mut self, told: &Record<'_>) -> Result<(), Unheard>
         ensures same { (self.new.events.now ≡ self.old.events.now)
             × (self.new.fault ≡ self.old.fault) }
+        ensures senders { self.new.senders ≡ self.old.senders }
         ensures heard { OnOk result
             (HearsTold self.old.events.now told.now self.old self.new) }
         ensures refused { Suits self.old.events.now self.old.hearing.teller → IfErr result
@@ -150,10 +205,17 @@ impl<'a> Follower<'a> {
         Ok(())
     }
 
+    /// The number of the first packet of a sender that is not followed.
+    pub(crate) fn not_followed(&self) -> Option<u64> {
+        self.remarks.not_followed
+    }
+
     /// Says what was not read since it was said last.
     pub(crate) fn say<S: Says>(&mut self, gathered: &Gathered, says: &mut S)
-        ensures { (self.new.events ≡ self.old.events) × (self.new.hearing ≡ self.old.hearing)
-            × (self.new.told ≡ self.old.told) × (self.new.fault ≡ self.old.fault) }
+        ensures same { (self.new.events ≡ self.old.events)
+            × (self.new.hearing ≡ self.old.hearing) × (self.new.told ≡ self.old.told)
+            × (self.new.fault ≡ self.old.fault) }
+        ensures senders { self.new.senders ≡ self.old.senders }
     {
         self.remarks.say(gathered, says);
     }
@@ -163,6 +225,7 @@ impl<'a> Follower<'a> {
     fn hear_strictly(&mut self, told: &Record<'_>) -> Result<(), Stop>
         ensures same { (self.new.events.now ≡ self.old.events.now)
             × (self.new.fault ≡ self.old.fault) }
+        ensures senders { self.new.senders ≡ self.old.senders }
         ensures heard { OnOk result
             (HearsTold self.old.events.now told.now self.old self.new) }
         ensures whole { OnOk result (IsWholeTold self.old.events.now told.now self.old) }
@@ -182,6 +245,7 @@ impl<'a> Follower<'a> {
         requires { left_said told.now.said ≡ Some reason }
         ensures same { (self.new.events.now ≡ self.old.events.now)
             × (self.new.fault ≡ self.old.fault) }
+        ensures senders { self.new.senders ≡ self.old.senders }
         ensures refused { IsErr result × IfErr result
             (RefusesTold self.old.events.now told.now self.old self.new) }
     {
@@ -199,6 +263,7 @@ impl<'a> Follower<'a> {
         requires { packet_said told.now.said ≡ Some packet.now }
         ensures same { (self.new.events.now ≡ self.old.events.now)
             × (self.new.fault ≡ self.old.fault) }
+        ensures senders { self.new.senders ≡ self.old.senders }
         ensures heard { OnOk result
             (HearsTold self.old.events.now told.now self.old self.new) }
         ensures whole { OnOk result (IsWholeTold self.old.events.now told.now self.old) }
@@ -239,6 +304,7 @@ impl<'a> Follower<'a> {
         requires short { before < 2 ^ 16 }
         ensures same { (self.new.events.now ≡ self.old.events.now)
             × (self.new.fault ≡ self.old.fault) }
+        ensures senders { self.new.senders ≡ self.old.senders }
         ensures heard { OnOk result (HearsFront self.old.events.now told.now packet.now
             (framed (take before (drop 4 packet.now.octets.now))) self.old self.new) }
         ensures refused { Suits self.old.events.now self.old.hearing.teller → IfErr result
@@ -288,7 +354,7 @@ impl Sink for Follower<'_> {
 
     fn take(&mut self, told: &Record<'_>) {
         if self.fault.is_none() {
-            if let Err(fault) = self.hear_all(told) {
+            if let Err(fault) = self.follow(told) {
                 self.fault = Some(fault);
             }
         }

@@ -4,9 +4,11 @@ use crate::factor::{Factor, parse_factor};
 use crate::format::Format;
 use crate::job::{DumpFile, Form, Refusal};
 use crate::limits::{TooFew, asked_limits};
+use crate::names::Names;
 use crate::options::{ASKED, KEPT, OptionRow, PRINTED, READ, SENT};
 use crate::place_word::parse_place;
 use crate::spelling::Spelling;
+use crate::style::Style;
 use babel_capture::Place;
 use babel_prefix::{Addr, Family, Prefix, parse_addr};
 use babel_table::Limits;
@@ -202,21 +204,34 @@ impl<'m, 'a> GivenWords<'m, 'a> {
     }
 
     /// The format that the words ask for.
-    pub fn format(&self) -> Format {
+    pub fn format(&mut self) -> Format {
+        let style = self.style();
         if self.has("json") {
-            Format::Json(self.spelling())
+            Format::Json(style)
         } else {
-            Format::Text(self.spelling())
+            Format::Text(style)
         }
     }
 
-    /// How the words ask that addresses be written.
-    pub fn spelling(&self) -> Spelling {
-        if self.has("short") {
+    /// How the words ask that addresses and router-ids be written.
+    fn style(&mut self) -> Style {
+        let spelling = if self.has("short") {
             Spelling::Short
         } else {
             Spelling::Long
+        };
+        let names = self.names();
+        Style { spelling, names }
+    }
+
+    /// The names that the words ask for, before they are read.
+    fn names(&mut self) -> Option<Names> {
+        let word = self.word("names")?;
+        if word == "-" {
+            self.refuse_word(word, "a file", "names", "the name of a file");
         }
+        let file = self.file_of(word);
+        Some(Names::of(self.alloc, file))
     }
 }
 

@@ -9,6 +9,7 @@ ghost use Rattle.babel_dump.specs.declared.run_fault.Side.TheVariants as sides;
 use crate::addr_pair::AddrPair;
 use crate::begun::Begins;
 use crate::capture_reading::CaptureReading;
+use crate::factor::Factor;
 use crate::filter::Filter;
 use crate::format::Format;
 use crate::key_text::Named;
@@ -16,7 +17,6 @@ use crate::misplaced::misplaced;
 use crate::moment_words::moments_of;
 use crate::reading::Reading;
 use crate::run_fault::Side;
-use crate::spelling::Spelling;
 use babel_canon::Body;
 use babel_capture::{Origin, Place, Window};
 use babel_prefix::Addr;
@@ -162,6 +162,13 @@ pub enum CaptureTask {
         /// Whether the dump is written as hexadecimal digits: `--hex`.
         hex: bool,
     },
+    /// `links`: what routers say of the links to their neighbours.
+    Links {
+        /// Where these links were captured: `--interface`. Where it is left out, at each place.
+        place: Option<Place>,
+        /// After how many times its Interval an IHU has lapsed: `--expiry`.
+        expiry: Factor,
+    },
 }
 
 impl CaptureTask {
@@ -183,8 +190,6 @@ pub struct DiffStyle {
     pub stat: bool,
     /// Whether rows of its text are in colour: `--color`.
     pub coloured: bool,
-    /// How addresses are written: `--short`.
-    pub spelling: Spelling,
 }
 
 /// Where a dump, a capture, or the pairs of `--each`, are read from.
@@ -323,6 +328,14 @@ impl Job {
     pub(crate) fn reports_ignored(&self) -> bool {
         match self.work {
             Work::Dump { task, .. } => matches!(task, Task::Show { .. }),
+            _ => false,
+        }
+    }
+
+    /// Whether it tells of links, as `links` does: of no routes, and so of no Interval of Updates.
+    pub(crate) fn tells_links(&self) -> bool {
+        match self.work {
+            Work::Capture { task, .. } => matches!(task, CaptureTask::Links { .. }),
             _ => false,
         }
     }

@@ -23,6 +23,7 @@ use crate::extract::find_packets;
 use crate::format::Format;
 use crate::input::{look_up, read_table};
 use crate::job::{CaptureTask, Comparison, DumpSource, Job, Task, Work};
+use crate::links::find_links;
 use crate::lookup::found_answer;
 use crate::outcome::Outcome;
 use crate::reading::Reading;
@@ -67,7 +68,7 @@ pub fn run_job<R: ByteIn, S: ByteIn, W: ByteOut>(
 {
     let found = find(alloc, job, reader, other);
     let aside = aside_of(&found);
-    let outcome = finish(alloc, writer, found)?;
+    let outcome = finish(alloc, writer, &job.format, found)?;
     Ok(Ran { outcome, aside })
 }
 
@@ -91,7 +92,7 @@ fn find<R: ByteIn, S: ByteIn>(
     ensures { FoundBy job.now (reads (R.state reader.old) (R.state reader.new))
         (reads (S.state other.old) (S.state other.new)) (other.new ≡ other.old) result }
 {
-    let (format, quiet) = (job.format, job.quiet);
+    let (format, quiet) = (&job.format, job.quiet);
     match &job.work {
         Work::Dump { source, task } => find_of_dump(alloc, source, *task, format, quiet, reader),
         Work::Each {
@@ -116,7 +117,7 @@ pub(crate) fn find_of_dump<R: ByteIn>(
     alloc: Global,
     source: &DumpSource,
     task: Task,
-    format: Format,
+    format: &Format,
     quiet: bool,
     reader: &mut R,
 ) -> Result<Found, RunFault>
@@ -124,7 +125,7 @@ pub(crate) fn find_of_dump<R: ByteIn>(
     ensures { let dump =
         dump_of (reads (R.state reader.old) (R.state reader.new)) source.now.reading in
         Gathered (calls_of dump) (OfFirst (InputCause dump (IsFaultOf task dump)))
-        (Says (TaskSays task format quiet (name_of source.now.file) dump)) result }
+        (Says format.now (TaskSays task format.now quiet (name_of source.now.file) dump)) result }
 {
     if let Task::Lookup { pair, with_prefix } = task {
         return find_answer(alloc, source.reading, pair, with_prefix, format, reader);
@@ -148,14 +149,14 @@ fn find_answer<R: ByteIn>(
     reading: Reading,
     pair: AddrPair,
     with_prefix: bool,
-    format: Format,
+    format: &Format,
     reader: &mut R,
 ) -> Result<Found, RunFault>
     requires { HasRoomToCount (R.state reader.old) }
     ensures { let dump = read_from (R.state reader.old) (R.state reader.new) reading in
         Gathered (calls_of dump) (OfFirst (InputCause dump (IsFaultOfGiven dump)))
-        (Says (SaysOf dump (λ table. LooksUp format with_prefix pair.dst pair.src table.report
-        (row_in table pair.dst pair.src)))) result }
+        (Says format.now (SaysOf dump (λ table. LooksUp format.now with_prefix pair.dst pair.src
+        table.report (row_in table pair.dst pair.src)))) result }
 {
     let read = look_up(alloc, reading, &pair, reader)?;
     let found = found_answer(alloc, pair, with_prefix, format, &read.0)?;
@@ -168,7 +169,7 @@ fn find_each<R: ByteIn, S: ByteIn>(
     alloc: Global,
     reading: Reading,
     with_prefix: bool,
-    format: Format,
+    format: &Format,
     reader: &mut R,
     pairs: &mut S,
 ) -> Result<Found, RunFault>
@@ -177,12 +178,12 @@ fn find_each<R: ByteIn, S: ByteIn>(
     ensures gathered { let dump = read_from (R.state reader.old) (R.state reader.new) reading in
         let asked = read_from (S.state pairs.old) (S.state pairs.new) reading in
         Gathered (calls_of dump) (EachCause dump asked)
-        (Says (LooksUpAsked dump asked format with_prefix)) result }
+        (Says format.now (LooksUpAsked dump asked format.now with_prefix)) result }
     ensures pairs_calls { Called (stream_calls
         (read_from (S.state pairs.old) (S.state pairs.new) reading)) result }
 {
     let asked = read_pairs(alloc, Reading { ..reading }, pairs)?;
-    find_answers(alloc, reading, with_prefix, format, &asked, reader)
+    find_answers(alloc, reading, with_prefix, format, asked, reader)
 }
 
 /// Reads a dump to its end, or to its first fault, and finds what it answers for each of these
@@ -191,17 +192,17 @@ fn find_answers<R: ByteIn>(
     alloc: Global,
     reading: Reading,
     with_prefix: bool,
-    format: Format,
-    asked: &[AddrPair],
+    format: &Format,
+    asked: Vec<AddrPair>,
     reader: &mut R,
 ) -> Result<Found, RunFault>
     requires { HasRoomToCount (R.state reader.old) }
     ensures { let dump = read_from (R.state reader.old) (R.state reader.new) reading in
         Gathered (calls_of dump) (OfFirst (InputCause dump (IsFaultOfGiven dump)))
-        (Says (SaysOf dump (LooksUpEach format with_prefix asked.now))) result }
+        (Says format.now (SaysOf dump (LooksUpEach format.now with_prefix asked.items))) result }
 {
     let (table, notes) = read_table(alloc, reading, reader)?;
-    let (found, _) = found_answers(alloc, with_prefix, format, asked, &table)?;
+    let (found, _) = found_answers(alloc, with_prefix, asked, table)?;
     Ok(found.beside(notes, None))
 }
 
@@ -212,7 +213,7 @@ pub(crate) fn find_of_two<R: ByteIn, S: ByteIn>(
     second: &DumpSource,
     view: View,
     task: Comparison,
-    format: Format,
+    format: &Format,
     reader: &mut R,
     other: &mut S,
 ) -> Result<Found, RunFault>
@@ -223,8 +224,8 @@ pub(crate) fn find_of_two<R: ByteIn, S: ByteIn>(
         let another =
         dump_of (reads (S.state other.old) (S.state other.new)) second.now.reading in
         Gathered (calls_of dump) (ComparisonCause task view dump another (other.new ≡ other.old))
-        (Says (ComparisonSays task format view (name_of first.now.file) (name_of second.now.file)
-        dump another)) result }
+        (Says format.now (ComparisonSays task format.now view (name_of first.now.file)
+        (name_of second.now.file) dump another)) result }
     ensures other_calls { Called (calls_of
         (dump_of (reads (S.state other.old) (S.state other.new)) second.now.reading)) result }
 {
@@ -286,17 +287,20 @@ fn find_of_capture<R: ByteIn>(
     alloc: Global,
     reading: CaptureReading,
     task: CaptureTask,
-    format: Format,
+    format: &Format,
     reader: &mut R,
 ) -> Result<Found, RunFault>
     requires { HasRoomToCount (R.state reader.old) }
-    ensures { FoundIn task format
+    ensures { FoundIn task format.now
         (capture_of (reads (R.state reader.old) (R.state reader.new)) reading task) result }
 {
     match task {
         CaptureTask::Senders => find_senders(alloc, reading, format, reader),
         CaptureTask::Extract { sender, place, hex } => {
             find_packets(alloc, reading, sender, place, hex, format, reader)
+        }
+        CaptureTask::Links { place, expiry } => {
+            find_links(alloc, reading, place, expiry, format, reader)
         }
     }
 }

@@ -56,12 +56,12 @@ pub(crate) fn found_key(
     reading: Reading,
     form: Form,
     view: View,
-    format: Format,
+    format: &Format,
     file: &str,
     table: Table,
 ) -> Result<Found, Fault>
-    ensures ok { IfOk result (Says (WritesOctets (AreOctets form reading view 1024 table)
-        (λ octets. key_in format octets (file_in format file.now)) table.report)) }
+    ensures ok { IfOk result (Says format.now (WritesOctets (AreOctets form reading view 1024 table)
+        (λ octets. key_in format.now octets (file_in format.now file.now)) table.report)) }
     ensures err { IfErr result
         (FoundTooMany (HasTooMany form reading.limits (seen_rows view table.rows))) }
 {
@@ -77,11 +77,11 @@ pub(crate) fn make_key(
     reading: Reading,
     form: Form,
     view: View,
-    format: Format,
+    format: &Format,
     named: &[u8],
     table: Table,
 ) -> Result<TableText, Fault>
-    ensures ok { IfOk result (λ key. IsKeyOf form reading view format named.now key table) }
+    ensures ok { IfOk result (λ key. IsKeyOf form reading view format.now named.now key table) }
     ensures err { IfErr result
         (FoundTooMany (HasTooMany form reading.limits (seen_rows view table.rows))) }
 {

@@ -1,7 +1,7 @@
 //! What the line of a key names, in its format: a file, and perhaps a sender in it.
 ghost use Rattle.std.specs.Prelude.{◌≡◌, ◌++◌, ◌≤◌, IfOk, OnOk, length};
 ghost use Rattle.std.specs.List.{flat_map};
-ghost use Rattle.babel_dump.specs.CaptureText.{escaped, name_json};
+ghost use Rattle.babel_dump.specs.NameText.{escaped, name_json, name_text};
 ghost use Rattle.babel_dump.specs.KeyText.{file_in, file_member, json_octet};
 ghost use Rattle.babel_dump.specs.EachSender.{origin_in, sender_members, sender_name};
 ghost use Rattle.babel_dump.specs.Slices.{HasRoom, TookRoom};
@@ -16,8 +16,8 @@ use babel_capture::Origin;
 use std::alloc::{AllocError, Global};
 
 /// What names a file.
-pub(crate) fn file_output(alloc: Global, format: Format, file: &str) -> Result<Vec<u8>, AllocError>
-    ensures { IfOk result (λ named. named.items ≡ file_in format file.now) }
+pub(crate) fn file_output(alloc: Global, format: &Format, file: &str) -> Result<Vec<u8>, AllocError>
+    ensures { IfOk result (λ named. named.items ≡ file_in format.now file.now) }
 {
     let mut named = Vec::new(alloc);
     match format {
@@ -30,12 +30,12 @@ pub(crate) fn file_output(alloc: Global, format: Format, file: &str) -> Result<V
 /// What names the dump of a sender at its place, whose interface has this name.
 pub(crate) fn origin_output(
     alloc: Global,
-    format: Format,
+    format: &Format,
     file: &str,
     origin: Origin,
     name: &[u8],
 ) -> Result<Vec<u8>, AllocError>
-    ensures { IfOk result (λ named. named.items ≡ origin_in format file.now origin name.now) }
+    ensures { IfOk result (λ named. named.items ≡ origin_in format.now file.now origin name.now) }
 {
     match format {
         Format::Text(_) => sender_name(alloc, file, origin),
@@ -70,12 +70,26 @@ fn sender_members(
     members.reserve(168)?;
     push_text(&mut members, r#","sender":""#);
     push_addr(&mut members, Spelling::Long, origin.sender);
+    push_text(&mut members, "\"");
     push_place_json(&mut members, origin.place);
     push_name_json(&mut members, name)?;
     Ok(members)
 }
 
-/// Appends the name of an interface: a string, or `null`.
+/// Appends a name, if there is one: ` (NAME)`.
+pub(crate) fn push_name_text(line: &mut Vec<u8>, name: &[u8]) -> Result<(), AllocError>
+    ensures { OnOk result (line.new.items ≡ line.old.items ++ name_text name.now) }
+{
+    if name.is_empty() {
+        return Ok(());
+    }
+    line.extend_from_slice(b" (")?;
+    push_escaped(line, r"\x", name)?;
+    line.push(b')')?;
+    Ok(())
+}
+
+/// Appends a name: a string, or `null`.
 pub(crate) fn push_name_json(line: &mut Vec<u8>, name: &[u8]) -> Result<(), AllocError>
     ensures { OnOk result (line.new.items ≡ line.old.items ++ name_json name.now) }
 {
@@ -89,8 +103,8 @@ pub(crate) fn push_name_json(line: &mut Vec<u8>, name: &[u8]) -> Result<(), Allo
     Ok(())
 }
 
-/// Appends the octets of the name of an interface, with this before two digits.
-pub(crate) fn push_escaped(line: &mut Vec<u8>, escape: &str, name: &[u8]) -> Result<(), AllocError>
+/// Appends the octets of a name, with this before two digits.
+fn push_escaped(line: &mut Vec<u8>, escape: &str, name: &[u8]) -> Result<(), AllocError>
     requires { length escape.now ≤ 3 }
     ensures { OnOk result (line.new.items ≡ line.old.items ++ escaped escape.now name.now) }
 {

@@ -38,11 +38,11 @@ fn write_file<W: Write>(f: &mut Formatter<W>, file: &str) -> fmt::Result {
 /// The line of the key of these octets, which are named so in this format.
 pub(crate) fn key_output(
     alloc: Global,
-    format: Format,
+    format: &Format,
     octets: &[u8],
     named: &[u8],
 ) -> Result<Vec<u8>, AllocError>
-    ensures { IfOk result (λ line. line.items ≡ key_in format octets.now named.now) }
+    ensures { IfOk result (λ line. line.items ≡ key_in format.now octets.now named.now) }
 {
     match format {
         Format::Text(_) => key_line(alloc, octets, named),

@@ -3,6 +3,7 @@ ghost use Rattle.babel_dump.specs.ExtractLaws.{ExtractedIsFramed};
 ghost use Rattle.babel_dump.specs.Fellows.{FellowsAreMutual};
 ghost use Rattle.babel_dump.specs.FirstIgnored.{FirstIsFirst, NoneIsNone, OffsetsOfDumpsRise};
 ghost use Rattle.babel_dump.specs.FirstLeftOut.{NoneIsLeftOut, RefusedIsFirst};
+ghost use Rattle.babel_dump.specs.FollowedSenders.{FewAreFollowed};
 ghost use Rattle.babel_dump.specs.OneOutcome.{FaultIsOfAll, FaultIsOne, NamedIsNotSeveral};
 ghost use Rattle.babel_dump.specs.OneOutcome.{NothingWritten, OutcomeIsOne, OutcomeOrFault};
 ghost use Rattle.babel_dump.specs.OneOutcome.{WrittenIsPrefix};
@@ -58,4 +59,10 @@ pub fn left_out_is_first()
 /// The fellow that a sender of one capture has in another has it as its own: so each is in one pair.
 pub fn fellows_are_mutual()
     ensures { FellowsAreMutual }
+{}
+
+/// Where a capture has no more than 65,536 senders, `events` follows all of them: its records are
+/// taken as they are.
+pub fn few_are_followed()
+    ensures { FewAreFollowed }
 {}

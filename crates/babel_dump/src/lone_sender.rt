@@ -58,6 +58,7 @@ impl Lone {
         let wanted = Wanted {
             sender: None,
             place: self.place,
+            are_listed: true,
         };
         let mut device = begun.into_device();
         let read = read_capture(alloc, self.reading, wanted, &mut device, &mut NoSink)?;
@@ -136,6 +137,7 @@ fn from_note(
     note.reserve(220)?;
     push_text(&mut note, r#"{"note":"from","sender":""#);
     push_addr(&mut note, spelling, origin.sender);
+    push_text(&mut note, "\"");
     push_place_json(&mut note, origin.place);
     push_name_json(&mut note, name)?;
     note.extend_from_slice(b"}\n")?;

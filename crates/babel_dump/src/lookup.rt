@@ -18,11 +18,11 @@ pub(crate) fn found_answer(
     alloc: Global,
     pair: AddrPair,
     with_prefix: bool,
-    format: Format,
+    format: &Format,
     answer: &Answer,
 ) -> Result<Found, AllocError>
-    ensures { IfOk result
-        (Says (LooksUp format with_prefix pair.dst pair.src answer.now.report answer.now.row)) }
+    ensures { IfOk result (Says format.now (LooksUp format.now with_prefix pair.dst pair.src
+        answer.now.report answer.now.row)) }
 {
     let outcome = Outcome::of_dump(lookup_status(&answer.row), answer.report);
     let answered = Answered {

@@ -6,6 +6,7 @@ ghost use Rattle.babel_dump.specs.Octets.{AreNormal, AreOctets, AreRoutes, HasTo
 ghost use Rattle.babel_dump.specs.Parts.{FoundTooMany, Says};
 ghost use Rattle.babel_dump.specs.RunText.{form_text};
 
+use crate::format::Format;
 use crate::job::Form;
 use crate::outcome::Outcome;
 use crate::output::hex_output;
@@ -28,10 +29,11 @@ pub(crate) fn found_octets(
     view: View,
     body: Body,
     hex: bool,
+    format: &Format,
     table: Table,
 ) -> Result<Found, Fault>
-    ensures ok { IfOk result (Says (WritesOctets (AreOctets form reading view body table)
-        (form_text hex) table.report)) }
+    ensures ok { IfOk result (Says format.now (WritesOctets
+        (AreOctets form reading view body table) (form_text hex) table.report)) }
     ensures err { IfErr result
         (FoundTooMany (HasTooMany form reading.limits (seen_rows view table.rows))) }
 {

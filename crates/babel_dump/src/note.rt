@@ -27,6 +27,8 @@ pub enum Note {
     TooShort(u64),
     /// Times run backwards at the packet with this number.
     Backwards(u64),
+    /// The packet with this number is the first of a sender that is not followed.
+    NotFollowed(u64),
     /// What was read of a capture spans so many hundredths of a second, which is less than the
     /// greatest Interval of an Update that announces.
     ShortSpan { span: u64, interval: u16 },
@@ -35,6 +37,8 @@ pub enum Note {
     Expired(u64),
     /// A dump has no Update.
     NoUpdates,
+    /// No IHU in a capture names a neighbour.
+    NoIhus,
     /// So many routes differ of two dumps that answer the same.
     RoutesDiffer(u64),
     /// A lookup was for this source, which is written so, and routes to its destination are
@@ -61,6 +65,12 @@ impl fmt::Display for Note {
             Note::TooShort(1) => f.write_str("1 frame too short to tell"),
             Note::TooShort(frames) => write!(f, "{frames} frames too short to tell"),
             Note::Backwards(packet) => write!(f, "times run backwards at packet {packet}"),
+            Note::NotFollowed(packet) => {
+                write!(
+                    f,
+                    "too many senders at packet {packet}, and no more are followed"
+                )
+            }
             Note::ShortSpan { span, interval } => write!(
                 f,
                 "the capture spans {} s, the Interval is {} s: routes may be missing",
@@ -69,6 +79,7 @@ impl fmt::Display for Note {
             ),
             Note::Expired(routes) => write_expired(f, *routes),
             Note::NoUpdates => f.write_str("no Updates"),
+            Note::NoIhus => f.write_str("no IHUs"),
             Note::RoutesDiffer(routes) => write_routes_differ(f, *routes),
             Note::Source(Spelling::Long, source) => write_source(f, source),
             Note::Source(Spelling::Short, source) => write_source(f, &Short(*source)),

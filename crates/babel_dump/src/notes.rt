@@ -28,6 +28,7 @@ use crate::outcome::Reports;
 use crate::push_note::push_note_json;
 use crate::run_fault::{RunFault, Side};
 use crate::sender_notes::write_sender_notes;
+use crate::slice_buffer::LONGEST_LINE;
 use crate::spelling::Spelling;
 use crate::write::{WriteFailed, write_all, write_text};
 use babel_capture::{Report as CaptureReport, Timing};
@@ -40,23 +41,20 @@ const MOST: usize = 21;
 /// The nanoseconds of a hundredth of a second.
 const HUNDREDTH: u128 = 10_000_000;
 
-/// The JSON object of a note has no more octets, and the end of its line.
-const LONGEST: usize = 1_600;
-
 /// The notes of a run, in the order in which they are told. Their room is taken before the run, so
 /// that memory cannot run out after its output.
 #[derive(Drop)]
 pub struct Notes {
     list: Vec<SideNote>,
     line: Vec<u8>,
-    ghost room: { 1600 ≤ vec_capacity line },
+    ghost room: { 2048 ≤ vec_capacity line },
 }
 
 impl Notes {
     /// No note, and room for as many as a run can have.
     pub fn new(alloc: Global) -> Result<Notes, AllocError> {
         let list = Vec::with_capacity(alloc, MOST)?;
-        let line = Vec::with_capacity(alloc, LONGEST)?;
+        let line = Vec::with_capacity(alloc, LONGEST_LINE)?;
         Ok(Notes { list, line })
     }
 
@@ -83,8 +81,15 @@ impl Notes {
                 self.add_dump(Side::Other, other, other_capture)?;
                 self.add(Side::First, ran.outcome.routes_note())
             }
+            Reports::Capture { report, cut } if job.tells_links() => {
+                self.add_whole(report, cut, None)?;
+                if ran.outcome.status != 0 && ran.aside.absence.is_none() {
+                    self.add(Side::First, Some(Note::NoIhus))?;
+                }
+                Ok(())
+            }
             Reports::Capture { report, cut } => {
-                self.add_whole(report, cut)?;
+                self.add_whole(report, cut, report.interval())?;
                 let short = if job.counts_short() {
                     report.short()
                 } else {
@@ -115,10 +120,11 @@ impl Notes {
             Some(heard) => {
                 self.add_dump(Side::First, heard.report, Some(capture))?;
                 let (spelling, others) = (events.format.spelling(), &answer.other_sources);
-                self.add(Side::First, source_note(others, spelling, &heard.origin))
+                self.add(Side::First, source_note(others, spelling, &heard.origin))?;
             }
-            None => self.add_capture(Side::First, capture, report.interval()),
+            None => self.add_capture(Side::First, capture, report.interval())?,
         }
+        self.add(Side::First, not_followed(answer))
     }
 
     /// What there is to know of the dump of a sender in the capture on this side, in place of what
@@ -180,11 +186,16 @@ impl Notes {
         self.add(side, no_updates(report))
     }
 
-    /// Adds what there is to know of a capture, and of the greatest Interval there.
-    fn add_whole(&mut self, report: CaptureReport, cut: Option<u64>) -> Result<(), AllocError>
+    /// Adds what there is to know of a capture that was not read for a dump, and of this Interval.
+    fn add_whole(
+        &mut self,
+        report: CaptureReport,
+        cut: Option<u64>,
+        interval: Option<u16>,
+    ) -> Result<(), AllocError>
         ensures { OnOk result ((left : Option LeftOutNote) × (self.new.list.items
             ≡ self.old.list.items
-            ++ flat_map (told sides.First) (about_capture left report cut report.interval))) }
+            ++ flat_map (told sides.First) (about_capture left report cut interval))) }
     {
         let capture = CaptureNotes {
             report,
@@ -192,7 +203,7 @@ impl Notes {
             are_apart: false,
             expired_rows: 0,
         };
-        self.add_capture(Side::First, capture, report.interval())
+        self.add_capture(Side::First, capture, interval)
     }
 
     /// Adds what there is to know of a capture, and of this Interval.
@@ -315,6 +326,11 @@ fn left_out(report: CaptureReport, are_apart: bool) -> Option<Note>
     Some(Note::LeftOut(LeftOutNote::of(report, are_apart)?))
 }
 
+/// That senders are not followed.
+fn not_followed(answer: &EventsOutcome) -> Option<Note> {
+    Some(Note::NotFollowed(answer.not_followed?))
+}
+
 /// That a capture is cut short.
 fn cut_at(cut: Option<u64>) -> Option<Note>
     ensures { result ≡ option_map notes.CaptureCut cut }
@@ -355,10 +371,10 @@ fn write_notes<W: ByteOut>(
 ) -> Result<(), WriteFailed>
     requires few_failures { (W.state writer.old).failures < 2 ^ 64 - 1 }
     requires few_flushes { (W.state writer.old).flushes < 2 ^ 64 - 1 }
-    requires room { 1600 ≤ vec_capacity line.old }
+    requires room { 2048 ≤ vec_capacity line.old }
     ensures text { WroteText (output (W.state writer.old) (W.state writer.new))
         (flat_map note_json notes.now) result }
-    ensures room { 1600 ≤ vec_capacity line.new }
+    ensures room { 2048 ≤ vec_capacity line.new }
 {
     for note in notes {
         line.clear();

@@ -171,7 +171,7 @@ const JSON: OptionRow = OptionRow {
     id: "json",
     help: "Print one JSON object per line",
     commands: &[
-        "show", "lookup", "key", "pairs", "compare", "diff", "senders",
+        "show", "lookup", "key", "pairs", "compare", "diff", "senders", "links",
     ],
     ..FLAG
 };
@@ -283,7 +283,7 @@ pub(crate) static SENT: &[OptionRow] = &[
     OptionRow {
         help: "The place in the capture: the interface, with its link and VLANs, as senders lists \
                it; if omitted, each place is reported separately",
-        commands: &["events"],
+        commands: &["links", "events"],
         ..INTERFACE
     },
     OptionRow {
@@ -321,6 +321,12 @@ pub(crate) static READ: &[OptionRow] = &[
         ..EXPIRY
     },
     OptionRow {
+        help: "Leave out what an IHU said FACTOR times its Interval ago, at --until or else at the \
+               end; 3.5 in RFC 8966, appendix B [default: 3.5]",
+        commands: &["links"],
+        ..EXPIRY
+    },
+    OptionRow {
         id: "hold",
         help: "Keep a retracted route as unreachable, so that no less specific route takes its \
                place",
@@ -350,7 +356,7 @@ pub(crate) static READ: &[OptionRow] = &[
     },
     OptionRow {
         help: "Reject a capture if any datagram is left out",
-        commands: &OF_OCTETS,
+        commands: &["senders", "extract"],
         ..STRICT
     },
     OptionRow {
@@ -509,11 +515,19 @@ pub(crate) static PRINTED: &[OptionRow] = &[
     },
     JSON,
     OptionRow {
+        id: "names",
+        takes: Takes::Word("FILE"),
+        help: "Print the names that the lines of FILE give addresses and router-ids, as \
+               'fe80::1 b1', after senders, next hops and router-ids",
+        commands: &["show", "lookup", "pairs", "compare", "diff", "events"],
+        ..FLAG
+    },
+    OptionRow {
         id: "short",
         help: "Write addresses as RFC 5952 does, fe80::1, and leave out a source prefix of length \
                0",
         commands: &[
-            "show", "lookup", "pairs", "compare", "diff", "senders", "events",
+            "show", "lookup", "pairs", "compare", "diff", "senders", "links", "events",
         ],
         ..FLAG
     },

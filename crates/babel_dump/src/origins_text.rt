@@ -10,7 +10,6 @@ ghost use Rattle.babel_dump.specs.Slices.{HasRoom};
 use crate::diff::{push_stat, push_stat_json};
 use crate::differences::differences_status;
 use crate::format::Format;
-use crate::job::DiffStyle;
 use crate::key_text::push_file;
 use crate::originated::{Announced, OnSides, Origination};
 use crate::origins_job::Origins;
@@ -20,7 +19,7 @@ use std::alloc::{AllocError, Global};
 use std::collections::BTreeMap;
 
 /// No lines of one origination are longer, nor is the line of numbers, in octets.
-const ROOM: usize = 320;
+const ROOM: usize = 960;
 
 /// What is written, and the status.
 #[derive(Drop)]
@@ -42,7 +41,7 @@ pub(crate) fn origins_text(
 {
     match &origins.right {
         None => Ok(OriginsText {
-            lines: shown(alloc, origins.left.format, all)?,
+            lines: shown(alloc, &origins.left.format, all)?,
             status: 0,
         }),
         Some(right) => {
@@ -59,10 +58,10 @@ pub(crate) fn origins_text(
 /// A line for each.
 fn shown(
     alloc: Global,
-    format: Format,
+    format: &Format,
     all: &BTreeMap<Origination, OnSides>,
 ) -> Result<Vec<u8>, AllocError>
-    ensures { IfOk result (λ text. text.items ≡ flat_map (shown_in format) all.now.entries) }
+    ensures { IfOk result (λ text. text.items ≡ flat_map (shown_in format.now) all.now.entries) }
 {
     let mut text = Vec::new(alloc);
     for (one, sides) in all {
@@ -73,9 +72,9 @@ fn shown(
 }
 
 /// Appends what the capture has: a line.
-fn push_shown(buffer: &mut Vec<u8>, format: Format, one: &Origination, sides: OnSides)
-    requires { HasRoom buffer.old 320 }
-    ensures { buffer.new.items ≡ buffer.old.items ++ shown_in format (one.now, sides) }
+fn push_shown(buffer: &mut Vec<u8>, format: &Format, one: &Origination, sides: OnSides)
+    requires { HasRoom buffer.old 960 }
+    ensures { buffer.new.items ≡ buffer.old.items ++ shown_in format.now (one.now, sides) }
 {
     if let Some(announced) = sides.left {
         push_announced(buffer, format, one, announced);
@@ -83,17 +82,17 @@ fn push_shown(buffer: &mut Vec<u8>, format: Format, one: &Origination, sides: On
 }
 
 /// Appends what the capture has, which is announced so: a line.
-fn push_announced(buffer: &mut Vec<u8>, format: Format, one: &Origination, announced: Announced)
-    requires { HasRoom buffer.old 320 }
+fn push_announced(buffer: &mut Vec<u8>, format: &Format, one: &Origination, announced: Announced)
+    requires { HasRoom buffer.old 960 }
     ensures { buffer.new.items
-        ≡ buffer.old.items ++ shown_by format one.now (Some announced) }
+        ≡ buffer.old.items ++ shown_by format.now one.now (Some announced) }
 {
     match format {
-        Format::Text(spelling) => {
-            push_origin(buffer, spelling, true, one, announced);
+        Format::Text(style) => {
+            push_origin(buffer, style, true, one, announced);
             push_octet(buffer, b'\n');
         }
-        Format::Json(spelling) => push_origin_json(buffer, spelling, one, announced),
+        Format::Json(style) => push_origin_json(buffer, style, one, announced),
     }
 }
 
@@ -139,7 +138,7 @@ fn changed(
         (λ text. text.items ≡ changed_in origins.now.left.format origins.now other_file.now count
         list.now) }
 {
-    match origins.left.format {
+    match &origins.left.format {
         Format::Text(_) => changed_text(alloc, origins, other_file, count, list),
         Format::Json(_) => changed_json(alloc, origins, count, list),
     }
@@ -198,13 +197,14 @@ fn push_changes(
     origins: &Origins,
     list: &[(Origination, OnSides)],
 ) -> Result<(), AllocError>
-    ensures { OnOk result (text.new.items ≡ text.old.items ++ flat_map
-        (change_in origins.now.left.format origins.now.style origins.now.has_metric) list.now) }
+    ensures { OnOk result (text.new.items ≡ text.old.items
+        ++ flat_map (change_in origins.now.left.format origins.now.style.coloured
+        origins.now.has_metric) list.now) }
 {
-    let (format, style, has_metric) = (origins.left.format, origins.style, origins.has_metric);
+    let (coloured, has_metric) = (origins.style.coloured, origins.has_metric);
     for change in list {
         text.reserve(ROOM)?;
-        push_one(text, format, style, has_metric, change);
+        push_one(text, &origins.left.format, coloured, has_metric, change);
     }
     Ok(())
 }
@@ -212,18 +212,19 @@ fn push_changes(
 /// Appends the lines of a change.
 fn push_one(
     text: &mut Vec<u8>,
-    format: Format,
-    style: DiffStyle,
+    format: &Format,
+    coloured: bool,
     has_metric: bool,
     change: &(Origination, OnSides),
 )
-    requires { HasRoom text.old 320 }
-    ensures { text.new.items ≡ text.old.items ++ change_in format style has_metric change.now }
+    requires { HasRoom text.old 960 }
+    ensures { text.new.items
+        ≡ text.old.items ++ change_in format.now coloured has_metric change.now }
 {
     let (one, sides) = (&change.0, change.1);
     match format {
-        Format::Text(_) => push_change(text, style, has_metric, one, sides),
-        Format::Json(spelling) => push_change_json(text, spelling, has_metric, one, sides),
+        Format::Text(style) => push_change(text, style, coloured, has_metric, one, sides),
+        Format::Json(style) => push_change_json(text, style, has_metric, one, sides),
     }
 }
 
@@ -240,18 +241,18 @@ fn push_numbers(
     if !origins.style.stat {
         return Ok(());
     }
-    push_stat_of(text, origins.left.format, count, list)
+    push_stat_of(text, &origins.left.format, count, list)
 }
 
 /// Appends them.
 fn push_stat_of(
     text: &mut Vec<u8>,
-    format: Format,
+    format: &Format,
     count: usize,
     list: &[(Origination, OnSides)],
 ) -> Result<(), AllocError>
     ensures { OnOk result
-        (text.new.items ≡ text.old.items ++ numbers_in format count list.now) }
+        (text.new.items ≡ text.old.items ++ numbers_in format.now count list.now) }
 {
     let (gone, new) = (gone_count(list), new_count(list));
     let changed = list.len().saturating_sub(gone).saturating_sub(new);

@@ -1,6 +1,6 @@
 ghost use Rattle.std.specs.Prelude.{◌≡◌};
 ghost use Rattle.babel_dump.specs.CaptureRun.{IsOutcomeOf};
-ghost use Rattle.babel_dump.specs.CaptureText.{senders_status};
+ghost use Rattle.babel_dump.specs.CaptureText.{senders_status, text_status};
 ghost use Rattle.babel_dump.specs.Command.{IsOutcome};
 ghost use Rattle.babel_dump.specs.Run.{run_status};
 
@@ -71,6 +71,16 @@ impl Outcome {
         ensures { IsOutcomeOf result (senders_status gathered.now.senders) gathered.now.report cut }
     {
         let status = if gathered.senders().is_empty() { 1 } else { 0 };
+        let report = gathered.report();
+        let reports = Reports::Capture { report, cut };
+        Outcome { status, reports }
+    }
+
+    /// The same where this text was found of it: the status is 1 if that is empty.
+    pub(crate) fn of_lines(text: &[u8], gathered: &Gathered, cut: Option<u64>) -> Outcome
+        ensures { IsOutcomeOf result (text_status text.now) gathered.now.report cut }
+    {
+        let status = if text.is_empty() { 1 } else { 0 };
         let report = gathered.report();
         let reports = Reports::Capture { report, cut };
         Outcome { status, reports }

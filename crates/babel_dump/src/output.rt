@@ -1,9 +1,9 @@
 //! What the runs write, in the format that is asked for.
-ghost use Rattle.std.specs.Prelude.{◌≡◌, ◌≤◌, ◌++◌, List, ℕ, IfOk, length};
+ghost use Rattle.std.specs.Prelude.{◌≡◌, ◌≤◌, ◌++◌, IfOk, length};
 ghost use Rattle.babel_tlv.specs.declared.view.View.{View};
 ghost use Rattle.babel_dump.specs.CaptureText.{escape};
-ghost use Rattle.babel_dump.specs.InFormat.{count_in, counts_in, line_in, lookup_in, report_in};
-ghost use Rattle.babel_dump.specs.InFormat.{rows_name, verdict_in};
+ghost use Rattle.babel_dump.specs.InFormat.{answer_line_in, count_in, counts_in, difference_in};
+ghost use Rattle.babel_dump.specs.InFormat.{line_in, lookup_in, report_in, rows_name, verdict_in};
 ghost use Rattle.babel_dump.specs.Slices.{HasRoom, TookRoom};
 ghost use Rattle.babel_dump.specs.TextParts.{after_name, closing, hex_text};
 ghost use Rattle.babel_dump.specs.TextParts.{opening, same_in, to_name};
@@ -26,19 +26,8 @@ use babel_table::Report;
 use babel_tlv::{Held, Key, View};
 use std::alloc::{AllocError, Global};
 
-/// No text of a few lines is longer, in octets: the report of a dump with TLVs ignored for each
-/// reason.
-const LONGEST_TEXT: usize = 1_483;
-
-/// What has a line of its own, or a few, in what is written.
-pub(crate) trait Line: Copy {
-    ghost text: { Format → View → Self → List ℕ };
-
-    fn push(self, buffer: &mut Vec<u8>, format: Format, view: View)
-        requires { HasRoom buffer.old 512 }
-        ensures text { buffer.new.items ≡ buffer.old.items ++ text format view self }
-        ensures room { TookRoom buffer.old buffer.new 512 };
-}
+/// No text of a few lines is longer, in octets: a difference with four names.
+const LONGEST_TEXT: usize = 1_735;
 
 /// What is answered for a destination and a source.
 #[derive(Clone, Copy)]
@@ -64,57 +53,60 @@ impl Answered {
     }
 }
 
-impl Line for Answered {
-    ghost use Rattle.babel_dump.specs.SlicedRows.{answered_in};
-
-    ghost text = { λ format view answered. answered_in format answered };
-
-    fn push(self, buffer: &mut Vec<u8>, format: Format, _view: View) {
-        match format {
-            Format::Text(spelling) => push_answer_line(buffer, spelling, &self),
-            Format::Json(spelling) => push_lookup_json(buffer, spelling, &self),
-        }
+/// Appends what is answered for a pair of addresses that is named: a line.
+pub(crate) fn push_answer(buffer: &mut Vec<u8>, format: &Format, answered: &Answered)
+    requires { HasRoom buffer.old 2048 }
+    ensures text { buffer.new.items ≡ buffer.old.items
+        ++ answer_line_in format.now answered.now.with_prefix answered.now.pair.dst
+        answered.now.pair.src answered.now.row }
+    ensures room { TookRoom buffer.old buffer.new 2048 }
+{
+    match format {
+        Format::Text(style) => push_answer_line(buffer, style, answered),
+        Format::Json(style) => push_lookup_json(buffer, style, answered),
     }
 }
 
-impl Line for Difference {
-    ghost use Rattle.babel_dump.specs.InFormat.{difference_in};
-
-    ghost text = { difference_in };
-
-    fn push(self, buffer: &mut Vec<u8>, format: Format, view: View) {
-        let Difference { key, left, right } = self;
-        let (dst, src) = (key.dst(), key.src());
-        match format {
-            Format::Text(spelling) => push_differ(buffer, spelling, view, dst, src, left, right),
-            Format::Json(spelling) => push_differ_json(
-                buffer, spelling, view, dst, src, left, right,
-            ),
-        }
+/// Appends a difference: a line.
+pub(crate) fn push_difference(
+    buffer: &mut Vec<u8>,
+    format: &Format,
+    view: View,
+    difference: Difference,
+)
+    requires { HasRoom buffer.old 2048 }
+    ensures text { buffer.new.items ≡ buffer.old.items ++ difference_in format.now view difference }
+    ensures room { TookRoom buffer.old buffer.new 2048 }
+{
+    let Difference { key, left, right } = difference;
+    let (dst, src) = (key.dst(), key.src());
+    match format {
+        Format::Text(style) => push_differ(buffer, style, view, dst, src, left, right),
+        Format::Json(style) => push_differ_json(buffer, style, view, dst, src, left, right),
     }
 }
 
 /// Appends a row of a table: a line.
-pub(crate) fn push_line(buffer: &mut Vec<u8>, format: Format, view: View, key: Key, held: Held)
-    requires { HasRoom buffer.old 512 }
-    ensures text { buffer.new.items ≡ buffer.old.items ++ line_in format view (key, held) }
-    ensures room { TookRoom buffer.old buffer.new 512 }
+pub(crate) fn push_line(buffer: &mut Vec<u8>, format: &Format, view: View, key: Key, held: Held)
+    requires { HasRoom buffer.old 2048 }
+    ensures text { buffer.new.items ≡ buffer.old.items ++ line_in format.now view (key, held) }
+    ensures room { TookRoom buffer.old buffer.new 2048 }
 {
     match format {
-        Format::Text(spelling) => push_pair_line(buffer, spelling, view, key, held),
-        Format::Json(spelling) => push_pair_json(buffer, spelling, view, key, held),
+        Format::Text(style) => push_pair_line(buffer, style, view, key, held),
+        Format::Json(style) => push_pair_json(buffer, style, view, key, held),
     }
 }
 
 /// Appends a sender's line up to the octets of its interface's name.
-pub(crate) fn push_to_name(buffer: &mut Vec<u8>, format: Format, origin: Origin, name: &[u8])
-    requires { HasRoom buffer.old 512 }
-    ensures text { buffer.new.items ≡ buffer.old.items ++ to_name format origin name.now }
-    ensures room { TookRoom buffer.old buffer.new 512 }
+pub(crate) fn push_to_name(buffer: &mut Vec<u8>, format: &Format, origin: Origin, name: &[u8])
+    requires { HasRoom buffer.old 2048 }
+    ensures text { buffer.new.items ≡ buffer.old.items ++ to_name format.now origin name.now }
+    ensures room { TookRoom buffer.old buffer.new 2048 }
 {
     match format {
-        Format::Text(spelling) => push_sender_front(buffer, spelling, origin),
-        Format::Json(spelling) => push_sender_front_json(buffer, spelling, origin),
+        Format::Text(style) => push_sender_front(buffer, style.spelling, origin),
+        Format::Json(style) => push_sender_front_json(buffer, style.spelling, origin),
     }
     push_text(buffer, opening(format, name));
 }
@@ -122,15 +114,15 @@ pub(crate) fn push_to_name(buffer: &mut Vec<u8>, format: Format, origin: Origin,
 /// Appends a sender's line after the octets of its interface's name.
 pub(crate) fn push_after_name(
     buffer: &mut Vec<u8>,
-    format: Format,
+    format: &Format,
     origin: Origin,
     tally: Tally,
     name: &[u8],
 )
-    requires { HasRoom buffer.old 512 }
+    requires { HasRoom buffer.old 2048 }
     ensures text { buffer.new.items
-        ≡ buffer.old.items ++ after_name format (origin, tally) name.now }
-    ensures room { TookRoom buffer.old buffer.new 512 }
+        ≡ buffer.old.items ++ after_name format.now (origin, tally) name.now }
+    ensures room { TookRoom buffer.old buffer.new 2048 }
 {
     push_text(buffer, closing(format, name));
     match format {
@@ -140,8 +132,8 @@ pub(crate) fn push_after_name(
 }
 
 /// The text before the octets of a name, or in place of one.
-pub(crate) fn opening(format: Format, name: &[u8]) -> &'static str
-    ensures text { result.now ≡ opening format name.now }
+pub(crate) fn opening(format: &Format, name: &[u8]) -> &'static str
+    ensures text { result.now ≡ opening format.now name.now }
     ensures short { length result.now ≤ 4 }
 {
     match (format, name.is_empty()) {
@@ -153,8 +145,8 @@ pub(crate) fn opening(format: Format, name: &[u8]) -> &'static str
 }
 
 /// The text after the octets of a name.
-pub(crate) fn closing(format: Format, name: &[u8]) -> &'static str
-    ensures text { result.now ≡ closing format name.now }
+pub(crate) fn closing(format: &Format, name: &[u8]) -> &'static str
+    ensures text { result.now ≡ closing format.now name.now }
     ensures short { length result.now ≤ 4 }
 {
     match (format, name.is_empty()) {
@@ -165,8 +157,8 @@ pub(crate) fn closing(format: Format, name: &[u8]) -> &'static str
 }
 
 /// The text before the digits of an octet of a name.
-pub(crate) fn escape_of(format: Format) -> &'static str
-    ensures text { result.now ≡ escape format }
+pub(crate) fn escape_of(format: &Format) -> &'static str
+    ensures text { result.now ≡ escape format.now }
     ensures short { length result.now ≤ 3 }
 {
     match format {
@@ -178,10 +170,10 @@ pub(crate) fn escape_of(format: Format) -> &'static str
 /// The lines of a report.
 pub(crate) fn report_output(
     alloc: Global,
-    format: Format,
+    format: &Format,
     report: &Report,
 ) -> Result<Vec<u8>, AllocError>
-    ensures { IfOk result (λ text. text.items ≡ report_in format report.now) }
+    ensures { IfOk result (λ text. text.items ≡ report_in format.now report.now) }
 {
     let mut text = Vec::with_capacity(alloc, LONGEST_TEXT)?;
     match format {
@@ -194,11 +186,11 @@ pub(crate) fn report_output(
 /// How many rows and pairs there are.
 pub(crate) fn counts_output(
     alloc: Global,
-    format: Format,
+    format: &Format,
     rows: usize,
     pairs: usize,
 ) -> Result<Vec<u8>, AllocError>
-    ensures { IfOk result (λ text. text.items ≡ counts_in format rows pairs) }
+    ensures { IfOk result (λ text. text.items ≡ counts_in format.now rows pairs) }
 {
     let mut text = Vec::with_capacity(alloc, LONGEST_TEXT)?;
     match format {
@@ -211,16 +203,16 @@ pub(crate) fn counts_output(
 /// The answer of a lookup.
 pub(crate) fn lookup_output(
     alloc: Global,
-    format: Format,
+    format: &Format,
     answered: Answered,
 ) -> Result<Vec<u8>, AllocError>
-    ensures { IfOk result (λ text. text.items ≡ lookup_in format answered.with_prefix
+    ensures { IfOk result (λ text. text.items ≡ lookup_in format.now answered.with_prefix
         answered.pair.dst answered.pair.src answered.row) }
 {
     let mut text = Vec::with_capacity(alloc, LONGEST_TEXT)?;
     match format {
-        Format::Text(spelling) => push_lookup(&mut text, spelling, &answered),
-        Format::Json(spelling) => push_lookup_json(&mut text, spelling, &answered),
+        Format::Text(style) => push_lookup(&mut text, style, &answered),
+        Format::Json(style) => push_lookup_json(&mut text, style, &answered),
     }
     Ok(text)
 }
@@ -228,11 +220,11 @@ pub(crate) fn lookup_output(
 /// The lines of a verdict.
 pub(crate) fn verdict_output(
     alloc: Global,
-    format: Format,
+    format: &Format,
     view: View,
     verdict: &Verdict,
 ) -> Result<Vec<u8>, AllocError>
-    ensures { IfOk result (λ text. text.items ≡ verdict_in format view verdict.now) }
+    ensures { IfOk result (λ text. text.items ≡ verdict_in format.now view verdict.now) }
 {
     match *verdict {
         Verdict::Same => same_output(alloc, format),
@@ -244,11 +236,9 @@ pub(crate) fn verdict_output(
         } => {
             let mut text = Vec::with_capacity(alloc, LONGEST_TEXT)?;
             match format {
-                Format::Text(spelling) => push_differ(
-                    &mut text, spelling, view, dst, src, left, right,
-                ),
-                Format::Json(spelling) => push_differ_json(
-                    &mut text, spelling, view, dst, src, left, right,
+                Format::Text(style) => push_differ(&mut text, style, view, dst, src, left, right),
+                Format::Json(style) => push_differ_json(
+                    &mut text, style, view, dst, src, left, right,
                 ),
             }
             Ok(text)
@@ -257,8 +247,8 @@ pub(crate) fn verdict_output(
 }
 
 /// The line of two tables that answer the same.
-pub(crate) fn same_output(alloc: Global, format: Format) -> Result<Vec<u8>, AllocError>
-    ensures { IfOk result (λ text. text.items ≡ same_in format) }
+pub(crate) fn same_output(alloc: Global, format: &Format) -> Result<Vec<u8>, AllocError>
+    ensures { IfOk result (λ text. text.items ≡ same_in format.now) }
 {
     let mut text = Vec::with_capacity(alloc, LONGEST_TEXT)?;
     match format {
@@ -269,8 +259,8 @@ pub(crate) fn same_output(alloc: Global, format: Format) -> Result<Vec<u8>, Allo
 }
 
 /// The name of how many rows there are.
-pub(crate) fn rows_name(format: Format) -> &'static str
-    ensures text { result.now ≡ rows_name format }
+pub(crate) fn rows_name(format: &Format) -> &'static str
+    ensures text { result.now ≡ rows_name format.now }
     ensures short { length result.now ≤ 11 }
 {
     match format {
@@ -282,12 +272,12 @@ pub(crate) fn rows_name(format: Format) -> &'static str
 /// How many there are of what has this name, of at most 11 octets.
 pub(crate) fn count_output(
     alloc: Global,
-    format: Format,
+    format: &Format,
     name: &str,
     count: usize,
 ) -> Result<Vec<u8>, AllocError>
     requires { length name.now ≤ 11 }
-    ensures { IfOk result (λ text. text.items ≡ count_in format name.now count) }
+    ensures { IfOk result (λ text. text.items ≡ count_in format.now name.now count) }
 {
     let mut text = Vec::with_capacity(alloc, LONGEST_TEXT)?;
     match format {

@@ -16,7 +16,7 @@ use babel_tlv::{Held, Key, View};
 pub(crate) struct PairLines<'a, W> {
     pub writer: &'a mut W,
     pub buffer: &'a mut Vec<u8>,
-    pub format: Format,
+    pub format: &'a Format,
     pub filter: Filter,
     pub view: View,
 }

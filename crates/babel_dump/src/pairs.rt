@@ -25,11 +25,11 @@ pub(crate) fn found_pairs(
     view: View,
     filter: Filter,
     count: bool,
-    format: Format,
+    format: &Format,
     table: Table,
 ) -> Result<Found, Fault>
-    ensures ok { IfOk result
-        (Says (ListsPairs limits view (kept_pairs_in format view filter count) table)) }
+    ensures ok { IfOk result (Says format.now
+        (ListsPairs limits view (kept_pairs_in format.now view filter count) table)) }
     ensures err { IfErr result (CanonicalFault limits (seen_rows view table.rows)) }
 {
     text_is_one();
@@ -43,5 +43,5 @@ pub(crate) fn found_pairs(
     }
     let pairs = CanonicalPairs::of(alloc, limits, &seen)?;
     let rows = Rows::Pairs(filter, view, pairs);
-    Ok(Found::rows(format, rows, Vec::new(alloc), outcome))
+    Ok(Found::rows(rows, Vec::new(alloc), outcome))
 }

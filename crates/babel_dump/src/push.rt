@@ -1,90 +1,87 @@
 //! Lines, appended octet by octet to a buffer that has room for them, with no formatter between.
 ghost use Rattle.std.specs.Prelude.{◌≡◌, ◌+◌, ◌∷◌, [], ◌++◌, ◌*◌, ◌≤◌, if◌then◌else◌, length};
 ghost use Rattle.std.specs.Fmt.{decimal};
-ghost use Rattle.babel_dump.specs.CaptureText.{interval_text, link_text, marked, octet_text};
+ghost use Rattle.babel_dump.specs.CaptureText.{interval_text, link_text, marked};
+ghost use Rattle.babel_dump.specs.NameText.{octet_text};
 ghost use Rattle.babel_dump.specs.CaptureText.{seconds_text, sender_end, sender_front};
 ghost use Rattle.babel_dump.specs.RunText.{announcement_text, answer_line, answer_text};
 ghost use Rattle.babel_dump.specs.RunText.{counts_text, count_text, differ_lines};
 ghost use Rattle.babel_dump.specs.RunText.{held_text, kept_text, newline, pair_line, pair_text};
 ghost use Rattle.babel_dump.specs.RunText.{row_text};
+ghost use Rattle.babel_dump.specs.Names.{named_address, named_router};
 ghost use Rattle.babel_dump.specs.Slices.{HasRoom, TookRoom};
-ghost use Rattle.babel_dump.specs.Spelling.{address_text};
 ghost use Rattle.babel_dump.specs.TextParts.{hex_digits, nonzero};
 
 use crate::output::Answered;
 use crate::push_addr::{Shown, push_addr, push_from, push_prefix};
+use crate::push_named::{push_named_addr, push_named_id};
 use crate::push_time::{push_time_or, push_two_digits};
 use crate::spelling::Spelling;
+use crate::style::Style;
 use babel_capture::{Origin, Place, Tally};
 use babel_prefix::Addr;
 use babel_tlv::{Ann, Held, Key, View};
 use itoa::{Buffer, Integer};
 
 /// Appends a row of a table, as the runs show it under a view: a line.
-pub(crate) fn push_pair_line(
-    buffer: &mut Vec<u8>,
-    spelling: Spelling,
-    view: View,
-    key: Key,
-    held: Held,
-)
-    requires { HasRoom buffer.old 186 }
-    ensures text { buffer.new.items ≡ buffer.old.items ++ pair_line spelling view (key, held) }
-    ensures room { TookRoom buffer.old buffer.new 186 }
+pub(crate) fn push_pair_line(buffer: &mut Vec<u8>, style: &Style, view: View, key: Key, held: Held)
+    requires { HasRoom buffer.old 832 }
+    ensures text { buffer.new.items ≡ buffer.old.items ++ pair_line style.now view (key, held) }
+    ensures room { TookRoom buffer.old buffer.new 832 }
 {
-    push_pair(buffer, spelling, view, key, held);
+    push_pair(buffer, style, view, key, held);
     push_octet(buffer, b'\n');
 }
 
 /// Appends a row of a table, without the line's end.
-pub(crate) fn push_pair(buffer: &mut Vec<u8>, spelling: Spelling, view: View, key: Key, held: Held)
-    requires { HasRoom buffer.old 185 }
-    ensures text { buffer.new.items ≡ buffer.old.items ++ pair_text spelling view (key, held) }
-    ensures room { TookRoom buffer.old buffer.new 185 }
+pub(crate) fn push_pair(buffer: &mut Vec<u8>, style: &Style, view: View, key: Key, held: Held)
+    requires { HasRoom buffer.old 831 }
+    ensures text { buffer.new.items ≡ buffer.old.items ++ pair_text style.now view (key, held) }
+    ensures room { TookRoom buffer.old buffer.new 831 }
 {
-    push_prefix(buffer, spelling, key.dst());
-    push_from(buffer, spelling, key.src());
+    push_prefix(buffer, style.spelling, key.dst());
+    push_from(buffer, style.spelling, key.src());
     push_octet(buffer, b' ');
-    push_held(buffer, spelling, view, held);
+    push_held(buffer, style, view, held);
 }
 
 /// Appends what is answered for a destination and a source.
-pub(crate) fn push_answer_line(buffer: &mut Vec<u8>, spelling: Spelling, answered: &Answered)
-    requires { HasRoom buffer.old 271 }
-    ensures text { buffer.new.items ≡ buffer.old.items ++ answer_line spelling
+pub(crate) fn push_answer_line(buffer: &mut Vec<u8>, style: &Style, answered: &Answered)
+    requires { HasRoom buffer.old 917 }
+    ensures text { buffer.new.items ≡ buffer.old.items ++ answer_line style.now
         answered.now.with_prefix answered.now.pair.dst answered.now.pair.src answered.now.row }
-    ensures room { TookRoom buffer.old buffer.new 271 }
+    ensures room { TookRoom buffer.old buffer.new 917 }
 {
-    push_addr(buffer, spelling, answered.pair.dst);
+    push_addr(buffer, style.spelling, answered.pair.dst);
     push_text(buffer, " from ");
-    push_addr(buffer, spelling, answered.pair.src);
+    push_addr(buffer, style.spelling, answered.pair.src);
     push_octet(buffer, b' ');
-    push_lookup(buffer, spelling, answered);
+    push_lookup(buffer, style, answered);
 }
 
 /// Appends the line of a lookup's answer.
-pub(crate) fn push_lookup(buffer: &mut Vec<u8>, spelling: Spelling, answered: &Answered)
-    requires { HasRoom buffer.old 186 }
+pub(crate) fn push_lookup(buffer: &mut Vec<u8>, style: &Style, answered: &Answered)
+    requires { HasRoom buffer.old 832 }
     ensures text { buffer.new.items ≡ buffer.old.items
-        ++ (row_text spelling answered.now.with_prefix answered.now.row ++ newline) }
-    ensures room { TookRoom buffer.old buffer.new 186 }
+        ++ (row_text style.now answered.now.with_prefix answered.now.row ++ newline) }
+    ensures room { TookRoom buffer.old buffer.new 832 }
 {
-    push_row(buffer, spelling, answered);
+    push_row(buffer, style, answered);
     push_octet(buffer, b'\n');
 }
 
 /// Appends the row that answers, or only what it holds.
-fn push_row(buffer: &mut Vec<u8>, spelling: Spelling, answered: &Answered)
-    requires { HasRoom buffer.old 185 }
+fn push_row(buffer: &mut Vec<u8>, style: &Style, answered: &Answered)
+    requires { HasRoom buffer.old 831 }
     ensures text { buffer.new.items
-        ≡ buffer.old.items ++ row_text spelling answered.now.with_prefix answered.now.row }
-    ensures room { TookRoom buffer.old buffer.new 185 }
+        ≡ buffer.old.items ++ row_text style.now answered.now.with_prefix answered.now.row }
+    ensures room { TookRoom buffer.old buffer.new 831 }
 {
     if !answered.with_prefix {
-        return push_answer(buffer, spelling, View::all(), answered.held());
+        return push_answer(buffer, style, View::all(), answered.held());
     }
     match answered.row {
-        Some((key, held)) => push_pair(buffer, spelling, View::all(), key, held),
+        Some((key, held)) => push_pair(buffer, style, View::all(), key, held),
         None => push_text(buffer, "none"),
     }
 }
@@ -92,27 +89,28 @@ fn push_row(buffer: &mut Vec<u8>, spelling: Spelling, answered: &Answered)
 /// Appends what two tables answer for a destination and a source, under a view: three lines.
 pub(crate) fn push_differ<A: Shown>(
     buffer: &mut Vec<u8>,
-    spelling: Spelling,
+    style: &Style,
     view: View,
     dst: A,
     src: A,
     left: Option<Held>,
     right: Option<Held>,
 )
-    requires { HasRoom buffer.old 293 }
+    requires { HasRoom buffer.old 1585 }
     ensures text { buffer.new.items ≡ buffer.old.items
-        ++ differ_lines spelling view (A.text spelling dst) (A.from spelling src) left right }
-    ensures room { TookRoom buffer.old buffer.new 293 }
+        ++ differ_lines style.now view (A.text style.now.spelling dst)
+        (A.from style.now.spelling src) left right }
+    ensures room { TookRoom buffer.old buffer.new 1585 }
 {
     push_text(buffer, "differ ");
-    dst.push(buffer, spelling);
-    src.push_from(buffer, spelling);
+    dst.push(buffer, style.spelling);
+    src.push_from(buffer, style.spelling);
     push_octet(buffer, b'\n');
     push_text(buffer, "left ");
-    push_answer(buffer, spelling, view, left);
+    push_answer(buffer, style, view, left);
     push_octet(buffer, b'\n');
     push_text(buffer, "right ");
-    push_answer(buffer, spelling, view, right);
+    push_answer(buffer, style, view, right);
     push_octet(buffer, b'\n');
 }
 
@@ -179,7 +177,7 @@ pub(crate) fn push_sender_end(buffer: &mut Vec<u8>, place: Place, tally: Tally)
 }
 
 /// Appends an Interval in seconds, or `-` where there is none.
-fn push_interval(buffer: &mut Vec<u8>, interval: Option<u16>)
+pub(crate) fn push_interval(buffer: &mut Vec<u8>, interval: Option<u16>)
     requires { HasRoom buffer.old 23 }
     ensures text { buffer.new.items ≡ buffer.old.items ++ interval_text interval }
     ensures room { TookRoom buffer.old buffer.new 23 }
@@ -249,72 +247,68 @@ pub(crate) fn push_name_octet(buffer: &mut Vec<u8>, escape: &str, octet: u8)
 }
 
 /// Appends what is answered, under a view: what stands for a key, or `none`.
-pub(crate) fn push_answer(
-    buffer: &mut Vec<u8>,
-    spelling: Spelling,
-    view: View,
-    answer: Option<Held>,
-)
-    requires { HasRoom buffer.old 88 }
-    ensures text { buffer.new.items ≡ buffer.old.items ++ answer_text spelling view answer }
-    ensures room { TookRoom buffer.old buffer.new 88 }
+pub(crate) fn push_answer(buffer: &mut Vec<u8>, style: &Style, view: View, answer: Option<Held>)
+    requires { HasRoom buffer.old 734 }
+    ensures text { buffer.new.items ≡ buffer.old.items ++ answer_text style.now view answer }
+    ensures room { TookRoom buffer.old buffer.new 734 }
 {
     match answer {
-        Some(held) => push_held(buffer, spelling, view, held),
+        Some(held) => push_held(buffer, style, view, held),
         None => push_text(buffer, "none"),
     }
 }
 
 /// Appends what stands for a key, under a view.
-fn push_held(buffer: &mut Vec<u8>, spelling: Spelling, view: View, held: Held)
-    requires { HasRoom buffer.old 88 }
-    ensures text { buffer.new.items ≡ buffer.old.items ++ held_text spelling view held }
-    ensures room { TookRoom buffer.old buffer.new 88 }
+fn push_held(buffer: &mut Vec<u8>, style: &Style, view: View, held: Held)
+    requires { HasRoom buffer.old 734 }
+    ensures text { buffer.new.items ≡ buffer.old.items ++ held_text style.now view held }
+    ensures room { TookRoom buffer.old buffer.new 734 }
 {
     match held {
-        Held::Route(ann) => push_announcement(buffer, spelling, view, ann),
+        Held::Route(ann) => push_announcement(buffer, style, view, ann),
         Held::Unreachable => push_text(buffer, "unreachable"),
     }
 }
 
 /// Appends the route that is announced, under a view.
-pub(crate) fn push_announcement(buffer: &mut Vec<u8>, spelling: Spelling, view: View, ann: Ann)
-    requires { HasRoom buffer.old 88 }
-    ensures text { buffer.new.items ≡ buffer.old.items ++ announcement_text spelling view ann }
-    ensures room { TookRoom buffer.old buffer.new 88 }
+pub(crate) fn push_announcement(buffer: &mut Vec<u8>, style: &Style, view: View, ann: Ann)
+    requires { HasRoom buffer.old 734 }
+    ensures text { buffer.new.items ≡ buffer.old.items ++ announcement_text style.now view ann }
+    ensures room { TookRoom buffer.old buffer.new 734 }
 {
     push_text(buffer, "via ");
-    push_next_hop(buffer, spelling, view.next_hop, ann.next_hop());
+    push_next_hop(buffer, style, view.next_hop, ann.next_hop());
     push_text(buffer, " id ");
-    push_kept_id(buffer, view.router_id, ann.router_id());
+    push_kept_id(buffer, style, view.router_id, ann.router_id());
     push_text(buffer, " seqno ");
     push_number(buffer, view.seqno, "-", ann.seqno());
     push_text(buffer, " metric ");
     push_number(buffer, view.metric, "-", ann.metric());
 }
 
-/// Appends the next hop where it is kept, or `-`.
-fn push_next_hop(buffer: &mut Vec<u8>, spelling: Spelling, kept: bool, next_hop: Addr)
-    requires { HasRoom buffer.old 39 }
+/// Appends the next hop and its name where it is kept, or `-`.
+fn push_next_hop(buffer: &mut Vec<u8>, style: &Style, kept: bool, next_hop: Addr)
+    requires { HasRoom buffer.old 362 }
     ensures text { buffer.new.items
-        ≡ buffer.old.items ++ kept_text kept (address_text spelling next_hop) }
-    ensures room { TookRoom buffer.old buffer.new 39 }
+        ≡ buffer.old.items ++ kept_text kept (named_address style.now next_hop) }
+    ensures room { TookRoom buffer.old buffer.new 362 }
 {
     if kept {
-        push_addr(buffer, spelling, next_hop);
+        push_named_addr(buffer, style, next_hop);
     } else {
         push_octet(buffer, b'-');
     }
 }
 
-/// Appends the router-id where it is kept, or `-`.
-fn push_kept_id(buffer: &mut Vec<u8>, kept: bool, router_id: [u8; 8])
-    requires { HasRoom buffer.old 16 }
-    ensures text { buffer.new.items ≡ buffer.old.items ++ kept_text kept (hex_digits router_id) }
-    ensures room { TookRoom buffer.old buffer.new 16 }
+/// Appends the router-id and its name where it is kept, or `-`.
+fn push_kept_id(buffer: &mut Vec<u8>, style: &Style, kept: bool, router_id: [u8; 8])
+    requires { HasRoom buffer.old 339 }
+    ensures text { buffer.new.items
+        ≡ buffer.old.items ++ kept_text kept (named_router style.now router_id) }
+    ensures room { TookRoom buffer.old buffer.new 339 }
 {
     if kept {
-        push_router_id(buffer, router_id);
+        push_named_id(buffer, style, router_id);
     } else {
         push_octet(buffer, b'-');
     }

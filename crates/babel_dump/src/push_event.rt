@@ -11,8 +11,8 @@ ghost use Rattle.babel_dump.specs.Slices.{HasRoom, TookRoom};
 
 use crate::addr_pair::AddrPair;
 use crate::push::{push_announcement, push_decimal, push_link, push_marked, push_octet, push_text};
-use crate::push_addr::push_addr;
 use crate::push_json::{push_addressed, push_answer_json, push_place_json};
+use crate::push_named::{push_named_addr, push_sender_json};
 use crate::push_request::{
     push_key, push_key_json, push_request, push_request_json, push_to, push_to_json,
 };
@@ -20,6 +20,7 @@ use crate::push_time::{push_time_json, push_time_or};
 use crate::push_was::push_was;
 use crate::speaker::Speaker;
 use crate::spelling::Spelling;
+use crate::style::Style;
 use babel_capture::{Place, Time};
 use babel_timeline::{BestMatch, ChangeKind, Telling};
 use babel_tlv::{Ann, Held, View};
@@ -27,77 +28,73 @@ use babel_tlv::{Ann, Held, View};
 /// Appends a line of text up to the name of the interface.
 pub(crate) fn push_event_front(
     buffer: &mut Vec<u8>,
-    spelling: Spelling,
+    style: &Style,
     name: &[u8],
     told: &Telling<Speaker>,
 )
-    requires { HasRoom buffer.old 101 }
+    requires { HasRoom buffer.old 424 }
     ensures text { buffer.new.items
-        ≡ buffer.old.items ++ event_front spelling name.now told.now }
-    ensures room { TookRoom buffer.old buffer.new 101 }
+        ≡ buffer.old.items ++ event_front style.now name.now told.now }
+    ensures room { TookRoom buffer.old buffer.new 424 }
 {
     let speaker = speaker_of(told);
     push_time_or(buffer, Time::new(time_of(told)));
     push_text(buffer, " ");
-    push_addr(buffer, spelling, speaker.sender);
+    push_named_addr(buffer, style, speaker.sender);
     push_interface(buffer, speaker.place, name);
 }
 
 /// Appends the rest of a line of text.
 pub(crate) fn push_event_end(
     buffer: &mut Vec<u8>,
-    spelling: Spelling,
+    style: &Style,
     view: View,
     told: &Telling<Speaker>,
 )
-    requires { HasRoom buffer.old 351 }
-    ensures text { buffer.new.items ≡ buffer.old.items ++ event_end spelling view told.now }
-    ensures room { TookRoom buffer.old buffer.new 351 }
+    requires { HasRoom buffer.old 1643 }
+    ensures text { buffer.new.items ≡ buffer.old.items ++ event_end style.now view told.now }
+    ensures room { TookRoom buffer.old buffer.new 1643 }
 {
     let place = speaker_of(told).place;
     push_link(buffer, place.link);
     push_marked(buffer, " vlan ", ".", &place.vlans.numbers());
     push_text(buffer, " ");
     push_text(buffer, verb(told));
-    push_told(buffer, spelling, view, told);
+    push_told(buffer, style, view, told);
     push_octet(buffer, b'\n');
 }
 
 /// Appends an object up to the name of the interface.
-pub(crate) fn push_event_front_json(
-    buffer: &mut Vec<u8>,
-    spelling: Spelling,
-    told: &Telling<Speaker>,
-)
-    requires { HasRoom buffer.old 206 }
-    ensures text { buffer.new.items ≡ buffer.old.items ++ event_front_json spelling told.now }
-    ensures room { TookRoom buffer.old buffer.new 206 }
+pub(crate) fn push_event_front_json(buffer: &mut Vec<u8>, style: &Style, told: &Telling<Speaker>)
+    requires { HasRoom buffer.old 545 }
+    ensures text { buffer.new.items ≡ buffer.old.items ++ event_front_json style.now told.now }
+    ensures room { TookRoom buffer.old buffer.new 545 }
 {
     let speaker = speaker_of(told);
     push_text(buffer, r#"{"time":"#);
     push_time_json(buffer, Time::new(time_of(told)));
-    push_text(buffer, r#","sender":""#);
-    push_addr(buffer, spelling, speaker.sender);
+    push_text(buffer, r#","sender":"#);
+    push_sender_json(buffer, style, speaker.sender);
     push_place_json(buffer, speaker.place);
 }
 
 /// Appends the rest of an object.
 pub(crate) fn push_event_end_json(
     buffer: &mut Vec<u8>,
-    spelling: Spelling,
+    style: &Style,
     view: View,
     pair: Option<AddrPair>,
     told: &Telling<Speaker>,
 )
-    requires { HasRoom buffer.old 510 }
+    requires { HasRoom buffer.old 1866 }
     ensures text { buffer.new.items
-        ≡ buffer.old.items ++ event_end_json spelling view pair told.now }
-    ensures room { TookRoom buffer.old buffer.new 510 }
+        ≡ buffer.old.items ++ event_end_json style.now view pair told.now }
+    ensures room { TookRoom buffer.old buffer.new 1866 }
 {
     push_text(buffer, r#","event":""#);
     push_text(buffer, verb(told));
     push_text(buffer, "\"");
-    push_told_json(buffer, spelling, view, pair, told);
+    push_told_json(buffer, style, view, pair, told);
     push_text(buffer, "}");
     push_octet(buffer, b'\n');
 }
@@ -228,21 +225,21 @@ pub(crate) fn push_interface(buffer: &mut Vec<u8>, place: Place, name: &[u8])
 }
 
 /// Appends what is told.
-fn push_told(buffer: &mut Vec<u8>, spelling: Spelling, view: View, told: &Telling<Speaker>)
-    requires { HasRoom buffer.old 280 }
-    ensures text { buffer.new.items ≡ buffer.old.items ++ told_text spelling view told.now }
-    ensures room { TookRoom buffer.old buffer.new 280 }
+fn push_told(buffer: &mut Vec<u8>, style: &Style, view: View, told: &Telling<Speaker>)
+    requires { HasRoom buffer.old 1572 }
+    ensures text { buffer.new.items ≡ buffer.old.items ++ told_text style.now view told.now }
+    ensures room { TookRoom buffer.old buffer.new 1572 }
 {
     match told {
         Telling::Change(change) => {
-            push_key(buffer, spelling, change.subject.key);
-            push_after(buffer, spelling, view, held_after(change.kind));
-            push_was(buffer, spelling, change.kind);
+            push_key(buffer, style.spelling, change.subject.key);
+            push_after(buffer, style, view, held_after(change.kind));
+            push_was(buffer, style, change.kind);
         }
-        Telling::Answer { answer, .. } => push_best(buffer, spelling, view, answer),
+        Telling::Answer { answer, .. } => push_best(buffer, style, view, answer),
         Telling::Request { to, request, .. } => {
-            push_to(buffer, spelling, *to);
-            push_request(buffer, spelling, request);
+            push_to(buffer, style.spelling, *to);
+            push_request(buffer, style, request);
         }
         Telling::Silent { since, routes, .. } => push_silence(buffer, *since, *routes),
         Telling::Returns { .. } => {}
@@ -250,15 +247,15 @@ fn push_told(buffer: &mut Vec<u8>, spelling: Spelling, view: View, told: &Tellin
 }
 
 /// Appends the route that answers, under a view, or `none`.
-fn push_best(buffer: &mut Vec<u8>, spelling: Spelling, view: View, best: &Option<BestMatch>)
-    requires { HasRoom buffer.old 186 }
-    ensures text { buffer.new.items ≡ buffer.old.items ++ best_text spelling view best.now }
-    ensures room { TookRoom buffer.old buffer.new 186 }
+fn push_best(buffer: &mut Vec<u8>, style: &Style, view: View, best: &Option<BestMatch>)
+    requires { HasRoom buffer.old 832 }
+    ensures text { buffer.new.items ≡ buffer.old.items ++ best_text style.now view best.now }
+    ensures room { TookRoom buffer.old buffer.new 832 }
 {
     match best {
         Some(best) => {
-            push_key(buffer, spelling, best.key);
-            push_after(buffer, spelling, view, Some(best.ann));
+            push_key(buffer, style.spelling, best.key);
+            push_after(buffer, style, view, Some(best.ann));
         }
         None => push_text(buffer, " none"),
     }
@@ -290,14 +287,14 @@ fn push_silence_json(buffer: &mut Vec<u8>, since: u128, routes: usize)
 }
 
 /// Appends what is held after a change, under a view, or nothing where nothing is.
-fn push_after(buffer: &mut Vec<u8>, spelling: Spelling, view: View, after: Option<Ann>)
-    requires { HasRoom buffer.old 89 }
-    ensures text { buffer.new.items ≡ buffer.old.items ++ after_text spelling view after }
-    ensures room { TookRoom buffer.old buffer.new 89 }
+fn push_after(buffer: &mut Vec<u8>, style: &Style, view: View, after: Option<Ann>)
+    requires { HasRoom buffer.old 735 }
+    ensures text { buffer.new.items ≡ buffer.old.items ++ after_text style.now view after }
+    ensures room { TookRoom buffer.old buffer.new 735 }
 {
     if let Some(ann) = after {
         push_text(buffer, " ");
-        push_announcement(buffer, spelling, view, ann);
+        push_announcement(buffer, style, view, ann);
     }
 }
 
@@ -305,32 +302,32 @@ fn push_after(buffer: &mut Vec<u8>, spelling: Spelling, view: View, after: Optio
 /// object.
 fn push_told_json(
     buffer: &mut Vec<u8>,
-    spelling: Spelling,
+    style: &Style,
     view: View,
     pair: Option<AddrPair>,
     told: &Telling<Speaker>,
 )
-    requires { HasRoom buffer.old 488 }
-    ensures text { buffer.new.items ≡ buffer.old.items ++ told_json spelling view pair told.now }
-    ensures room { TookRoom buffer.old buffer.new 488 }
+    requires { HasRoom buffer.old 1844 }
+    ensures text { buffer.new.items ≡ buffer.old.items ++ told_json style.now view pair told.now }
+    ensures room { TookRoom buffer.old buffer.new 1844 }
 {
     match told {
         Telling::Change(change) => {
             let key = change.subject.key;
             push_text(buffer, ",");
-            push_addressed(buffer, spelling, key.dst(), key.src());
-            push_answers(buffer, spelling, view, told);
+            push_addressed(buffer, style.spelling, key.dst(), key.src());
+            push_answers(buffer, style, view, told);
         }
         Telling::Answer { answer, .. } => {
             push_text(buffer, ",");
-            push_asked(buffer, spelling, pair);
-            push_route(buffer, spelling, answer);
-            push_answers(buffer, spelling, view, told);
+            push_asked(buffer, style.spelling, pair);
+            push_route(buffer, style.spelling, answer);
+            push_answers(buffer, style, view, told);
         }
         Telling::Request { to, request, .. } => {
             push_text(buffer, ",");
-            push_to_json(buffer, spelling, *to);
-            push_request_json(buffer, spelling, request);
+            push_to_json(buffer, style.spelling, *to);
+            push_request_json(buffer, style, request);
         }
         Telling::Silent { since, routes, .. } => push_silence_json(buffer, *since, *routes),
         Telling::Returns { .. } => {}
@@ -339,15 +336,15 @@ fn push_told_json(
 
 /// Appends what is held after it, or answered from then on, and what was before: two members of an
 /// object.
-fn push_answers(buffer: &mut Vec<u8>, spelling: Spelling, view: View, told: &Telling<Speaker>)
-    requires { HasRoom buffer.old 248 }
-    ensures text { buffer.new.items ≡ buffer.old.items ++ answers_json spelling view told.now }
-    ensures room { TookRoom buffer.old buffer.new 248 }
+fn push_answers(buffer: &mut Vec<u8>, style: &Style, view: View, told: &Telling<Speaker>)
+    requires { HasRoom buffer.old 1604 }
+    ensures text { buffer.new.items ≡ buffer.old.items ++ answers_json style.now view told.now }
+    ensures room { TookRoom buffer.old buffer.new 1604 }
 {
     push_text(buffer, r#","answer":"#);
-    push_answer_json(buffer, spelling, view, held_from(told));
+    push_answer_json(buffer, style, view, held_from(told));
     push_text(buffer, r#","before":"#);
-    push_answer_json(buffer, spelling, view, held_until(told));
+    push_answer_json(buffer, style, view, held_until(told));
 }
 
 /// Appends which route answers, or that none does: a member of an object.

@@ -1,15 +1,13 @@
 //! Lines as JSON (RFC 8259), appended to a buffer that has room for them. No text of an address
 //! or a router-id has a character that JSON escapes.
 ghost use Rattle.std.specs.Prelude.{◌≡◌, ◌+◌, ◌++◌, Some, length};
-ghost use Rattle.hex.specs.Hex.{encode_lower};
 ghost use Rattle.babel_dump.specs.CaptureText.{interval_json, number_json, place_json};
 ghost use Rattle.babel_dump.specs.CaptureText.{sender_end_json, sender_front_json, vlans_json};
 ghost use Rattle.babel_dump.specs.JsonText.{addressed_json, announcement_json, answer_json};
 ghost use Rattle.babel_dump.specs.JsonText.{answered_front, counts_json, differ_json};
-ghost use Rattle.babel_dump.specs.JsonText.{count_json, kept_json, lookup_json, pair_json, quoted};
-ghost use Rattle.babel_dump.specs.JsonText.{route_json, route_member};
+ghost use Rattle.babel_dump.specs.JsonText.{count_json, lookup_json, next_hop_json, pair_json};
+ghost use Rattle.babel_dump.specs.JsonText.{route_json, route_member, router_json};
 ghost use Rattle.babel_dump.specs.Slices.{HasRoom, TookRoom};
-ghost use Rattle.babel_dump.specs.Spelling.{address_text};
 
 use crate::addr_pair::AddrPair;
 use crate::output::Answered;
@@ -17,39 +15,35 @@ use crate::push::{
     push_decimal, push_marked, push_number, push_octet, push_router_id, push_seconds, push_text,
 };
 use crate::push_addr::{Shown, push_addr};
+use crate::push_named::push_name_member;
 use crate::push_time::push_time_json;
 use crate::spelling::Spelling;
+use crate::style::Style;
 use babel_capture::{Origin, Place, Tally, Vlans};
 use babel_prefix::Addr;
 use babel_tlv::{Ann, Held, Key, View};
 
 /// Appends a row of a table, as the runs show it under a view.
-pub(crate) fn push_pair_json(
-    buffer: &mut Vec<u8>,
-    spelling: Spelling,
-    view: View,
-    key: Key,
-    held: Held,
-)
-    requires { HasRoom buffer.old 245 }
-    ensures text { buffer.new.items ≡ buffer.old.items ++ pair_json spelling view (key, held) }
-    ensures room { TookRoom buffer.old buffer.new 245 }
+pub(crate) fn push_pair_json(buffer: &mut Vec<u8>, style: &Style, view: View, key: Key, held: Held)
+    requires { HasRoom buffer.old 923 }
+    ensures text { buffer.new.items ≡ buffer.old.items ++ pair_json style.now view (key, held) }
+    ensures room { TookRoom buffer.old buffer.new 923 }
 {
-    push_answered(buffer, spelling, view, key.dst(), key.src(), Some(held));
+    push_answered(buffer, style, view, key.dst(), key.src(), Some(held));
     push_text(buffer, "}\n");
 }
 
 /// Appends what is answered by a row for a destination and a source: an object.
-pub(crate) fn push_lookup_json(buffer: &mut Vec<u8>, spelling: Spelling, answered: &Answered)
-    requires { HasRoom buffer.old 374 }
-    ensures text { buffer.new.items ≡ buffer.old.items ++ lookup_json spelling
+pub(crate) fn push_lookup_json(buffer: &mut Vec<u8>, style: &Style, answered: &Answered)
+    requires { HasRoom buffer.old 1052 }
+    ensures text { buffer.new.items ≡ buffer.old.items ++ lookup_json style.now
         answered.now.with_prefix answered.now.pair.dst answered.now.pair.src answered.now.row }
-    ensures room { TookRoom buffer.old buffer.new 374 }
+    ensures room { TookRoom buffer.old buffer.new 1052 }
 {
     let held = answered.held();
     let AddrPair { dst, src } = answered.pair;
-    push_answered(buffer, spelling, View::all(), dst, src, held);
-    push_route_member(buffer, spelling, answered);
+    push_answered(buffer, style, View::all(), dst, src, held);
+    push_route_member(buffer, style.spelling, answered);
     push_text(buffer, "}\n");
 }
 
@@ -85,44 +79,46 @@ fn push_route_json(buffer: &mut Vec<u8>, spelling: Spelling, row: Option<(Key, H
 /// Appends what is answered for a destination and a source, under a view: the front of an object.
 fn push_answered<A: Shown>(
     buffer: &mut Vec<u8>,
-    spelling: Spelling,
+    style: &Style,
     view: View,
     dst: A,
     src: A,
     answer: Option<Held>,
 )
-    requires { HasRoom buffer.old 243 }
+    requires { HasRoom buffer.old 921 }
     ensures text { buffer.new.items ≡ buffer.old.items
-        ++ answered_front spelling view (A.text spelling dst) (A.text spelling src) answer }
-    ensures room { TookRoom buffer.old buffer.new 243 }
+        ++ answered_front style.now view (A.text style.now.spelling dst)
+        (A.text style.now.spelling src) answer }
+    ensures room { TookRoom buffer.old buffer.new 921 }
 {
     push_text(buffer, "{");
-    push_addressed(buffer, spelling, dst, src);
+    push_addressed(buffer, style.spelling, dst, src);
     push_text(buffer, r#","answer":"#);
-    push_answer_json(buffer, spelling, view, answer);
+    push_answer_json(buffer, style, view, answer);
 }
 
 /// Appends what two tables answer for a destination and a source, under a view: an object.
 pub(crate) fn push_differ_json<A: Shown>(
     buffer: &mut Vec<u8>,
-    spelling: Spelling,
+    style: &Style,
     view: View,
     dst: A,
     src: A,
     left: Option<Held>,
     right: Option<Held>,
 )
-    requires { HasRoom buffer.old 379 }
+    requires { HasRoom buffer.old 1735 }
     ensures text { buffer.new.items ≡ buffer.old.items
-        ++ differ_json spelling view (A.text spelling dst) (A.text spelling src) left right }
-    ensures room { TookRoom buffer.old buffer.new 379 }
+        ++ differ_json style.now view (A.text style.now.spelling dst)
+        (A.text style.now.spelling src) left right }
+    ensures room { TookRoom buffer.old buffer.new 1735 }
 {
     push_text(buffer, r#"{"same":false,"#);
-    push_addressed(buffer, spelling, dst, src);
+    push_addressed(buffer, style.spelling, dst, src);
     push_text(buffer, r#","left":"#);
-    push_answer_json(buffer, spelling, view, left);
+    push_answer_json(buffer, style, view, left);
     push_text(buffer, r#","right":"#);
-    push_answer_json(buffer, spelling, view, right);
+    push_answer_json(buffer, style, view, right);
     push_text(buffer, "}");
     push_octet(buffer, b'\n');
 }
@@ -163,16 +159,17 @@ pub(crate) fn push_sender_front_json(buffer: &mut Vec<u8>, spelling: Spelling, o
 {
     push_text(buffer, r#"{"sender":""#);
     push_addr(buffer, spelling, origin.sender);
+    push_text(buffer, "\"");
     push_place_json(buffer, origin.place);
 }
 
-/// Appends a place, from the end of its sender's address up to the interface's name.
+/// Appends a place, up to the interface's name: members of an object.
 pub(crate) fn push_place_json(buffer: &mut Vec<u8>, place: Place)
-    requires { HasRoom buffer.old 115 }
+    requires { HasRoom buffer.old 114 }
     ensures text { buffer.new.items ≡ buffer.old.items ++ place_json place }
-    ensures room { TookRoom buffer.old buffer.new 115 }
+    ensures room { TookRoom buffer.old buffer.new 114 }
 {
-    push_text(buffer, r#"","interface":"#);
+    push_text(buffer, r#","interface":"#);
     push_decimal(buffer, place.interface);
     push_text(buffer, r#","link":"#);
     push_number_json(buffer, place.link);
@@ -217,7 +214,7 @@ fn push_vlans_json(buffer: &mut Vec<u8>, vlans: Vlans)
 }
 
 /// Appends an Interval in seconds, or `null`.
-fn push_interval_json(buffer: &mut Vec<u8>, interval: Option<u16>)
+pub(crate) fn push_interval_json(buffer: &mut Vec<u8>, interval: Option<u16>)
     requires { HasRoom buffer.old 23 }
     ensures text { buffer.new.items ≡ buffer.old.items ++ interval_json interval }
     ensures room { TookRoom buffer.old buffer.new 23 }
@@ -257,42 +254,42 @@ pub(crate) fn push_addressed<A: Shown>(buffer: &mut Vec<u8>, spelling: Spelling,
 /// Appends what is answered, under a view: an object, or `null`.
 pub(crate) fn push_answer_json(
     buffer: &mut Vec<u8>,
-    spelling: Spelling,
+    style: &Style,
     view: View,
     answer: Option<Held>,
 )
-    requires { HasRoom buffer.old 114 }
-    ensures text { buffer.new.items ≡ buffer.old.items ++ answer_json spelling view answer }
-    ensures room { TookRoom buffer.old buffer.new 114 }
+    requires { HasRoom buffer.old 792 }
+    ensures text { buffer.new.items ≡ buffer.old.items ++ answer_json style.now view answer }
+    ensures room { TookRoom buffer.old buffer.new 792 }
 {
     match answer {
-        Some(held) => push_held_json(buffer, spelling, view, held),
+        Some(held) => push_held_json(buffer, style, view, held),
         None => push_text(buffer, "null"),
     }
 }
 
 /// Appends what stands for a key, under a view: an object.
-fn push_held_json(buffer: &mut Vec<u8>, spelling: Spelling, view: View, held: Held)
-    requires { HasRoom buffer.old 114 }
-    ensures text { buffer.new.items ≡ buffer.old.items ++ answer_json spelling view (Some held) }
-    ensures room { TookRoom buffer.old buffer.new 114 }
+fn push_held_json(buffer: &mut Vec<u8>, style: &Style, view: View, held: Held)
+    requires { HasRoom buffer.old 792 }
+    ensures text { buffer.new.items ≡ buffer.old.items ++ answer_json style.now view (Some held) }
+    ensures room { TookRoom buffer.old buffer.new 792 }
 {
     match held {
-        Held::Route(ann) => push_announcement_json(buffer, spelling, view, ann),
+        Held::Route(ann) => push_announcement_json(buffer, style, view, ann),
         Held::Unreachable => push_text(buffer, r#"{"unreachable":true}"#),
     }
 }
 
 /// Appends the route that is announced, under a view: an object.
-fn push_announcement_json(buffer: &mut Vec<u8>, spelling: Spelling, view: View, ann: Ann)
-    requires { HasRoom buffer.old 114 }
-    ensures text { buffer.new.items ≡ buffer.old.items ++ announcement_json spelling view ann }
-    ensures room { TookRoom buffer.old buffer.new 114 }
+fn push_announcement_json(buffer: &mut Vec<u8>, style: &Style, view: View, ann: Ann)
+    requires { HasRoom buffer.old 792 }
+    ensures text { buffer.new.items ≡ buffer.old.items ++ announcement_json style.now view ann }
+    ensures room { TookRoom buffer.old buffer.new 792 }
 {
     push_text(buffer, r#"{"next_hop":"#);
-    push_next_hop(buffer, spelling, view.next_hop, ann.next_hop());
+    push_next_hop(buffer, style, view.next_hop, ann.next_hop());
     push_text(buffer, r#","router_id":"#);
-    push_kept_id(buffer, view.router_id, ann.router_id());
+    push_kept_id(buffer, style, view.router_id, ann.router_id());
     push_text(buffer, r#","seqno":"#);
     push_number(buffer, view.seqno, "null", ann.seqno());
     push_text(buffer, r#","metric":"#);
@@ -300,34 +297,36 @@ fn push_announcement_json(buffer: &mut Vec<u8>, spelling: Spelling, view: View, 
     push_text(buffer, "}");
 }
 
-/// Appends the next hop where it is kept, or `null`.
-fn push_next_hop(buffer: &mut Vec<u8>, spelling: Spelling, kept: bool, next_hop: Addr)
-    requires { HasRoom buffer.old 41 }
-    ensures text { buffer.new.items
-        ≡ buffer.old.items ++ kept_json kept (quoted (address_text spelling next_hop)) }
-    ensures room { TookRoom buffer.old buffer.new 41 }
+/// Appends the next hop and its name where it is kept, or `null`.
+fn push_next_hop(buffer: &mut Vec<u8>, style: &Style, kept: bool, next_hop: Addr)
+    requires { HasRoom buffer.old 380 }
+    ensures text { buffer.new.items ≡ buffer.old.items ++ next_hop_json style.now kept next_hop }
+    ensures room { TookRoom buffer.old buffer.new 380 }
 {
     if kept {
         push_text(buffer, "\"");
-        push_addr(buffer, spelling, next_hop);
+        push_addr(buffer, style.spelling, next_hop);
         push_text(buffer, "\"");
+        push_name_member(buffer, style, "next_hop_name", style.of_address(next_hop));
     } else {
         push_text(buffer, "null");
+        push_name_member(buffer, style, "next_hop_name", &[]);
     }
 }
 
-/// Appends the router-id where it is kept, or `null`.
-fn push_kept_id(buffer: &mut Vec<u8>, kept: bool, router_id: [u8; 8])
-    requires { HasRoom buffer.old 18 }
-    ensures text { buffer.new.items
-        ≡ buffer.old.items ++ kept_json kept (quoted (encode_lower router_id)) }
-    ensures room { TookRoom buffer.old buffer.new 18 }
+/// Appends the router-id and its name where it is kept, or `null`.
+pub(crate) fn push_kept_id(buffer: &mut Vec<u8>, style: &Style, kept: bool, router_id: [u8; 8])
+    requires { HasRoom buffer.old 357 }
+    ensures text { buffer.new.items ≡ buffer.old.items ++ router_json style.now kept router_id }
+    ensures room { TookRoom buffer.old buffer.new 357 }
 {
     if kept {
         push_text(buffer, "\"");
         push_router_id(buffer, router_id);
         push_text(buffer, "\"");
+        push_name_member(buffer, style, "router_name", style.of_router(router_id));
     } else {
         push_text(buffer, "null");
+        push_name_member(buffer, style, "router_name", &[]);
     }
 }

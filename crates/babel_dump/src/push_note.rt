@@ -41,6 +41,7 @@ pub(crate) fn push_note_front(buffer: &mut Vec<u8>, spelling: Spelling, origin: 
     push_text(buffer, name(note));
     push_text(buffer, r#"","sender":""#);
     push_addr(buffer, spelling, origin.sender);
+    push_text(buffer, "\"");
     push_place_json(buffer, origin.place);
 }
 
@@ -70,9 +71,11 @@ fn name(note: &Note) -> &'static str
         Note::CaptureCut(_) => "capture-cut",
         Note::TooShort(_) => "too-short",
         Note::Backwards(_) => "backwards",
+        Note::NotFollowed(_) => "not-followed",
         Note::ShortSpan { .. } => "short-span",
         Note::Expired(_) => "expired",
         Note::NoUpdates => "no-updates",
+        Note::NoIhus => "no-ihus",
         Note::RoutesDiffer(_) => "routes-differ",
         Note::Source(_, _) => "source",
     }
@@ -102,7 +105,9 @@ fn push_members(buffer: &mut Vec<u8>, note: &Note)
         Note::Trailers(packets) => push_member(buffer, "packets", *packets),
         Note::CaptureCut(at) => push_member(buffer, "at", *at),
         Note::TooShort(frames) => push_member(buffer, "frames", *frames),
-        Note::Backwards(packet) => push_member(buffer, "packet", *packet),
+        Note::Backwards(packet) | Note::NotFollowed(packet) => {
+            push_member(buffer, "packet", *packet);
+        }
         Note::ShortSpan { span, interval } => {
             push_seconds_member(buffer, "span", *span);
             push_seconds_member(buffer, "interval", u64::from(*interval));
@@ -111,7 +116,7 @@ fn push_members(buffer: &mut Vec<u8>, note: &Note)
             push_member(buffer, "routes", *routes);
         }
         Note::Source(spelling, source) => push_source(buffer, *spelling, *source),
-        Note::Cooked | Note::NoUpdates => {}
+        Note::Cooked | Note::NoUpdates | Note::NoIhus => {}
     }
 }
 

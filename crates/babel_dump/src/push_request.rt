@@ -4,10 +4,12 @@ ghost use Rattle.babel_dump.specs.RequestText.{key_json, key_text, request_json,
 ghost use Rattle.babel_dump.specs.RequestText.{to_json, to_text};
 ghost use Rattle.babel_dump.specs.Slices.{HasRoom, TookRoom};
 
-use crate::push::{push_decimal, push_router_id, push_text};
+use crate::push::{push_decimal, push_text};
 use crate::push_addr::{push_addr, push_from, push_prefix};
-use crate::push_json::push_addressed;
+use crate::push_json::{push_addressed, push_kept_id};
+use crate::push_named::push_named_id;
 use crate::spelling::Spelling;
+use crate::style::Style;
 use babel_prefix::Addr;
 use babel_tlv::{Key, Request};
 
@@ -35,22 +37,22 @@ pub(crate) fn push_to(buffer: &mut Vec<u8>, spelling: Spelling, to: Option<Addr>
 }
 
 /// Appends what is requested.
-pub(crate) fn push_request(buffer: &mut Vec<u8>, spelling: Spelling, request: &Request)
-    requires { HasRoom buffer.old 129 }
-    ensures text { buffer.new.items ≡ buffer.old.items ++ request_text spelling request.now }
-    ensures room { TookRoom buffer.old buffer.new 129 }
+pub(crate) fn push_request(buffer: &mut Vec<u8>, style: &Style, request: &Request)
+    requires { HasRoom buffer.old 452 }
+    ensures text { buffer.new.items ≡ buffer.old.items ++ request_text style.now request.now }
+    ensures room { TookRoom buffer.old buffer.new 452 }
 {
     match request {
         Request::All => push_text(buffer, " all"),
-        Request::Route(key) => push_key(buffer, spelling, *key),
+        Request::Route(key) => push_key(buffer, style.spelling, *key),
         Request::Seqno {
             key,
             router_id,
             seqno,
         } => {
-            push_key(buffer, spelling, *key);
+            push_key(buffer, style.spelling, *key);
             push_text(buffer, " id ");
-            push_router_id(buffer, *router_id);
+            push_named_id(buffer, style, *router_id);
             push_text(buffer, " seqno ");
             push_decimal(buffer, *seqno);
         }
@@ -74,10 +76,10 @@ pub(crate) fn push_to_json(buffer: &mut Vec<u8>, spelling: Spelling, to: Option<
 }
 
 /// Appends what is requested: four members of an object.
-pub(crate) fn push_request_json(buffer: &mut Vec<u8>, spelling: Spelling, request: &Request)
-    requires { HasRoom buffer.old 163 }
-    ensures text { buffer.new.items ≡ buffer.old.items ++ request_json spelling request.now }
-    ensures room { TookRoom buffer.old buffer.new 163 }
+pub(crate) fn push_request_json(buffer: &mut Vec<u8>, style: &Style, request: &Request)
+    requires { HasRoom buffer.old 502 }
+    ensures text { buffer.new.items ≡ buffer.old.items ++ request_json style.now request.now }
+    ensures room { TookRoom buffer.old buffer.new 502 }
 {
     match request {
         Request::All => push_text(
@@ -85,7 +87,7 @@ pub(crate) fn push_request_json(buffer: &mut Vec<u8>, spelling: Spelling, reques
             r#""destination":null,"source":null,"router_id":null,"seqno":null"#,
         ),
         Request::Route(key) => {
-            push_key_json(buffer, spelling, *key);
+            push_key_json(buffer, style.spelling, *key);
             push_text(buffer, r#","router_id":null,"seqno":null"#);
         }
         Request::Seqno {
@@ -93,10 +95,10 @@ pub(crate) fn push_request_json(buffer: &mut Vec<u8>, spelling: Spelling, reques
             router_id,
             seqno,
         } => {
-            push_key_json(buffer, spelling, *key);
-            push_text(buffer, r#","router_id":""#);
-            push_router_id(buffer, *router_id);
-            push_text(buffer, r#"","seqno":"#);
+            push_key_json(buffer, style.spelling, *key);
+            push_text(buffer, r#","router_id":"#);
+            push_kept_id(buffer, style, true, *router_id);
+            push_text(buffer, r#","seqno":"#);
             push_decimal(buffer, *seqno);
         }
     }

@@ -19,12 +19,12 @@ const LONGEST_SUMMARY: usize = 1_776;
 /// A summary, and a report unless it is left out.
 pub(crate) fn summary_output(
     alloc: Global,
-    format: Format,
+    format: &Format,
     quiet: bool,
     summary: Summary,
     report: &Report,
 ) -> Result<Vec<u8>, AllocError>
-    ensures { IfOk result (λ text. text.items ≡ summary_in format quiet summary report.now) }
+    ensures { IfOk result (λ text. text.items ≡ summary_in format.now quiet summary report.now) }
 {
     let mut text = Vec::with_capacity(alloc, LONGEST_SUMMARY)?;
     match format {

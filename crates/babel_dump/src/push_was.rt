@@ -4,37 +4,36 @@ ghost use Rattle.std.specs.Fmt.{decimal};
 ghost use Rattle.std.specs.Str.{bytes_eq};
 ghost use Rattle.babel_dump.specs.EventText.{differing_text, is_same_address, unless_same};
 ghost use Rattle.babel_dump.specs.EventText.{was_text};
+ghost use Rattle.babel_dump.specs.Names.{named_address, named_router};
 ghost use Rattle.babel_dump.specs.Slices.{HasRoom, TookRoom};
-ghost use Rattle.babel_dump.specs.Spelling.{address_text};
-ghost use Rattle.babel_dump.specs.TextParts.{hex_digits};
 
-use crate::push::{push_decimal, push_router_id, push_text};
-use crate::push_addr::push_addr;
-use crate::spelling::Spelling;
+use crate::push::{push_decimal, push_text};
+use crate::push_named::{push_named_addr, push_named_id};
+use crate::style::Style;
 use babel_prefix::Addr;
 use babel_timeline::ChangeKind;
 use babel_tlv::Ann;
 
 /// Appends what was held before, where something else is held after it: the fields that differ.
-pub(crate) fn push_was(buffer: &mut Vec<u8>, spelling: Spelling, kind: ChangeKind)
-    requires { HasRoom buffer.old 94 }
-    ensures text { buffer.new.items ≡ buffer.old.items ++ was_text spelling kind }
-    ensures room { TookRoom buffer.old buffer.new 94 }
+pub(crate) fn push_was(buffer: &mut Vec<u8>, style: &Style, kind: ChangeKind)
+    requires { HasRoom buffer.old 740 }
+    ensures text { buffer.new.items ≡ buffer.old.items ++ was_text style.now kind }
+    ensures room { TookRoom buffer.old buffer.new 740 }
 {
     if let ChangeKind::Changed { before, now } = kind {
         push_text(buffer, " was");
-        push_differing(buffer, spelling, before, now);
+        push_differing(buffer, style, before, now);
     }
 }
 
 /// Appends the fields that are others now.
-fn push_differing(buffer: &mut Vec<u8>, spelling: Spelling, before: Ann, now: Ann)
-    requires { HasRoom buffer.old 90 }
-    ensures text { buffer.new.items ≡ buffer.old.items ++ differing_text spelling before now }
-    ensures room { TookRoom buffer.old buffer.new 90 }
+fn push_differing(buffer: &mut Vec<u8>, style: &Style, before: Ann, now: Ann)
+    requires { HasRoom buffer.old 736 }
+    ensures text { buffer.new.items ≡ buffer.old.items ++ differing_text style.now before now }
+    ensures room { TookRoom buffer.old buffer.new 736 }
 {
-    push_next_hop(buffer, spelling, before.next_hop(), now.next_hop());
-    push_id(buffer, before.router_id(), now.router_id());
+    push_next_hop(buffer, style, before.next_hop(), now.next_hop());
+    push_id(buffer, style, before.router_id(), now.router_id());
     push_number(buffer, " seqno ", before.seqno(), now.seqno());
     push_number(buffer, " metric ", before.metric(), now.metric());
 }
@@ -47,28 +46,28 @@ fn are_one(address: Addr, other: Addr) -> bool
 }
 
 /// Appends the next hop, unless it is the same now.
-fn push_next_hop(buffer: &mut Vec<u8>, spelling: Spelling, before: Addr, now: Addr)
-    requires { HasRoom buffer.old 44 }
+fn push_next_hop(buffer: &mut Vec<u8>, style: &Style, before: Addr, now: Addr)
+    requires { HasRoom buffer.old 367 }
     ensures text { buffer.new.items ≡ buffer.old.items ++ unless_same
-        (is_same_address before now) (codes " via ") (address_text spelling before) }
-    ensures room { TookRoom buffer.old buffer.new 44 }
+        (is_same_address before now) (codes " via ") (named_address style.now before) }
+    ensures room { TookRoom buffer.old buffer.new 367 }
 {
     if !are_one(before, now) {
         push_text(buffer, " via ");
-        push_addr(buffer, spelling, before);
+        push_named_addr(buffer, style, before);
     }
 }
 
 /// Appends the router-id, unless it is the same now.
-fn push_id(buffer: &mut Vec<u8>, before: [u8; 8], now: [u8; 8])
-    requires { HasRoom buffer.old 20 }
+fn push_id(buffer: &mut Vec<u8>, style: &Style, before: [u8; 8], now: [u8; 8])
+    requires { HasRoom buffer.old 343 }
     ensures text { buffer.new.items ≡ buffer.old.items ++ unless_same
-        (bytes_eq before now) (codes " id ") (hex_digits before) }
-    ensures room { TookRoom buffer.old buffer.new 20 }
+        (bytes_eq before now) (codes " id ") (named_router style.now before) }
+    ensures room { TookRoom buffer.old buffer.new 343 }
 {
     if before != now {
         push_text(buffer, " id ");
-        push_router_id(buffer, before);
+        push_named_id(buffer, style, before);
     }
 }
 

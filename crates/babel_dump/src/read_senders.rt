@@ -1,8 +1,9 @@
 //! The senders in captures whose own tables are read, and what there is to know of each.
-ghost use Rattle.std.specs.Prelude.{◌≡◌, List, IfOk};
+ghost use Rattle.std.specs.Prelude.{◌≡◌, List, IfErr, IfOk, None};
 ghost use Rattle.std.specs.Result.{result_ok};
 ghost use Rattle.babel_capture.specs.Counts.{Made};
 ghost use Rattle.babel_capture.specs.Gathering.{name_of};
+ghost use Rattle.babel_dump.specs.AskedRun.{misplaced_told};
 ghost use Rattle.babel_dump.specs.EachSender.{IsFedOwn, first_missed, own_packets};
 ghost use Rattle.babel_dump.specs.Fed.{AreWhole};
 ghost use Rattle.babel_dump.specs.Packets.{packets_made};
@@ -69,11 +70,12 @@ impl ReadSenders {
         origin: Origin,
         table: SenderTable,
     ) -> Result<Result<Table, InputFault>, Trouble>
-        ensures { IfOk result (λ own. (made : List Made) → AreWhole (packets_made made)
+        ensures own { IfOk result (λ own. (made : List Made) → AreWhole (packets_made made)
             → IsFedOwn captured.now.each.now origin (own_packets origin made)
             (first_missed origin made) table
             → IsOwnRead captured.now.each.now (heard_in captured.now.read.now made) origin
             (result_ok own)) }
+        ensures placed { IfErr result (λ trouble. misplaced_told trouble ≡ None) }
     {
         match read_own(captured.each, captured.read.moment, table) {
             Ok(
@@ -99,7 +101,9 @@ impl ReadSenders {
     }
 
     /// Counts the rows of a table.
-    fn count(&mut self, each: &EachSender, table: &Table) -> Result<(), Trouble> {
+    fn count(&mut self, each: &EachSender, table: &Table) -> Result<(), Trouble>
+        ensures { IfErr result (λ trouble. misplaced_told trouble ≡ None) }
+    {
         match each.rows_with(self.rows, table.rows().len()) {
             Some(rows) => {
                 self.rows = rows;
@@ -116,7 +120,9 @@ impl ReadSenders {
         captured: &Captured<'_>,
         origin: &Origin,
         read: Result<DumpRead, InputFault>,
-    ) -> Result<(), Trouble> {
+    ) -> Result<(), Trouble>
+        ensures { IfErr result (λ trouble. misplaced_told trouble ≡ None) }
+    {
         let sender = ToldSender::new(alloc, &captured.read.gathered, origin, read)?;
         match self.told.push(sender.on(captured.side)) {
             Ok(()) => Ok(()),

@@ -118,6 +118,7 @@ impl Reading {
         Wanted {
             sender: Some(self.sender),
             place: self.place,
+            are_listed: true,
         }
     }
 }

@@ -1,6 +1,7 @@
 //! What is said at once, before a run ends.
 use crate::ignored::IgnoredTlv;
 use crate::left_out::LeftOutDatagram;
+use crate::note::Note;
 use crate::place_word::NamedOrigin;
 use babel_capture::Origin;
 use babel_tlv::Reason;
@@ -13,6 +14,8 @@ pub(crate) enum Unread {
     Lost(LeftOutDatagram),
     /// A datagram of it was left out, the first for its reason.
     LeftOut(LeftOutDatagram),
+    /// It is not followed, and the packet with this number is the first of such senders.
+    NotFollowed(u64),
     /// A TLV of it was ignored, the first for its reason, by its offset in the sender's dump.
     Ignored(IgnoredTlv),
 }
@@ -33,7 +36,7 @@ impl Remark {
             Unread::Ignored(tlv) => {
                 self.ignores_encoding_4 && tlv.reason == Reason::UnknownEncoding
             }
-            Unread::Lost(_) | Unread::LeftOut(_) => false,
+            Unread::Lost(_) | Unread::LeftOut(_) | Unread::NotFollowed(_) => false,
         }
     }
 }
@@ -57,6 +60,9 @@ impl fmt::Display for NamedRemark<'_> {
                 write!(f, "note: {sender}: {datagram}; its routes are not followed")
             }
             Unread::LeftOut(datagram) => write!(f, "note: {sender}: {datagram}"),
+            Unread::NotFollowed(packet) => {
+                write!(f, "note: {sender}: {}", Note::NotFollowed(*packet))
+            }
             Unread::Ignored(tlv) => write!(f, "note: {sender}: {tlv}"),
         }
     }

@@ -9,7 +9,7 @@ use crate::remark::{NamedRemark, Remark, Unread};
 use crate::says::Says;
 use crate::speaker::{Speaker, speaker_at};
 use crate::trouble::say_hint;
-use babel_capture::{BabelPacket, Gathered, Origin, Reason};
+use babel_capture::{BabelPacket, Gathered, MAX_SENDERS, Origin, Reason};
 use babel_table::Report;
 use babel_tlv::Reason as IgnoredFor;
 use std::alloc::{AllocError, Global};
@@ -22,6 +22,8 @@ pub(crate) struct Remarks {
     remarks: Vec<Remark>,
     /// Whose datagrams were left out, and for which reasons.
     left_out: BTreeSet<(Speaker, Reason)>,
+    /// The number of the first packet of a sender that is not followed.
+    pub not_followed: Option<u64>,
     /// What can be done where encoding 4 is ignored, until that is said.
     hint: Option<Hint>,
 }
@@ -33,6 +35,7 @@ impl Remarks {
             is_quiet: events.quiet,
             remarks: Vec::new(alloc),
             left_out: BTreeSet::new(alloc),
+            not_followed: None,
             hint: Hint::of_encoding_4(events.limits.via_v6()),
         }
     }
@@ -64,12 +67,15 @@ impl Remarks {
     }
 
     /// A datagram of a sender was left out, of which nothing is missing. It is said once of each
-    /// sender at its place and each reason.
+    /// sender at its place and each reason, of so many as there are senders at most.
     pub(crate) fn left_out(
         &mut self,
         origin: Origin,
         datagram: LeftOutDatagram,
     ) -> Result<(), AllocError> {
+        if self.left_out.len() >= MAX_SENDERS {
+            return Ok(());
+        }
         let Origin { place, sender } = origin;
         match self
             .left_out
@@ -79,6 +85,15 @@ impl Remarks {
             Ok(false) => Ok(()),
             Err(_) => Err(AllocError),
         }
+    }
+
+    /// A sender is not followed, of which the packet with this number is. It is said of the first.
+    pub(crate) fn not_followed(&mut self, origin: &Origin, packet: u64) -> Result<(), AllocError> {
+        if self.not_followed.is_some() {
+            return Ok(());
+        }
+        self.not_followed = Some(packet);
+        self.add_datagram(*origin, Unread::NotFollowed(packet))
     }
 
     /// A packet of a sender was heard: the first TLV for each reason for which none was ignored

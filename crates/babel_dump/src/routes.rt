@@ -28,11 +28,11 @@ pub(crate) fn found_routes(
     view: View,
     filter: Filter,
     count: bool,
-    format: Format,
+    format: &Format,
     table: Table,
 ) -> Result<Found, AllocError>
-    ensures { IfOk result (Says (Tells table.report
-        (rows_or_count_in format view count (kept_rows filter table.rows)) 0)) }
+    ensures { IfOk result (Says format.now (Tells table.report
+        (rows_or_count_in format.now view count (kept_rows filter table.rows)) 0)) }
 {
     let outcome = Outcome::of_dump(0, *table.report());
     if count {
@@ -40,7 +40,7 @@ pub(crate) fn found_routes(
         return Ok(Found::text(text, outcome));
     }
     let rows = Rows::Table(filter, view, table);
-    Ok(Found::rows(format, rows, Vec::new(alloc), outcome))
+    Ok(Found::rows(rows, Vec::new(alloc), outcome))
 }
 
 /// The lines of the keys for which two tables hold what differs. Out of memory is the first
@@ -49,18 +49,18 @@ pub(crate) fn found_route_differences(
     alloc: Global,
     view: View,
     listed: Listed,
-    format: Format,
+    format: &Format,
     seen: &SeenTables,
 ) -> Result<Found, RunFault>
-    ensures ok { IfOk result (Says (TellsRoutes
-        (λ rows differences. listed_in format view listed differences)
+    ensures ok { IfOk result (Says format.now (TellsRoutes
+        (λ rows differences. listed_in format.now view listed differences)
         seen.now.left seen.now.right)) }
     ensures err { IfErr result IsOfMemory }
 {
     let list = listed_differences(alloc, listed, seen)?;
     let outcome = seen.outcome(differences_status(list.len()));
     let (rows, after) = listed_rows(alloc, view, listed, format, list)?;
-    Ok(Found::rows(format, rows, after, outcome))
+    Ok(Found::rows(rows, after, outcome))
 }
 
 /// The differences that are listed: the first alone, or all.
@@ -84,11 +84,11 @@ fn listed_rows(
     alloc: Global,
     view: View,
     listed: Listed,
-    format: Format,
+    format: &Format,
     list: Vec<Difference>,
 ) -> Result<(Rows, Vec<u8>), AllocError>
-    ensures { IfOk result (λ found.
-        lines_of format found.0 ++ found.1.items ≡ listing_in format view listed list.items) }
+    ensures { IfOk result (λ found. lines_of format.now found.0 ++ found.1.items
+        ≡ listing_in format.now view listed list.items) }
 {
     match listed {
         Listed::First | Listed::All => difference_rows(alloc, view, format, list),

@@ -13,6 +13,7 @@ use crate::push::push_text;
 use crate::push_note::{push_note_front, push_note_rest};
 use crate::slices::write_name;
 use crate::spelling::Spelling;
+use crate::style::Style;
 use crate::write::{WriteFailed, write_all, write_text};
 use babel_capture::Origin;
 
@@ -28,10 +29,10 @@ pub(crate) fn write_sender_notes<W: ByteOut>(
 ) -> Result<(), WriteFailed>
     requires few_failures { (W.state writer.old).failures < 2 ^ 64 - 1 }
     requires few_flushes { (W.state writer.old).flushes < 2 ^ 64 - 1 }
-    requires room { 1600 ≤ vec_capacity line.old }
+    requires room { 2048 ≤ vec_capacity line.old }
     ensures text { WroteText (output (W.state writer.old) (W.state writer.new))
         (flat_map (note_of_sender spelling origin.now name.now) notes.now) result }
-    ensures room { 1600 ≤ vec_capacity line.new }
+    ensures room { 2048 ≤ vec_capacity line.new }
 {
     for note in notes {
         write_sender_note(writer, spelling, origin, name, note, line)?;
@@ -49,12 +50,13 @@ fn write_sender_note<W: ByteOut>(
     line: &mut Vec<u8>,
 ) -> Result<(), WriteFailed>
     requires few_failures { (W.state writer.old).failures < 2 ^ 64 - 1 }
-    requires room { 1600 ≤ vec_capacity line.old }
+    requires room { 2048 ≤ vec_capacity line.old }
     ensures front { WroteFront (output (W.state writer.old) (W.state writer.new))
         (note_of_sender spelling origin.now name.now told.now) [] result }
-    ensures room { 1600 ≤ vec_capacity line.new }
+    ensures room { 2048 ≤ vec_capacity line.new }
 {
-    let format = Format::Json(spelling);
+    let names = None;
+    let format = &Format::Json(Style { spelling, names });
     line.clear();
     push_note_front(line, spelling, *origin, &told.note);
     push_text(line, opening(format, name));

@@ -19,17 +19,17 @@ use std::alloc::Global;
 pub(crate) fn find_senders<R: ByteIn>(
     alloc: Global,
     reading: CaptureReading,
-    format: Format,
+    format: &Format,
     reader: &mut R,
 ) -> Result<Found, RunFault>
     requires { HasRoomToCount (R.state reader.old) }
     ensures { let input =
         capture_from (R.state reader.old) (R.state reader.new) reading everyone in
-        FoundIn CaptureTask.Senders format input result }
+        FoundIn CaptureTask.Senders format.now input result }
 {
     let read = read_capture(alloc, reading, Wanted::everyone(), reader, &mut NoSink)?;
     let outcome = Outcome::of_capture(&read.gathered, read.cut);
     let rows = Rows::Senders(read.gathered);
-    let found = Found::rows(format, rows, Vec::new(alloc), outcome);
+    let found = Found::rows(rows, Vec::new(alloc), outcome);
     Ok(found.or_absence(read.absence))
 }

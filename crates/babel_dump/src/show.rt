@@ -22,11 +22,11 @@ pub(crate) fn found_rows(
     filter: Filter,
     summary: bool,
     quiet: bool,
-    format: Format,
+    format: &Format,
     table: Table,
 ) -> Result<Found, AllocError>
     ensures { IfOk result
-        (Says (Tells table.report (shown_in format filter summary quiet table) 0)) }
+        (Says format.now (Tells table.report (shown_in format.now filter summary quiet table) 0)) }
 {
     let outcome = Outcome::of_dump(0, *table.report());
     if summary {
@@ -36,17 +36,17 @@ pub(crate) fn found_rows(
     }
     let after = after_rows(alloc, quiet, format, table.report())?;
     let rows = Rows::Table(filter, View::all(), table);
-    Ok(Found::rows(format, rows, after, outcome))
+    Ok(Found::rows(rows, after, outcome))
 }
 
 /// The report that comes after rows, unless it is left out.
 fn after_rows(
     alloc: Global,
     quiet: bool,
-    format: Format,
+    format: &Format,
     report: &Report,
 ) -> Result<Vec<u8>, AllocError>
-    ensures { IfOk result (λ text. text.items ≡ unless quiet (report_in format report.now)) }
+    ensures { IfOk result (λ text. text.items ≡ unless quiet (report_in format.now report.now)) }
 {
     if quiet {
         return Ok(Vec::new(alloc));

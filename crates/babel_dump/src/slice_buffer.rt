@@ -6,14 +6,14 @@ use std::alloc::{AllocError, Global};
 const SLICE: usize = 65_536;
 
 /// No line is longer, in octets, and no three lines of a difference are. The longest but for the
-/// name of an interface, which has room of its own, is the end of an object of `events`, of 390: a
-/// change of a route with an IPv6 next hop, for two IPv6 prefixes.
-pub(crate) const LONGEST_LINE: usize = 512;
+/// name of an interface, which has room of its own, is the end of an object of `events`, of 1,866
+/// at most: a change of a route with an IPv6 next hop, for two IPv6 prefixes, with four names.
+pub(crate) const LONGEST_LINE: usize = 2_048;
 
 /// An empty buffer that has room for a slice of a text, and so for a line.
 pub(crate) fn slice_buffer(alloc: Global) -> Result<Vec<u8>, AllocError>
     ensures empty { IfOk result (λ buffer. buffer.items ≡ []) }
-    ensures room { IfOk result (λ buffer. 512 ≤ vec_capacity buffer) }
+    ensures room { IfOk result (λ buffer. 2048 ≤ vec_capacity buffer) }
 {
     Ok(Vec::with_capacity(alloc, SLICE)?)
 }

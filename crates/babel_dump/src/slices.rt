@@ -4,15 +4,18 @@
 ghost use Rattle.std.specs.Prelude.{◌≡◌, ◌∷◌, ◌++◌, ◌-◌, ◌^◌, ◌<◌, ◌≤◌, [], OnOk};
 ghost use Rattle.std.specs.Prelude.{vec_capacity};
 ghost use Rattle.std.specs.List.{flat_map};
-ghost use Rattle.babel_dump.specs.CaptureText.{escape, escaped, sender_in, senders_in, with_times};
+ghost use Rattle.babel_dump.specs.CaptureText.{escape, sender_in, senders_in, with_times};
+ghost use Rattle.babel_dump.specs.NameText.{escaped};
 ghost use Rattle.babel_dump.specs.Device.{HasRoomToWrite};
 ghost use Rattle.babel_dump.specs.Filter.{kept_rows};
-ghost use Rattle.babel_dump.specs.InFormat.{pairs_in};
+ghost use Rattle.babel_dump.specs.InFormat.{difference_in, each_in, pairs_in};
 ghost use Rattle.babel_dump.specs.Run.{output};
 ghost use Rattle.babel_dump.specs.SlicedRows.{Finished, found_text, lines_of};
 ghost use Rattle.babel_dump.specs.Slices.{HasRoom, WroteFront, WroteText};
+ghost use Rattle.babel_dump.specs.declared.format.Format.{Format};
 
 use crate::absence::Absence;
+use crate::addr_pair::AddrPair;
 use crate::aside::Aside;
 use crate::byte_out::ByteOut;
 use crate::capture_notes::CaptureNotes;
@@ -20,12 +23,13 @@ use crate::diff_rows::{DiffRows, write_diff};
 use crate::filter::Filter;
 use crate::format::Format;
 use crate::outcome::Outcome;
-use crate::output::{Answered, Line, escape_of, push_after_name, push_line, push_to_name};
+use crate::output::{
+    Answered, escape_of, push_after_name, push_answer, push_difference, push_line, push_to_name,
+};
 use crate::pair_lines::PairLines;
 use crate::push::{push_name_octet, push_octets};
 use crate::run_fault::RunFault;
 use crate::slice_buffer::{LONGEST_LINE, slice_buffer};
-use crate::spelling::Spelling;
 use crate::write::{WriteFailed, write_all, write_text};
 use babel_canon::{CanonicalPairs, Difference};
 use babel_capture::{Gathered, Origin, Tally};
@@ -40,8 +44,8 @@ pub(crate) enum Rows {
     Table(Filter, View, Table),
     /// The pairs that a filter keeps, as a view shows them.
     Pairs(Filter, View, CanonicalPairs),
-    /// What is answered for destinations and sources.
-    Answers(Vec<Answered>),
+    /// What a table answers for each of these pairs, with the row that answers or without.
+    Answers(bool, Vec<AddrPair>, Table),
     /// Differences, as a view shows them.
     Differences(View, Vec<Difference>),
     /// What two dumps hold differently, as people read it.
@@ -52,11 +56,9 @@ pub(crate) enum Rows {
     Empty,
 }
 
-/// What a run found: rows, whose lines are written in a format, a text after these, and what it
-/// answers.
+/// What a run found: rows, of which each has a line, a text after these, and what it answers.
 #[derive(Drop)]
 pub(crate) struct Found {
-    pub format: Format,
     pub rows: Rows,
     pub after: Vec<u8>,
     pub outcome: Outcome,
@@ -66,12 +68,12 @@ pub(crate) struct Found {
 
 impl Found {
     /// Rows, and a text after their lines.
-    pub fn rows(format: Format, rows: Rows, after: Vec<u8>, outcome: Outcome) -> Found
-        ensures text { found_text result ≡ lines_of format rows ++ after.items }
+    pub fn rows(rows: Rows, after: Vec<u8>, outcome: Outcome) -> Found
+        ensures text { (format : Format)
+            → found_text format result ≡ lines_of format rows ++ after.items }
         ensures outcome { result.outcome ≡ outcome }
     {
         Found {
-            format,
             rows,
             after,
             outcome,
@@ -81,7 +83,7 @@ impl Found {
 
     /// The same of dumps that were read of captures with these notes.
     pub fn beside(self, capture: Option<CaptureNotes>, other: Option<CaptureNotes>) -> Found
-        ensures text { found_text result ≡ found_text self }
+        ensures text { (format : Format) → found_text format result ≡ found_text format self }
         ensures outcome { result.outcome ≡ self.outcome }
     {
         let mut found = self;
@@ -92,7 +94,7 @@ impl Found {
 
     /// The same of a capture, of which this is said where it has no packets.
     pub fn or_absence(self, absence: Absence) -> Found
-        ensures text { found_text result ≡ found_text self }
+        ensures text { (format : Format) → found_text format result ≡ found_text format self }
         ensures outcome { result.outcome ≡ self.outcome }
     {
         let mut found = self;
@@ -102,10 +104,10 @@ impl Found {
 
     /// A text, and no rows.
     pub fn text(text: Vec<u8>, outcome: Outcome) -> Found
-        ensures text { found_text result ≡ text.items }
+        ensures text { (format : Format) → found_text format result ≡ text.items }
         ensures outcome { result.outcome ≡ outcome }
     {
-        Found::rows(Format::Text(Spelling::Long), Rows::Empty, text, outcome)
+        Found::rows(Rows::Empty, text, outcome)
     }
 }
 
@@ -113,13 +115,13 @@ impl Found {
 pub(crate) fn finish<W: ByteOut>(
     alloc: Global,
     writer: &mut W,
+    format: &Format,
     found: Result<Found, RunFault>,
 ) -> Result<Outcome, RunFault>
     requires { HasRoomToWrite (W.state writer.old) }
-    ensures { Finished (output (W.state writer.old) (W.state writer.new)) found result }
+    ensures { Finished (output (W.state writer.old) (W.state writer.new)) format.now found result }
 {
     let Found {
-        format,
         rows,
         after,
         outcome,
@@ -134,15 +136,15 @@ pub(crate) fn finish<W: ByteOut>(
 /// Writes the lines of rows, but for the last of them, which the buffer has.
 fn write_rows<W: ByteOut>(
     writer: &mut W,
-    format: Format,
+    format: &Format,
     rows: Rows,
     buffer: &mut Vec<u8>,
 ) -> Result<(), WriteFailed>
     requires few_failures { (W.state writer.old).failures < 2 ^ 64 - 1 }
     requires empty { buffer.old.items ≡ [] }
-    requires room { 512 ≤ vec_capacity buffer.old }
+    requires room { 2048 ≤ vec_capacity buffer.old }
     ensures { WroteFront (output (W.state writer.old) (W.state writer.new))
-        (lines_of format rows) buffer.new.items result }
+        (lines_of format.now rows) buffer.new.items result }
 {
     match rows {
         Rows::Table(filter, view, table) => {
@@ -151,9 +153,13 @@ fn write_rows<W: ByteOut>(
         Rows::Pairs(filter, view, pairs) => {
             write_pairs(writer, format, filter, view, pairs, buffer)
         }
-        Rows::Answers(answers) => write_lines(writer, format, View::all(), &answers, buffer),
-        Rows::Differences(view, listed) => write_lines(writer, format, view, &listed, buffer),
-        Rows::Diff(diff) => write_diff(writer, &diff, buffer),
+        Rows::Answers(with_prefix, asked, table) => {
+            write_answers(writer, format, with_prefix, &asked, &table, buffer)
+        }
+        Rows::Differences(view, listed) => {
+            write_differences(writer, format, view, &listed, buffer)
+        }
+        Rows::Diff(diff) => write_diff(writer, format.style(), &diff, buffer),
         Rows::Senders(gathered) => write_senders(writer, format, &gathered, buffer),
         Rows::Empty => Ok(()),
     }
@@ -163,7 +169,7 @@ fn write_rows<W: ByteOut>(
 /// buffer has.
 fn write_table<W: ByteOut>(
     writer: &mut W,
-    format: Format,
+    format: &Format,
     filter: &Filter,
     view: View,
     table: &Table,
@@ -171,9 +177,9 @@ fn write_table<W: ByteOut>(
 ) -> Result<(), WriteFailed>
     requires few_failures { (W.state writer.old).failures < 2 ^ 64 - 1 }
     requires empty { buffer.old.items ≡ [] }
-    requires room { 512 ≤ vec_capacity buffer.old }
+    requires room { 2048 ≤ vec_capacity buffer.old }
     ensures { WroteFront (output (W.state writer.old) (W.state writer.new))
-        (pairs_in format view (kept_rows filter.now table.now.rows)) buffer.new.items result }
+        (pairs_in format.now view (kept_rows filter.now table.now.rows)) buffer.new.items result }
 {
     for (key, held) in table.rows() {
         write_kept(writer, format, filter, view, key, held, buffer)?;
@@ -185,7 +191,7 @@ fn write_table<W: ByteOut>(
 /// both, which the buffer has then.
 pub(crate) fn write_kept<W: ByteOut>(
     writer: &mut W,
-    format: Format,
+    format: &Format,
     filter: &Filter,
     view: View,
     key: Key,
@@ -193,11 +199,11 @@ pub(crate) fn write_kept<W: ByteOut>(
     buffer: &mut Vec<u8>,
 ) -> Result<(), WriteFailed>
     requires few_failures { (W.state writer.old).failures < 2 ^ 64 - 1 }
-    requires room { 512 ≤ vec_capacity buffer.old }
+    requires room { 2048 ≤ vec_capacity buffer.old }
     ensures front { WroteFront (output (W.state writer.old) (W.state writer.new))
-        (buffer.old.items ++ pairs_in format view (kept_rows filter.now ((key, held) ∷ [])))
+        (buffer.old.items ++ pairs_in format.now view (kept_rows filter.now ((key, held) ∷ [])))
         buffer.new.items result }
-    ensures room { OnOk result (512 ≤ vec_capacity buffer.new) }
+    ensures room { OnOk result (2048 ≤ vec_capacity buffer.new) }
 {
     if filter.keeps(&key, &held) {
         make_room(writer, buffer)?;
@@ -210,7 +216,7 @@ pub(crate) fn write_kept<W: ByteOut>(
 /// has.
 fn write_pairs<W: ByteOut>(
     writer: &mut W,
-    format: Format,
+    format: &Format,
     filter: Filter,
     view: View,
     pairs: CanonicalPairs,
@@ -218,9 +224,9 @@ fn write_pairs<W: ByteOut>(
 ) -> Result<(), WriteFailed>
     requires few_failures { (W.state writer.old).failures < 2 ^ 64 - 1 }
     requires empty { buffer.old.items ≡ [] }
-    requires room { 512 ≤ vec_capacity buffer.old }
+    requires room { 2048 ≤ vec_capacity buffer.old }
     ensures { WroteFront (output (W.state writer.old) (W.state writer.new))
-        (pairs_in format view (kept_rows filter pairs)) buffer.new.items result }
+        (pairs_in format.now view (kept_rows filter pairs)) buffer.new.items result }
 {
     let mut lines = PairLines {
         writer,
@@ -232,23 +238,51 @@ fn write_pairs<W: ByteOut>(
     pairs.put(&mut lines)
 }
 
-/// Writes the line of each of these, but for the last of them, which the buffer has.
-fn write_lines<W: ByteOut, L: Line>(
+/// Writes what a table answers for each of these pairs, but for the last of the lines, which the
+/// buffer has.
+fn write_answers<W: ByteOut>(
     writer: &mut W,
-    format: Format,
-    view: View,
-    lines: &[L],
+    format: &Format,
+    with_prefix: bool,
+    asked: &[AddrPair],
+    table: &Table,
     buffer: &mut Vec<u8>,
 ) -> Result<(), WriteFailed>
     requires few_failures { (W.state writer.old).failures < 2 ^ 64 - 1 }
     requires empty { buffer.old.items ≡ [] }
-    requires room { 512 ≤ vec_capacity buffer.old }
+    requires room { 2048 ≤ vec_capacity buffer.old }
     ensures { WroteFront (output (W.state writer.old) (W.state writer.new))
-        (flat_map (L.text format view) lines.now) buffer.new.items result }
+        (each_in format.now with_prefix table.now asked.now) buffer.new.items result }
 {
-    for line in lines {
+    for pair in asked {
         make_room(writer, buffer)?;
-        line.push(buffer, format, view);
+        let answered = Answered {
+            pair: *pair,
+            row: table.best(&pair.dst, &pair.src),
+            with_prefix,
+        };
+        push_answer(buffer, format, &answered);
+    }
+    Ok(())
+}
+
+/// Writes the line of each of these differences, but for the last of them, which the buffer has.
+fn write_differences<W: ByteOut>(
+    writer: &mut W,
+    format: &Format,
+    view: View,
+    differences: &[Difference],
+    buffer: &mut Vec<u8>,
+) -> Result<(), WriteFailed>
+    requires few_failures { (W.state writer.old).failures < 2 ^ 64 - 1 }
+    requires empty { buffer.old.items ≡ [] }
+    requires room { 2048 ≤ vec_capacity buffer.old }
+    ensures { WroteFront (output (W.state writer.old) (W.state writer.new))
+        (flat_map (difference_in format.now view) differences.now) buffer.new.items result }
+{
+    for difference in differences {
+        make_room(writer, buffer)?;
+        push_difference(buffer, format, view, *difference);
     }
     Ok(())
 }
@@ -256,15 +290,15 @@ fn write_lines<W: ByteOut, L: Line>(
 /// Writes the lines of senders, but for the last of them, which the buffer has.
 fn write_senders<W: ByteOut>(
     writer: &mut W,
-    format: Format,
+    format: &Format,
     gathered: &Gathered,
     buffer: &mut Vec<u8>,
 ) -> Result<(), WriteFailed>
     requires few_failures { (W.state writer.old).failures < 2 ^ 64 - 1 }
     requires empty { buffer.old.items ≡ [] }
-    requires room { 512 ≤ vec_capacity buffer.old }
+    requires room { 2048 ≤ vec_capacity buffer.old }
     ensures { WroteFront (output (W.state writer.old) (W.state writer.new))
-        (senders_in format gathered.now) buffer.new.items result }
+        (senders_in format.now gathered.now) buffer.new.items result }
 {
     for (origin, tally) in gathered.senders().iter() {
         let name = gathered.name(origin.place.interface);
@@ -293,18 +327,18 @@ fn told(gathered: &Gathered, tally: &Tally) -> Tally
 /// then.
 fn write_sender<W: ByteOut>(
     writer: &mut W,
-    format: Format,
+    format: &Format,
     origin: &Origin,
     tally: &Tally,
     name: &[u8],
     buffer: &mut Vec<u8>,
 ) -> Result<(), WriteFailed>
     requires few_failures { (W.state writer.old).failures < 2 ^ 64 - 1 }
-    requires room { 512 ≤ vec_capacity buffer.old }
+    requires room { 2048 ≤ vec_capacity buffer.old }
     ensures front { WroteFront (output (W.state writer.old) (W.state writer.new))
-        (buffer.old.items ++ sender_in format name.now (origin.now, tally.now))
+        (buffer.old.items ++ sender_in format.now name.now (origin.now, tally.now))
         buffer.new.items result }
-    ensures room { OnOk result (512 ≤ vec_capacity buffer.new) }
+    ensures room { OnOk result (2048 ≤ vec_capacity buffer.new) }
 {
     make_room(writer, buffer)?;
     push_to_name(buffer, format, *origin, name);
@@ -318,14 +352,14 @@ fn write_sender<W: ByteOut>(
 /// which the buffer has then.
 pub(crate) fn write_name<W: ByteOut>(
     writer: &mut W,
-    format: Format,
+    format: &Format,
     name: &[u8],
     buffer: &mut Vec<u8>,
 ) -> Result<(), WriteFailed>
     requires few_failures { (W.state writer.old).failures < 2 ^ 64 - 1 }
-    requires room { 512 ≤ vec_capacity buffer.old }
+    requires room { 2048 ≤ vec_capacity buffer.old }
     ensures front { WroteFront (output (W.state writer.old) (W.state writer.new))
-        (buffer.old.items ++ escaped (escape format) name.now) buffer.new.items result }
+        (buffer.old.items ++ escaped (escape format.now) name.now) buffer.new.items result }
     ensures room { vec_capacity buffer.old ≤ vec_capacity buffer.new }
 {
     let escape = escape_of(format);
@@ -339,10 +373,10 @@ pub(crate) fn write_name<W: ByteOut>(
 /// Writes what the buffer has where it has no room for a line more.
 pub(crate) fn make_room<W: ByteOut>(writer: &mut W, buffer: &mut Vec<u8>) -> Result<(), WriteFailed>
     requires few_failures { (W.state writer.old).failures < 2 ^ 64 - 1 }
-    requires room { 512 ≤ vec_capacity buffer.old }
+    requires room { 2048 ≤ vec_capacity buffer.old }
     ensures front { WroteFront (output (W.state writer.old) (W.state writer.new))
         buffer.old.items buffer.new.items result }
-    ensures room { OnOk result (HasRoom buffer.new 512) }
+    ensures room { OnOk result (HasRoom buffer.new 2048) }
     ensures capacity { vec_capacity buffer.old ≤ vec_capacity buffer.new }
 {
     if buffer.capacity() - buffer.len() >= LONGEST_LINE {

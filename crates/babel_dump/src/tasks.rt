@@ -33,11 +33,11 @@ pub(crate) fn found_of(
     reading: Reading,
     file: &DumpFile,
     task: Task,
-    format: Format,
+    format: &Format,
     quiet: bool,
     table: Table,
 ) -> Result<Found, Fault>
-    ensures ok { IfOk result (Says (TaskFinds task format quiet (name_of file.now)
+    ensures ok { IfOk result (Says format.now (TaskFinds task format.now quiet (name_of file.now)
         reading table)) }
     ensures err { IfErr result (FoundTooMany (TaskFindsTooMany task reading.limits table)) }
 {
@@ -61,7 +61,7 @@ pub(crate) fn found_of(
             view,
             body,
             hex,
-        } => found_octets(alloc, reading, form, view, body, hex, table),
+        } => found_octets(alloc, reading, form, view, body, hex, format, table),
         Task::Key { form, view } => { found_key(alloc, reading, form, view, format, name, table) }
         Task::Pairs {
             form,
@@ -84,13 +84,13 @@ pub(crate) fn found_of_both(
     two: Reading,
     view: View,
     task: Comparison,
-    format: Format,
+    format: &Format,
     file: &str,
     other_file: &str,
     seen: SeenTables,
 ) -> Result<Found, RunFault>
-    ensures ok { IfOk result (Says (ComparisonFinds task format view file.now other_file.now one two
-        seen.left seen.right)) }
+    ensures ok { IfOk result (Says format.now (ComparisonFinds task format.now view file.now
+        other_file.now one two seen.left seen.right)) }
     ensures err { IfErr result (ComparedTooMany
         (ComparisonFindsTooMany task one.limits seen.left seen.right)) }
 {

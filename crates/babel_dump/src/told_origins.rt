@@ -1,7 +1,8 @@
 //! What the senders in captures originate, of which none is refused.
-ghost use Rattle.std.specs.Prelude.{◌≡◌, List, [], IfOk, OnOk, Some};
+ghost use Rattle.std.specs.Prelude.{◌≡◌, List, [], IfErr, IfOk, None, OnOk, Some};
 ghost use Rattle.std.specs.Map.{keys_of};
 ghost use Rattle.babel_capture.specs.Counts.{Made};
+ghost use Rattle.babel_dump.specs.AskedRun.{misplaced_told};
 ghost use Rattle.babel_dump.specs.EachSender.{AreOwn, IsFedOwn, first_missed, own_packets};
 ghost use Rattle.babel_dump.specs.Fed.{AreWhole};
 ghost use Rattle.babel_dump.specs.Originated.{AreOriginated};
@@ -52,11 +53,12 @@ impl ToldOrigins {
         captured: &Captured<'_>,
         tables: BTreeMap<Origin, SenderTable>,
     ) -> Result<(), Trouble>
-        ensures { OnOk result ((made : List Made) → AreWhole (packets_made made)
+        ensures taken { OnOk result ((made : List Made) → AreWhole (packets_made made)
             → AreOwn captured.now.each.now made tables.entries
             → TakesSenders filter.now captured.now.side captured.now.each.now
             (heard_in captured.now.read.now made) (keys_of tables.entries)
             self.old.originated.all.entries self.new.originated.all.entries) }
+        ensures placed { IfErr result (λ trouble. misplaced_told trouble ≡ None) }
     {
         for (origin, table) in tables {
             let table = self.own(alloc, captured, origin, table)?;
@@ -79,6 +81,7 @@ impl ToldOrigins {
             (first_missed origin made) table
             → IsOwnRead captured.now.each.now (heard_in captured.now.read.now made) origin
             (Some own)) }
+        ensures placed { IfErr result (λ trouble. misplaced_told trouble ≡ None) }
     {
         let own = self.senders.own(alloc, captured, origin, table)?;
         match own {
@@ -94,7 +97,10 @@ fn refused(
     captured: &Captured<'_>,
     origin: Origin,
     fault: InputFault,
-) -> Result<Trouble, Trouble> {
+) -> Result<Trouble, Trouble>
+    ensures told { IfOk result (λ trouble. misplaced_told trouble ≡ None) }
+    ensures placed { IfErr result (λ trouble. misplaced_told trouble ≡ None) }
+{
     let mut name = Vec::new(alloc);
     name.extend_from_slice(captured.name(&origin))?;
     Ok(Trouble::Sender {

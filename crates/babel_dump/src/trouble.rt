@@ -11,6 +11,7 @@ use crate::hearing::Unheard;
 use crate::hint::Hint;
 use crate::input_fault::InputFault;
 use crate::job::{DumpFile, Job};
+use crate::names_fault::NamesFault;
 use crate::pairs_fault::PairsFault;
 use crate::place_word::NamedOrigin;
 use crate::run_fault::{RunFault, Side};
@@ -26,8 +27,9 @@ use std::io::ErrorKind;
 /// Why nothing came of what was asked for.
 #[derive(Drop)]
 pub enum Trouble {
-    /// This option is for captures alone, and was given for a dump.
-    Misplaced(&'static str),
+    /// This option is for captures alone, and was given for a dump; of `--origins` it is on this
+    /// side.
+    Misplaced(Side, &'static str),
     /// What has no `--from` on this side is a dump.
     NoSender(Side),
     /// What has no `--from` is a capture in which not one sender alone announces, but so many do.
@@ -41,6 +43,8 @@ pub enum Trouble {
     },
     /// The tables of a capture's senders have more routes than the limit.
     TooManyRoutes,
+    /// The names are refused.
+    Names(NamesFault),
     /// The run has a fault.
     Fault(RunFault),
     /// The TLVs of a sender in a capture are refused.
@@ -187,12 +191,13 @@ impl Trouble {
         ensures { result ≡ trouble_status None self.now }
     {
         match self {
-            Trouble::Misplaced(_)
+            Trouble::Misplaced(..)
             | Trouble::NoSender(_)
             | Trouble::NotOneSender(_)
             | Trouble::ReadOnce
             | Trouble::Backwards { .. } => 2,
             Trouble::TooManyRoutes => 3,
+            Trouble::Names(fault) => fault.status(),
             Trouble::Fault(fault) => fault.status(),
             Trouble::Sender { fault, .. } => fault.status(),
         }
@@ -207,17 +212,12 @@ impl Trouble {
         match self {
             Trouble::Fault(RunFault::Input(_, InputFault::Dump(Fault::TooManyPairs)))
                 if asked.compares() => None,
-            Trouble::Fault(RunFault::Input(Side::First, _))
-            | Trouble::Sender {
-                side: Side::First,
-                ..
-            } => Some(asked.file()),
-            Trouble::NoSender(Side::Other)
-            | Trouble::Fault(RunFault::Input(Side::Other, _) | RunFault::Pairs(_))
-            | Trouble::Sender {
-                side: Side::Other,
-                ..
-            } => asked.other(),
+            Trouble::Misplaced(side, _) => asked.capture(*side),
+            Trouble::Fault(RunFault::Input(side, _)) | Trouble::Sender { side, .. } => {
+                asked.input(*side)
+            }
+            Trouble::NoSender(Side::Other) | Trouble::Fault(RunFault::Pairs(_)) => asked.other(),
+            Trouble::Names(_) => asked.names(),
             _ => None,
         }
     }
@@ -263,6 +263,7 @@ pub fn say_trouble<S: Says, R: Watched>(
             say_hint(says, &Hint::of_offset_in(*origin, fault));
         }
         Trouble::TooManyRoutes => say_hint(says, &Hint::of_routes(asked)),
+        Trouble::Names(fault) => explain_names(says, *fault, reader),
         Trouble::NotOneSender(_) => say_senders(says, asked.file()),
         _ => {}
     }
@@ -295,8 +296,8 @@ fn say_senders<S: Says>(says: &mut S, file: &DumpFile) {
 fn say_line<S: Says>(says: &mut S, asked: &Asked, trouble: &Trouble) {
     let file = asked.named();
     match trouble {
-        Trouble::Misplaced(option) => {
-            says.say(&format_args!("{file}{option} is for captures, and this is a dump"));
+        Trouble::Misplaced(side, option) => {
+            says.say(&format_args!("{file}{side}{option} is for captures, and this is a dump"));
         }
         Trouble::NoSender(side) => says.say(&format_args!("{file}{side}a dump needs --from")),
         Trouble::NotOneSender(0) => says.say(&"--from is needed: no sender announces here"),
@@ -308,6 +309,7 @@ fn say_line<S: Says>(says: &mut S, asked: &Asked, trouble: &Trouble) {
             says.say(&format_args!("{file}{since} is later than {until}"));
         }
         Trouble::TooManyRoutes => says.say(&format_args!("{file}too many routes")),
+        Trouble::Names(fault) => says.say(fault),
         Trouble::Fault(fault) => says.say(&format_args!("{file}{fault}")),
         Trouble::Sender {
             side,
@@ -355,6 +357,18 @@ fn explain_pairs<S: Says, R: Watched>(says: &mut S, asked: &Asked, fault: &Pairs
         PairsFault::NotAPair { .. } => says.say(
             &"hint: a line has a destination and a source of one family, with blanks between them",
         ),
+    }
+}
+
+/// Says why the names have a fault, and what can be done about it.
+fn explain_names<S: Says, R: Watched>(says: &mut S, fault: NamesFault, reader: &R) {
+    match fault {
+        NamesFault::Read => say_why(says, reader.error()),
+        NamesFault::NotAName { .. } => says.say(
+            &"hint: a line has an address or a router-id and its name, of 64 octets at most; each \
+              is named once",
+        ),
+        NamesFault::TooLong | NamesFault::Memory => {}
     }
 }
 

@@ -95,6 +95,7 @@ fn dump_of(
     let wanted = Wanted {
         sender: Some(sender),
         place: None,
+        are_listed: true,
     };
     let mut dump = Dump {
         octets: Vec::new(alloc),

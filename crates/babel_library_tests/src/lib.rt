@@ -11,6 +11,8 @@ pub mod dumps;
 #[cfg(test)]
 mod prefix;
 #[cfg(test)]
+mod selection;
+#[cfg(test)]
 mod table;
 #[cfg(test)]
 mod teller;

@@ -23,3 +23,4 @@ pub mod ViewsTell
 pub mod Reading
 pub mod Requests
 pub mod Hellos
+pub mod Ihus

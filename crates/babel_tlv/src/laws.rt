@@ -5,6 +5,7 @@ ghost use Rattle.std.specs.Cmp.{IsTotalOrder};
 ghost use Rattle.std.specs.declared.cmp.Ordering.TheVariants.{Equal};
 ghost use Rattle.babel_tlv.specs.declared.held.Held.{Held as HeldValue};
 ghost use Rattle.babel_tlv.specs.Hellos.{HelloIsRead};
+ghost use Rattle.babel_tlv.specs.Ihus.{IhuIsRead};
 ghost use Rattle.babel_tlv.specs.Nearest.{DefaultIsNearest, NextHopIsNearest, RouterIdIsNearest};
 ghost use Rattle.babel_tlv.specs.Pairs.{held_cmp};
 ghost use Rattle.babel_tlv.specs.Requests.{RouteIsRequested, SeqnoIsRequested};
@@ -85,4 +86,9 @@ pub fn requests_are_read()
 /// A Hello that is written is read as what it is: RFC 8966, 4.6.5.
 pub fn hellos_are_read()
     ensures { HelloIsRead }
+{}
+
+/// An IHU that is written is read as what it is: RFC 8966, 4.6.6.
+pub fn ihus_are_read()
+    ensures { IhuIsRead }
 {}

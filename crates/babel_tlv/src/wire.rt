@@ -10,8 +10,10 @@ pub const UPDATE: u8 = 8;
 
 /// The type of the one TLV, and of the one sub-TLV, with no length: RFC 8966, 4.6.1, 4.7.1.
 pub(crate) const PAD1: u8 = 0;
-/// The other TLV types that are read: RFC 8966, 4.6.5, 4.6.7, 4.6.8.
+/// The other TLV types that are read: RFC 8966, 4.6.5 to 4.6.8.
 pub(crate) const HELLO: u8 = 4;
+
+pub(crate) const IHU: u8 = 5;
 
 pub(crate) const ROUTER_ID: u8 = 6;
 

@@ -18,7 +18,7 @@ pub returns-in-Events-clause-done : goal.returns-in-Events-clause-done
 returns-in-Events-clause-done g c = did_as c.args.asked.now (askeds.Events c.in-Events.events) _ _ _ _ _ c.in-Events.is c.tell_events.ensures.told
 
 pub returns-in-Origins-clause-done : goal.returns-in-Origins-clause-done
-returns-in-Origins-clause-done g c = did_as c.args.asked.now (askeds.Origins c.in-Origins.origins) _ _ _ _ _ c.in-Origins.is c.tell_origins.ensures
+returns-in-Origins-clause-done g c = did_as c.args.asked.now (askeds.Origins c.in-Origins.origins) _ _ _ _ _ c.in-Origins.is c.tell_origins.ensures.done
 
 pub returns-in-Job-clause-failed : goal.returns-in-Job-clause-failed
 returns-in-Job-clause-failed g c = failed_as c.args.asked.now (askeds.Job c.in-Job.job) _ _ _ c.in-Job.is (not_told _)

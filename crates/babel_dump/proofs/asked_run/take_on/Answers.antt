@@ -7,13 +7,13 @@ use Rattle.babel_dump.specs.declared.each_sender.EachSender.{EachSender}
 use Rattle.babel_dump.proofs.OriginsTold.{takes_nothing}
 use Rattle.babel_dump.proofs.asked_run.take_on.Goals as goal
 
-pub returns-in-Some : goal.returns-in-Some
-returns-in-Some g c =
+pub returns-in-Some-clause-taken : goal.returns-in-Some-clause-taken
+returns-in-Some-clause-taken g c =
     let is : Some c.in-Some.each.now ≡ capture_on c.args.side c.args.origins.now = sym (ap option_copied c.in-Some.is) ∙ c.on.ensures in
     subst (λ (each : Option EachSender). OnOk c.take_capture.result (TakesOn c.args.origins.now.filter c.args.side each (g.R.Read.remaining c.args.reader)
-    c.args.told.now.originated.all.entries c.take_capture.new.told.originated.all.entries)) is c.take_capture.ensures
+    c.args.told.now.originated.all.entries c.take_capture.new.told.originated.all.entries)) is c.take_capture.ensures.taken
 
-pub returns-in-None : goal.returns-in-None
-returns-in-None g c =
+pub returns-in-None-clause-taken : goal.returns-in-None-clause-taken
+returns-in-None-clause-taken g c =
     let is : None ≡ capture_on c.args.side c.args.origins.now = sym (ap option_copied c.in-None.is) ∙ c.on.ensures in
     takes_nothing c.args.origins.now.filter c.args.side _ (g.R.Read.remaining c.args.reader) c.args.told.now.originated.all.entries is

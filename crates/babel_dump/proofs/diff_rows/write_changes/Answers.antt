@@ -10,15 +10,15 @@ pub returns-in_err-write_row : goal.returns-in_err-write_row
 returns-in_err-write_row g c =
     front_at_err _ _ _ c.from_residual.result c.from_residual.ensures.0
     (broke_at_line _ _ _ _ c.loop-difference.buffer.items _ _ _ c.loop-difference.invariant.took
-    (next_change c.args.style c.args.view c.args.list.now c.loop-difference.difference-index c.difference-item.result (omega arith) c.difference-item.is)
+    (next_change c.args.style.now c.args.coloured c.args.view c.args.list.now c.loop-difference.difference-index c.difference-item.result (omega arith) c.difference-item.is)
     c.in_err-write_row.ensures.front)
 
 pub returns-in_err-write_row-2 : goal.returns-in_err-write_row-2
 returns-in_err-write_row-2 g c =
     let item = c.difference-item.result in
-    let second = marked_row c.args.style c.args.view sides.Other item.key item.right in
-    let later = flat_map (change_text c.args.style c.args.view) (drop (c.loop-difference.difference-index + 1) c.args.list.now) in
-    let rows = next_change c.args.style c.args.view c.args.list.now c.loop-difference.difference-index item (omega arith) c.difference-item.is in
+    let second = marked_row c.args.style.now c.args.coloured c.args.view sides.Other item.key item.right in
+    let later = flat_map (change_text c.args.style.now c.args.coloured c.args.view) (drop (c.loop-difference.difference-index + 1) c.args.list.now) in
+    let rows = next_change c.args.style.now c.args.coloured c.args.view c.args.list.now c.loop-difference.difference-index item (omega arith) c.difference-item.is in
     let took = took_line _ _ _ _ c.loop-difference.buffer.items _ _ _ (second ++ later) c.loop-difference.invariant.took rows c.in_ok-write_row.ensures.front in
     front_at_err _ _ _ c.from_residual-in_err-write_row-2.result c.from_residual-in_err-write_row-2.ensures.0
     (broke_at_line _ _ _ _ _ (second ++ later) second later took refl c.in_err-write_row-2.ensures.front)
@@ -26,9 +26,9 @@ returns-in_err-write_row-2 g c =
 pub loop-difference-preserved : goal.loop-difference-preserved
 loop-difference-preserved g c =
     let item = c.difference-item.result in
-    let second = marked_row c.args.style c.args.view sides.Other item.key item.right in
-    let later = flat_map (change_text c.args.style c.args.view) (drop (c.loop-difference.difference-index + 1) c.args.list.now) in
-    let rows = next_change c.args.style c.args.view c.args.list.now c.loop-difference.difference-index item (omega arith) c.difference-item.is in
+    let second = marked_row c.args.style.now c.args.coloured c.args.view sides.Other item.key item.right in
+    let later = flat_map (change_text c.args.style.now c.args.coloured c.args.view) (drop (c.loop-difference.difference-index + 1) c.args.list.now) in
+    let rows = next_change c.args.style.now c.args.coloured c.args.view c.args.list.now c.loop-difference.difference-index item (omega arith) c.difference-item.is in
     let took = took_line _ _ _ _ c.loop-difference.buffer.items _ _ _ (second ++ later) c.loop-difference.invariant.took rows c.in_ok-write_row.ensures.front in
     record {
       took = took_line _ _ _ _ _ _ (second ++ later) second later took refl c.in_ok-write_row-2.ensures.front;

@@ -9,4 +9,4 @@ returns-in_err-make_room-clause-front g c =
 
 pub returns-clause-front : goal.returns-clause-front
 returns-clause-front g c =
-    took_row _ _ c.args.buffer.now.items _ (marked_row c.args.style c.args.view c.args.side c.args.key c.args.held) _ c.in_ok-make_room.ensures.front c.push_row.ensures.text
+    took_row _ _ c.args.buffer.now.items _ (marked_row c.args.style.now c.args.coloured c.args.view c.args.side c.args.key c.args.held) _ c.in_ok-make_room.ensures.front c.push_row.ensures.text

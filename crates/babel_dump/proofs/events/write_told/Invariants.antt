@@ -9,5 +9,5 @@ abbrev pub invariant-loop-telling : goal.invariant-loop-telling
 invariant-loop-telling g l = record {
   took : Took (output (g.W.ByteOut.state l.initial.writer) (g.W.ByteOut.state l.writer)) (flat_map (named_event l.events l.gathered) l.told)
       (l.buffer.items ++ flat_map (named_event l.events l.gathered) (drop l.telling-index l.told));
-  room : 512 ≤ vec_capacity l.buffer;
+  room : 2048 ≤ vec_capacity l.buffer;
 }

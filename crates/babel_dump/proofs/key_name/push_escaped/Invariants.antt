@@ -1,6 +1,6 @@
 -- What was appended, and the text of the octets that are left, are all of it.
 use Rattle.std.proofs.Common.{◌≡◌, ◌++◌, drop}
-use Rattle.babel_dump.specs.CaptureText.{escaped}
+use Rattle.babel_dump.specs.NameText.{escaped}
 use Rattle.babel_dump.proofs.key_name.push_escaped.Given as goal
 
 abbrev pub invariant-loop-octet : goal.invariant-loop-octet

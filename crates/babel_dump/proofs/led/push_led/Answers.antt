@@ -8,8 +8,8 @@ unfolding led
 loop-octet-preserved c =
     let lines = c.args.lines.now in
     let i = c.loop-octet.octet-index in
-    let more = at_drop_more (led c.args.format c.args.lead.now c.loop-octet.is_first) lines i 0 c.loop-octet-test.true in
-    let left = led c.args.format c.args.lead.now (nat_eq (slice_index_or lines i 0) 10) (drop (i + 1) lines) in
+    let more = at_drop_more (led c.args.format.now c.args.lead.now c.loop-octet.is_first) lines i 0 c.loop-octet-test.true in
+    let left = led c.args.format.now c.args.lead.now (nat_eq (slice_index_or lines i 0) 10) (drop (i + 1) lines) in
     record {
       text = ap (λ (t : List ℕ). t ++ left) c.in_ok-push_led_octet.ensures ∙ append_assoc c.loop-octet.text.items _ left ∙ ap (λ (l : List ℕ). c.loop-octet.text.items ++ l) (sym more)
           ∙ c.loop-octet.invariant.text;
@@ -19,5 +19,6 @@ pub returns : goal.returns
 unfolding led
 returns c =
     let text = c.loop-octet.text.items in
-    sym (append-nil text) ∙ ap (λ (left : List ℕ). text ++ led c.args.format c.args.lead.now c.loop-octet.is_first left) (sym (drop_all c.loop-octet.octet-index c.args.lines.now c.loop-octet-test.false))
+    let lead = c.args.lead.now in
+    sym (append-nil text) ∙ ap (λ (left : List ℕ). text ++ led c.args.format.now lead c.loop-octet.is_first left) (sym (drop_all c.loop-octet.octet-index c.args.lines.now c.loop-octet-test.false))
     ∙ c.loop-octet.invariant.text

@@ -13,4 +13,4 @@ returns-in-Json-clause-text c =
     let text = sender_end c.args.origin.place c.args.tally in
     appended before _ _ _ _ c.push_text.ensures.text c.push_sender_end_json.ensures.text
     ∙ ap (λ (t : List ℕ). before ++ (t ++ end)) c.closing.ensures.text
-    ∙ ap (λ (t : List ℕ). before ++ (closing c.args.format c.args.name.now ++ t)) (sym (ap (λ (f : Format). in_format f text end) c.in-Json.is))
+    ∙ ap (λ (t : List ℕ). before ++ (closing c.args.format.now c.args.name.now ++ t)) (sym (ap (λ (f : Format). in_format f text end) c.in-Json.is))

@@ -6,6 +6,6 @@ returns-clause-text c =
     let before = c.args.buffer.now.items in
     let when = rw c.time_of.ensures at (rw c.new.ensures at c.push_time_json.ensures.text) in
     let time = appended before _ _ _ _ c.push_text.ensures.text when in
-    let sender = rw c.speaker_of-speaker.ensures at c.push_addr.ensures.text in
+    let sender = rw c.speaker_of-speaker.ensures at c.push_sender_json.ensures.text in
     let address = appended before _ _ _ _ (appended before _ _ _ _ time c.push_text-2.ensures.text) sender in
     appended before _ _ _ _ address (rw c.speaker_of-speaker.ensures at c.push_place_json.ensures.text)

@@ -5,4 +5,4 @@ pub returns-clause-text : goal.returns-clause-text
 returns-clause-text c =
     let before = c.args.buffer.now.items in
     let address = appended before _ _ _ _ c.push_text.ensures.text c.push_addr.ensures.text in
-    appended before _ _ _ _ address c.push_place_json.ensures.text
+    appended before _ _ _ _ (appended before _ _ _ _ address c.push_text-2.ensures.text) c.push_place_json.ensures.text

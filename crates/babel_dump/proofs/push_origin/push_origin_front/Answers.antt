@@ -6,5 +6,5 @@ returns-clause-text c =
     let before = c.args.buffer.now.items in
     let prefixes = rw (c.dst.ensures.value, c.src.ensures.value) at c.push_addressed.ensures.text in
     let addressed = appended before _ _ _ _ c.push_text.ensures.text prefixes in
-    let id = appended before _ _ _ _ (appended before _ _ _ _ addressed c.push_text-2.ensures.text) c.push_router_id.ensures.text in
+    let id = appended before _ _ _ _ (appended before _ _ _ _ addressed c.push_text-2.ensures.text) c.push_kept_id.ensures.text in
     appended before _ _ _ _ id c.push_text-3.ensures.text

@@ -11,11 +11,12 @@ pub returns-in-Route-clause-text : goal.returns-in-Route-clause-text
 returns-in-Route-clause-text c =
     let old = c.args.buffer.now.items in
     on old _ _ _ _ c.push_key_json.ensures.text c.push_text-in-Route.ensures.text
-    ∙ ap (λ (r : Request). old ++ request_json c.args.spelling r) (sym c.in-Route.is)
+    ∙ ap (λ (r : Request). old ++ request_json c.args.style.now r) (sym c.in-Route.is)
 
 pub returns-in-Seqno-clause-text : goal.returns-in-Seqno-clause-text
 returns-in-Seqno-clause-text c =
     let old = c.args.buffer.now.items in
-    on old _ _ _ _ (on old _ _ _ _ (on old _ _ _ _ (on old _ _ _ _ c.push_key_json-in-Seqno.ensures.text c.push_text-in-Seqno.ensures.text) c.push_router_id.ensures.text)
-    c.push_text-in-Seqno-2.ensures.text) c.push_decimal.ensures.text
-    ∙ ap (λ (r : Request). old ++ request_json c.args.spelling r) (sym c.in-Seqno.is)
+    let front = on old _ _ _ _ c.push_key_json-in-Seqno.ensures.text c.push_text-in-Seqno.ensures.text in
+    let id = on old _ _ _ _ front c.push_kept_id.ensures.text in
+    on old _ _ _ _ (on old _ _ _ _ id c.push_text-in-Seqno-2.ensures.text) c.push_decimal.ensures.text
+    ∙ ap (λ (r : Request). old ++ request_json c.args.style.now r) (sym c.in-Seqno.is)

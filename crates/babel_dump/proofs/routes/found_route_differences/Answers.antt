@@ -21,6 +21,6 @@ returns-clause-ok c =
     c.differences_status.ensures ∙ ap differences_status count ∙ ap (λ (l : List Difference). differences_status (length l)) listed.2 ∙ listed_status c.args.listed listed.0 in record {
       differences = listed.0;
       are_differences = listed.1;
-      text_is = c.rows.ensures.text ∙ c.in_ok-rows.ensures ∙ ap (listing_in c.args.format c.args.view c.args.listed) listed.2;
+      text_is = c.rows.ensures.text c.args.format.now ∙ c.in_ok-rows.ensures ∙ ap (listing_in c.args.format.now c.args.view c.args.listed) listed.2;
       outcome_is = rw (c.rows.ensures.outcome, ← status) c.outcome-outcome.ensures;
     }

@@ -9,5 +9,5 @@ abbrev pub invariant-loop-note : goal.invariant-loop-note
 invariant-loop-note g l = record {
   took : Took (output (g.W.ByteOut.state l.initial.writer) (g.W.ByteOut.state l.writer)) (flat_map (note_of_sender l.spelling l.origin l.name) l.notes)
       (flat_map (note_of_sender l.spelling l.origin l.name) (drop l.note-index l.notes));
-  room : 1600 ≤ vec_capacity l.line;
+  room : 2048 ≤ vec_capacity l.line;
 }

@@ -9,9 +9,9 @@ use Rattle.babel_dump.proofs.show.found_rows.Goals as goal
 pub returns-then-summary : goal.returns-then-summary
 returns-then-summary c =
     let table = c.args.table in
-    let format = c.args.format in
+    let format = c.args.format.now in
     let quiet = c.args.quiet in
-    told _ table.report 0 _ _ _ c.text.result c.text.ensures.text c.text.ensures.outcome
+    told _ table.report 0 _ _ _ format c.text.result (c.text.ensures.text format) c.text.ensures.outcome
     (c.in_ok-text.ensures ∙ ap (λ (s : Summary). summary_in format quiet s c.report-then-summary.result.now) c.in_ok-summary.ensures
     ∙ ap (λ (r : Counts). summary_in format quiet (summary_of (kept_rows c.args.filter table.rows)) r) c.report-then-summary.ensures
     ∙ sym (ap (λ (b : Bool). shown_in format c.args.filter b quiet table) c.if-summary.true))

@@ -1,5 +1,5 @@
 use Rattle.std.proofs.Common.{arith}
-use Rattle.babel_dump.specs.CaptureText.{octet_text}
+use Rattle.babel_dump.specs.NameText.{octet_text}
 use Rattle.babel_dump.proofs.SliceLaws.{broke_on, front_at_err, pushed_at, took_more}
 use Rattle.babel_dump.proofs.slices.write_name.Goals as goal
 

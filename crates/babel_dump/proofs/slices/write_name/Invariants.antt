@@ -1,6 +1,6 @@
 -- The octets so far were written but for those that the buffer has.
 use Rattle.std.proofs.Common.{◌≤◌, ◌++◌, drop, vec_capacity}
-use Rattle.babel_dump.specs.CaptureText.{escaped}
+use Rattle.babel_dump.specs.NameText.{escaped}
 use Rattle.babel_dump.specs.Run.{output}
 use Rattle.babel_dump.specs.Slices.{Took}
 use Rattle.babel_dump.proofs.slices.write_name.Given as goal

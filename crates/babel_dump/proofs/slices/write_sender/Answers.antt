@@ -9,16 +9,16 @@ returns-in_err-make_room-clause-front g c =
 pub returns-in_err-write_name-clause-front : goal.returns-in_err-write_name-clause-front
 returns-in_err-write_name-clause-front g c =
     front_at_err _ _ _ c.from_residual-in_err-write_name.result c.from_residual-in_err-write_name.ensures.0
-    (broke_in_middle _ _ _ _ _ _ _ _ (line_parts c.args.format c.args.name.now c.args.origin.now c.args.tally.now) _ _ c.in_ok-make_room.ensures.front c.push_to_name.ensures.text
+    (broke_in_middle _ _ _ _ _ _ _ _ (line_parts c.args.format.now c.args.name.now c.args.origin.now c.args.tally.now) _ _ c.in_ok-make_room.ensures.front c.push_to_name.ensures.text
     c.in_err-write_name.ensures.front)
 
 pub returns-in_err-make_room-2-clause-front : goal.returns-in_err-make_room-2-clause-front
 returns-in_err-make_room-2-clause-front g c =
     front_at_err _ _ _ c.from_residual-in_err-make_room-2.result c.from_residual-in_err-make_room-2.ensures.0
-    (broke_before_end _ _ _ _ _ _ _ _ (line_parts c.args.format c.args.name.now c.args.origin.now c.args.tally.now) _ _ c.in_ok-make_room.ensures.front c.push_to_name.ensures.text
+    (broke_before_end _ _ _ _ _ _ _ _ (line_parts c.args.format.now c.args.name.now c.args.origin.now c.args.tally.now) _ _ c.in_ok-make_room.ensures.front c.push_to_name.ensures.text
     _ c.in_ok-write_name.ensures.front _ c.in_err-make_room-2.ensures.front)
 
 pub returns-clause-front : goal.returns-clause-front
 returns-clause-front g c =
-    took_whole _ _ _ _ _ _ _ _ (line_parts c.args.format c.args.name.now c.args.origin.now c.args.tally.now) _ _ c.in_ok-make_room.ensures.front c.push_to_name.ensures.text
+    took_whole _ _ _ _ _ _ _ _ (line_parts c.args.format.now c.args.name.now c.args.origin.now c.args.tally.now) _ _ c.in_ok-make_room.ensures.front c.push_to_name.ensures.text
     _ c.in_ok-write_name.ensures.front _ _ _ c.in_ok-make_room-2.ensures.front c.push_after_name.ensures.text

@@ -9,5 +9,5 @@ abbrev pub invariant-loop-origin : goal.invariant-loop-origin
 invariant-loop-origin g l = record {
   took : Took (output (g.W.ByteOut.state l.initial.writer) (g.W.ByteOut.state l.writer)) (senders_in l.format l.gathered)
       (l.buffer.items ++ flat_map (named_in l.format l.gathered) l.origin-iterator);
-  room : 512 ≤ vec_capacity l.buffer;
+  room : 2048 ≤ vec_capacity l.buffer;
 }

@@ -11,5 +11,5 @@ abbrev pub invariant-loop-key : goal.invariant-loop-key
 invariant-loop-key g l = record {
   took : Took (output (g.W.ByteOut.state l.initial.writer) (g.W.ByteOut.state l.writer)) (pairs_in l.format l.view (kept_rows l.filter l.table.rows))
       (l.buffer.items ++ pairs_in l.format l.view (kept_rows l.filter (rows_left l.key-iterator)));
-  room : 512 ≤ vec_capacity l.buffer;
+  room : 2048 ≤ vec_capacity l.buffer;
 }

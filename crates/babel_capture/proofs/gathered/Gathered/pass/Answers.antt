@@ -9,9 +9,9 @@ use Rattle.babel_capture.specs.Findings.{Finds, passed}
 use Rattle.babel_capture.specs.Gathering.{Gathering}
 use Rattle.babel_capture.specs.Sight.{Sight}
 use Rattle.babel_capture.specs.Sinking.{GatherMore, IsTold, Sinks}
-use Rattle.babel_capture.specs.Times.{Came, kept}
+use Rattle.babel_capture.specs.Times.{Came, kept, time_of}
 use Rattle.babel_capture.specs.contracts.gathered.Gathered.{the_view}
-use Rattle.babel_capture.proofs.GatherLaws.{gathered-push, made_of}
+use Rattle.babel_capture.proofs.GatherLaws.{gathered-push, made_of, passed-listed}
 use Rattle.babel_capture.proofs.SinkLaws.{sinks-told}
 use Rattle.babel_capture.proofs.gathered.Gathered.pass.Goals as goal
 
@@ -43,4 +43,4 @@ returns-clause-passed g c at =
     let finds : Finds old.wanted next.what passed = subst (λ (s : Sight). Finds old.wanted s passed) is_other refl in
     subst (λ (v : Gathering). Sinks g.S.Sink.has c.args.sink.now c.take.new.self (GatherMore v new (sighting_of (v.report.packets + 1) at packet ∷ []))) c.self.view_is
     (sinks-told g.S.Sink.has c.args.sink.now c.take.new.self (GatherMore old new (next ∷ [])) telling (made_of next passed) told c.take.ensures
-    (gathered-push next old new passed refl report refl (λ few. few) tt refl finds))
+    (gathered-push next old new passed refl report (passed-listed old.wanted.are_listed old.senders (time_of next.came)) (λ few. few) tt refl finds))

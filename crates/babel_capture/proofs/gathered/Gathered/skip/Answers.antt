@@ -9,7 +9,7 @@ use Rattle.babel_capture.specs.Findings.{passed}
 use Rattle.babel_capture.specs.Gathering.{Gathering}
 use Rattle.babel_capture.specs.Sinking.{GatherMore, IsTold, Sinks}
 use Rattle.babel_capture.specs.contracts.gathered.Gathered.{the_view}
-use Rattle.babel_capture.proofs.GatherLaws.{gathered-push, made_of}
+use Rattle.babel_capture.proofs.GatherLaws.{gathered-push, made_of, passed-listed}
 use Rattle.babel_capture.proofs.SinkLaws.{sinks-told}
 use Rattle.babel_capture.proofs.gathered.Gathered.skip.Goals as goal
 
@@ -36,4 +36,4 @@ returns-clause-skipped g c at =
     } in
     subst (λ (v : Gathering). Sinks g.S.Sink.has c.args.sink.now c.take.new.self (GatherMore v new (skipped_of (v.report.packets + 1) at packet ∷ []))) c.self.view_is
     (sinks-told g.S.Sink.has c.args.sink.now c.take.new.self (GatherMore old new (next ∷ [])) telling (made_of next passed) told c.take.ensures
-    (gathered-push next old new passed refl c.count_skipped.ensures refl (λ few. few) tt refl refl))
+    (gathered-push next old new passed refl c.count_skipped.ensures (passed-listed old.wanted.are_listed old.senders None) (λ few. few) tt refl refl))

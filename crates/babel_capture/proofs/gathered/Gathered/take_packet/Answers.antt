@@ -9,7 +9,7 @@ use Rattle.babel_capture.specs.Gathering.{BlockNeedsMemory, Gathering, IsRefused
 use Rattle.babel_capture.specs.Sight.{Sight}
 use Rattle.babel_capture.specs.declared.sink.Record.{Record}
 use Rattle.babel_capture.specs.Sinking.{GatherMore, IsTold, Sinks}
-use Rattle.babel_capture.specs.Tallies.{senders_with}
+use Rattle.babel_capture.specs.Tallies.{listed_with}
 use Rattle.babel_capture.specs.Times.{Came, kept, time_in}
 use Rattle.babel_capture.specs.contracts.gathered.Gathered.{the_view}
 use Rattle.babel_capture.proofs.GatherLaws.{counted-one, finding-taken, gathered-push, made_of}
@@ -67,7 +67,7 @@ returns-clause-ok g c =
     ap (λ (t : Option ℕ). kept t c.babel_section-section.result) c.time-came.ensures
     ∙ ap (kept (time_in packet.moment)) (c.babel_section-section.ensures ∙ ap (section_with packet.section) c.look-seen.ensures) in
     let report = c.count.ensures ∙ ap (λ (k : Came). counted (counted_at old.report k) packet.link what) came in
-    let senders = c.in_ok-interval.ensures.ok ∙ ap (λ (t : Option ℕ). senders_with old.senders t what) c.time-came.ensures in
+    let senders = c.in_ok-interval.ensures.ok ∙ ap (λ (t : Option ℕ). listed_with old.wanted.are_listed old.senders t what) c.time-came.ensures in
     let telling : Record = record { number = c.packets.result; time = time; said = c.said.result } in
     let told : IsTold (made_of next what) telling = record {
       number = c.packets.ensures ∙ ap (λ r. r.packets) report ∙ counted-one (counted_at old.report next.came) packet.link what;

@@ -9,7 +9,7 @@ invariant-reads g l = record {
   followed : IsFollowedSoFar l.events (g.R.ByteIn.state l.initial.reader) (g.R.ByteIn.state l.reader) (output (g.W.ByteOut.state l.initial.writer) (g.W.ByteOut.state l.writer)) l.counter l.self;
   told : l.self.follower.told.items ≡ [];
   empty : l.self.buffer.items ≡ [];
-  room : 512 ≤ vec_capacity l.self.buffer;
+  room : 2048 ≤ vec_capacity l.self.buffer;
   no_failure : (g.R.ByteIn.state l.reader).failures ≡ (g.R.ByteIn.state l.initial.reader).failures;
   no_end : (g.R.ByteIn.state l.reader).ends ≡ (g.R.ByteIn.state l.initial.reader).ends;
   reads : (g.R.ByteIn.state l.reader).reads ≡ (g.R.ByteIn.state l.initial.reader).reads + l.counter;

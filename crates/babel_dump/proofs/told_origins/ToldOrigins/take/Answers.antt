@@ -24,8 +24,8 @@ loop-origin-preserved c =
     c.in_ok-table.ensures.own
     (subst (λ (o : Originated). TakesMore captured.side (kept_rows c.args.filter.now own.rows) o.all.entries after) c.in_ok-table.ensures.same c.in_ok-take.ensures)
 
-pub returns : goal.returns
-returns c =
+pub returns-clause-taken : goal.returns-clause-taken
+returns-clause-taken c =
     let captured = c.args.captured.now in
     taking_all c.args.filter.now captured.side captured.each.now captured.read.now c.args.tables.entries c.args.self.now.originated.all.entries c.loop-origin.origin-iterator _
     c.in-None.ensures.steps.0 c.loop-origin.invariant

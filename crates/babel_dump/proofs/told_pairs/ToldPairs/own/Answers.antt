@@ -16,11 +16,11 @@ returns-in-Ok-clause-own c =
     let each = c.args.captured.now.each.now in
     subst (λ (own : Result Routes InputFault). (made : List Made) → AreWhole (packets_made made)
     → IsFedOwn each c.args.origin (own_packets c.args.origin made) (first_missed c.args.origin made) c.args.table
-    → IsOwnRead each (heard_in c.args.captured.now.read.now made) c.args.origin (result_ok own)) c.in-Ok.is c.in_ok-own.ensures
+    → IsOwnRead each (heard_in c.args.captured.now.read.now made) c.args.origin (result_ok own)) c.in-Ok.is c.in_ok-own.ensures.own
 
 pub returns-in_ok-push-in-Err-clause-own : goal.returns-in_ok-push-in-Err-clause-own
 returns-in_ok-push-in-Err-clause-own c =
     let each = c.args.captured.now.each.now in
     subst (λ (own : Result Routes InputFault). (made : List Made) → AreWhole (packets_made made)
     → IsFedOwn each c.args.origin (own_packets c.args.origin made) (first_missed c.args.origin made) c.args.table
-    → IsOwnRead each (heard_in c.args.captured.now.read.now made) c.args.origin (result_ok own)) c.in-Err.is c.in_ok-own.ensures
+    → IsOwnRead each (heard_in c.args.captured.now.read.now made) c.args.origin (result_ok own)) c.in-Err.is c.in_ok-own.ensures.own

@@ -1,0 +1,6 @@
+pub mod HearingLaws
+pub mod HeardLaws
+pub mod LinkLaws
+pub mod SourceLaws
+pub mod SelectionLaws
+pub mod ToldLaws

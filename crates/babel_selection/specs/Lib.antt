@@ -1,0 +1,9 @@
+pub mod Seqnos
+pub mod Links
+pub mod Hearing
+pub mod HeardLinks
+pub mod LinkPairs
+pub mod Distances
+pub mod Announcing
+pub mod Selection
+pub mod ToldKeys
