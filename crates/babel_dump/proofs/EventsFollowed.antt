@@ -21,7 +21,7 @@ use Rattle.babel_timeline.specs.SilencesTold.{TellsSilences, hellos_heard, watch
 use Rattle.babel_timeline.specs.Telling.{AskedFor, Hears, TellsEnds, of_rows, said_of}
 use Rattle.babel_timeline.specs.Hearing.{CountsPacket}
 use Rattle.babel_dump.specs.EventsRun.{asked_by, followed_by, followed_extent, speaker_at}
-use Rattle.babel_dump.specs.Followed.{HasHeard, HasHeardFollowed, HearsPacket, IsFollowed, Suits}
+use Rattle.babel_dump.specs.Followed.{HasHeard, HasHeardFollowed, HearsPacket, IsFollowed, KnowsOthers, Suits}
 use Rattle.babel_dump.specs.Speakers.{speaker_cmp}
 use Rattle.babel_dump.specs.declared.events.Followed.{Followed}
 use Rattle.babel_dump.specs.declared.events_job.Events.{Events}
@@ -100,9 +100,9 @@ module _ (cmp : Speaker → Speaker → Ordering) (order : cmp ≡ speaker_cmp) 
 -- nothing was read
 pub followed_none : (events : Events) (followed : Followed) → HasRead followed.capture [] → followed.capture.limit ≡ followed_extent events
     → followed.capture.progress.gathering.wanted ≡ followed_by events → followed.capture.fault ≡ None → followed.follower.events.now ≡ events
-    → followed.follower.senders.senders.entries ≡ [] → HasHeard events [] [] followed.follower.hearing
+    → followed.follower.senders.senders.entries ≡ [] → HasHeard events [] [] followed.follower.hearing → KnowsOthers events [] followed.follower.other_sources
     → followed.follower.told.items ≡ [] → followed.follower.fault ≡ None → IsFollowed events [] [] followed
-followed_none events followed read limit wanted fault events_are nobody heard told sound =
+followed_none events followed read limit wanted fault events_are nobody heard others told sound =
     let taken : HasTaken followed.capture.limit followed.capture.progress followed.capture.pending [] = subst (λ (f : Option Fault). HasReadTo followed.capture f []) fault read in
     let begun = subst (λ (e : Extent). HasTaken e followed.capture.progress followed.capture.pending []) limit taken in
     let none : begun.leads.gathered.made ≡ [] = unread _ followed.capture.progress followed.capture.pending begun in
@@ -114,5 +114,5 @@ followed_none events followed read limit wanted fault events_are nobody heard to
       events_are = events_are;
       sound = sound;
       has_heard = subst (λ (m : List Made). HasHeardFollowed events m [] followed.follower) (sym none)
-          (nobody, subst (λ (t : List (Telling Speaker)). HasHeard events [] t followed.follower.hearing) (sym told) heard);
+          (nobody, subst (λ (t : List (Telling Speaker)). HasHeard events [] t followed.follower.hearing) (sym told) heard, others);
     }

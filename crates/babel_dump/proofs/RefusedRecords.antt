@@ -1,6 +1,6 @@
 -- Why no more is heard than a record, from what a teller refuses of it.
 use Rattle.std.proofs.Common.{◌≡◌, ◌≢◌, ℕ, ◌∷◌, Bool, List, [], ◌++◌, inl, inr, Option, None, Some, refl, sym, ap, subst, ◌∙◌, true, false, take, drop, append_assoc}
-use Rattle.std.specs.Prelude.{if◌then◌else◌}
+use Rattle.std.specs.Prelude.{Err, IfErr, Ok, Result, if◌then◌else◌}
 use Rattle.std.specs.declared.cmp.Ordering.{Ordering}
 use Rattle.babel_capture.specs.Counts.{Made}
 use Rattle.babel_capture.specs.Findings.{octets_found, passed}
@@ -19,9 +19,9 @@ use Rattle.babel_timeline.specs.Rows.{Rows}
 use Rattle.babel_timeline.specs.Telling.{AskedFor, TellsEnds, of_rows}
 use Rattle.babel_timeline.specs.declared.teller.Teller.{Teller}
 use Rattle.babel_timeline.specs.declared.telling.Telling.{Telling}
-use Rattle.babel_dump.specs.EventsCause.{IsPartOf, IsRefused, RefusesAlone, RefusesHeard, RefusesPart, octets_in, start_of}
+use Rattle.babel_dump.specs.EventsCause.{IsPartOf, IsRefused, RefusesAlone, RefusesHeard, RefusesPart, octets_in, start_of, without_pair}
 use Rattle.babel_dump.specs.EventsRun.{HaveTold, asked_by, speaker_at, told_in}
-use Rattle.babel_dump.specs.Followed.{Follows, HasHeard, HasHeardFollowed, HasStopped, IsFrom, IsHeardOf, IsOf, RefusesFront, RefusesPacketRead, RefusesSaid, RefusesTeller, RefusesTold, RefusesUnheard, RefusesUsually, Stops, StopsFollowed, Suits, octets_before, trouble_of}
+use Rattle.babel_dump.specs.Followed.{Follows, HasHeard, HasHeardFollowed, HasHeardOthers, HasStopped, IsHeardOf, KnowsOthers, RefusesOthers, RefusesFront, RefusesPacketRead, RefusesSaid, RefusesTeller, RefusesTold, RefusesUnheard, RefusesUsually, Stops, StopsFollowed, Suits, octets_before, trouble_of}
 use Rattle.babel_dump.specs.FollowedSenders.{followed, followed_of, is_followed, sender_of, senders_followed}
 use Rattle.babel_dump.specs.Speakers.{speaker_cmp}
 use Rattle.babel_dump.specs.StrictPackets.{IsFirstOf, IsReadTo, fault_of}
@@ -33,6 +33,7 @@ use Rattle.babel_dump.specs.declared.ignored.IgnoredTlv.{IgnoredTlv}
 use Rattle.babel_dump.specs.declared.input_fault.InputFault.{InputFault}
 use Rattle.babel_dump.specs.declared.input_fault.InputFault.TheVariants as input_faults
 use Rattle.babel_dump.specs.declared.left_out.LeftOutDatagram.{LeftOutDatagram}
+use Rattle.babel_dump.specs.declared.other_sources.OtherSources.{OtherSources}
 use Rattle.babel_dump.specs.declared.speaker.Speaker.{Speaker}
 use Rattle.babel_dump.specs.declared.stop.Stop.{Stop}
 use Rattle.babel_dump.specs.declared.stop.Stop.TheVariants as stops
@@ -144,17 +145,6 @@ module _ (events : Events) (told : Record) (packet : BabelPacket) (old : Followe
     inr (subst (λ (n : ℕ). RefusesAlone (start_of events packet.origin) n packet.octets.now fault) here (subst (λ (s : Start). RefusesAlone s at packet.octets.now fault) begins alone)),
   )
 
--- whose packet it is
-pub is_of : (origin : Origin) (why : Unheard) (fault : Fault) → (fault ≡ faults.Memory → why ≡ unheard.Memory) → (fault ≢ faults.Memory → why ≡ unheard.Sender origin fault) → IsOf origin why
-is_of origin unheard.Memory fault memory sender = tt
-is_of origin (unheard.Sender of other) fault memory sender =
-    let not_memory : fault ≢ faults.Memory = λ is. absurd (let bad : unheard.Sender of other ≡ unheard.Memory = memory is in cc) in
-    subst (IsOf origin) (sym (sender not_memory)) refl
-
-pub is_from : (told : Record) (packet : BabelPacket) → packet_said told.said ≡ Some packet → (why : Unheard) → IsOf packet.origin why → IsFrom told why
-is_from told packet is unheard.Memory of = tt
-is_from told packet is (unheard.Sender origin fault) of = (packet, is, sym of)
-
 -- why no more is heard, whether it is read strictly or not
 pub stops_by : (events : Events) (told : Record) (old mid : Follower) (stop : Stop) → RefusesTold events told old mid stop → (events.strict ≡ false → RefusesUsually events told old stop)
     → Stops events told old mid stop
@@ -164,9 +154,15 @@ stops_by events told old mid stop refuses usually = by events.strict refl
     by true is = inl (is, refuses)
     by false is = inr (inl (usually is))
 
-pub stops_others : (events : Events) (told : Record) (old mid : Follower) → events.is_any_source ≡ true → (why : Unheard) → IsFrom told why → (stop : Stop) → stop ≡ stops.Unheard why
+pub stops_others : (events : Events) (told : Record) (old mid : Follower) (why : Unheard) → RefusesOthers events told old.other_sources why → (stop : Stop) → stop ≡ stops.Unheard why
     → Stops events told old mid stop
-stops_others events told old mid any why from stop is = inr (inr (any, (why, is, from)))
+stops_others events told old mid why refuses stop is = inr (inr (why, is, refuses))
+
+-- the clause of other sources, of those that are there
+pub refuses_others : (events : Events) (told : Record) (old : Option OtherSources) (others : OtherSources) (result : Result (Unit {0}) Unheard) → old ≡ Some others
+    → (Suits (without_pair events) others.teller → IfErr result (RefusesUnheard (without_pair events) told others.teller)) → IfErr result (RefusesOthers events told old)
+refuses_others events told old others (Ok unit) is refused = tt
+refuses_others events told old others (Err fault) is refused = (others, is, refused)
 
 -- as it is heard, whether it is read strictly or not
 pub told_unheard : (events : Events) (told : Record) (old new : Follower) (why : Unheard) → (Suits events old.hearing.teller → RefusesUnheard events told old.hearing.teller why) → (stop : Stop)
@@ -183,29 +179,39 @@ usually_unheard events told old why refuses stop is = subst (RefusesUsually even
 
 -- ---- what is told of it
 
-module _ (events : Events) (made : List Made) (one : Made) (told : Record) (is : IsTold one told) (old : Follower) (written : List (Telling Speaker)) (was : HasHeard events made written old.hearing) where
+module _ (events : Events) (made : List Made) (one : Made) (told : Record) (is : IsTold one told) (teller : Teller Speaker) (before : List (Telling Speaker))
+    (have : HaveTold events None made before teller.timeline.rows) (heard : (speaker : Speaker) → IsHeardOf events made teller.heard.entries speaker) where
+  refused_so : (from : Record) (origin : Origin) (fault : Fault) (said : RefusesSaid events from teller origin fault) → from.time ≡ told.time
+      → IsPartOf events origin (octets_in origin made) (octets_found one.what) said.packet.octets.now → RefusesHeard events made one origin fault
+  refused_so from origin fault said time is_part = record {
+    came = said.came;
+    timed = sym is.time ∙ sym time ∙ said.timed;
+    told = before ++ said.ended;
+    rows = said.rows;
+    have_told = told_until events made said.came teller.timeline.rows said.rows before said.ended said.ends have;
+    report = report_of speaker_cmp teller.heard.entries (speaker_at origin);
+    is_report = (heard (speaker_at origin)).report;
+    part = said.packet.octets.now;
+    is_part = is_part;
+    refuses = subst (λ (n : ℕ). RefusesPart events origin said.came said.packet.octets.now said.rows n (report_of speaker_cmp teller.heard.entries (speaker_at origin)).tlvs fault)
+        (heard (speaker_at origin)).octets said.refuses;
+  }
+
+module _ (events : Events) (made : List Made) (one : Made) (told : Record) (is : IsTold one told) (old : Follower) (written : List (Telling Speaker)) (was : HasHeard events made written old.hearing)
+    (others_too : KnowsOthers events made old.other_sources) where
+  heard_of : (speaker : Speaker) → IsHeardOf events made old.hearing.teller.heard.entries speaker
+  heard_of speaker = subst (λ (m : List Made). IsHeardOf events m old.hearing.teller.heard.entries speaker) was.are_made (was.heard speaker)
+
   heard_now : (origin : Origin) → IsHeardOf events made old.hearing.teller.heard.entries (speaker_at origin)
-  heard_now origin = subst (λ (m : List Made). IsHeardOf events m old.hearing.teller.heard.entries (speaker_at origin)) was.are_made (was.heard (speaker_at origin))
+  heard_now origin = heard_of (speaker_at origin)
 
   its_packet : (packet : BabelPacket) → packet_said told.said ≡ Some packet → IsPacketOf one.what (Some packet)
   its_packet packet said_is = subst (IsPacketOf one.what) said_is is.packet
 
   heard_so : (from : Record) (origin : Origin) (fault : Fault) (said : RefusesSaid events from old.hearing.teller origin fault) → from.time ≡ told.time
       → IsPartOf events origin (octets_in origin made) (octets_found one.what) said.packet.octets.now → RefusesHeard events made one origin fault
-  heard_so from origin fault said time is_part = record {
-    came = said.came;
-    timed = sym is.time ∙ sym time ∙ said.timed;
-    told = told_in was.steps ++ said.ended;
-    rows = said.rows;
-    have_told = told_until events made said.came old.hearing.teller.timeline.rows said.rows (told_in was.steps) said.ended said.ends
-        (subst (λ (m : List Made). HaveTold events None m (told_in was.steps) old.hearing.teller.timeline.rows) was.are_made was.have_told);
-    report = report_of speaker_cmp old.hearing.teller.heard.entries (speaker_at origin);
-    is_report = (heard_now origin).report;
-    part = said.packet.octets.now;
-    is_part = is_part;
-    refuses = subst (λ (n : ℕ). RefusesPart events origin said.came said.packet.octets.now said.rows n (report_of speaker_cmp old.hearing.teller.heard.entries (speaker_at origin)).tlvs fault) (heard_now origin).octets
-        said.refuses;
-  }
+  heard_so = refused_so events made one told is old.hearing.teller (told_in was.steps)
+      (subst (λ (m : List Made). HaveTold events None m (told_in was.steps) old.hearing.teller.timeline.rows) was.are_made was.have_told) heard_of
 
   -- as it is heard
   said_so : (origin : Origin) (fault : Fault) → RefusesSaid events told old.hearing.teller origin fault → IsRefused events made one (trouble_of (stops.Unheard (unheard.Sender origin fault)))
@@ -252,25 +258,35 @@ module _ (events : Events) (made : List Made) (one : Made) (told : Record) (is :
         ((its_packet packet said_is).0 ∙ ap Some same, inl (front_so strict packet said_is origin same fault front ignored to refuses))
     read_so strict packet said_is (same, inr alone) = ((its_packet packet said_is).0 ∙ ap Some same, inr (inl (strict, alone_so strict packet said_is origin same fault alone)))
 
-    of_others : events.is_any_source ≡ true → IsFrom told (unheard.Sender origin fault) → Refused
-    of_others any (packet, said_is, same) = ((its_packet packet said_is).0 ∙ ap Some same, inr (inr any))
+    of_others : (others : OtherSources) → HasHeardOthers events made others → RefusesSaid (without_pair events) told others.teller origin fault → Refused
+    of_others others known said =
+        let found = its_packet said.packet said.said_is in (
+          found.0 ∙ ap Some said.origin_is,
+          inr (inr (known.is_any, refused_so (without_pair events) made one told is others.teller known.told known.have_told known.heard told origin fault said refl (inl (sym found.1)))),
+        )
+
+    others_so : (why : Unheard) → stops.Unheard (unheard.Sender origin fault) ≡ stops.Unheard why → RefusesOthers events told old.other_sources why → Refused
+    others_so why same (others, some, refuses) =
+        let is_why : unheard.Sender origin fault ≡ why = cc in
+        let known : HasHeardOthers events made others = subst (KnowsOthers events made) some others_too in
+        of_others others known (subst (RefusesUnheard (without_pair events) told others.teller) (sym is_why) (refuses known.suits))
 
     packet_so : (mid : Follower) → Stops events told old mid (stops.Unheard (unheard.Sender origin fault)) → Refused
     packet_so mid (inl (strict, by)) = elim (by was.suits) [ inl said ↦ said_so origin fault said | inr read ↦ read_so strict read.0 read.1 read.2 ]
     packet_so mid (inr (inl usually)) = said_so origin fault (usually was.suits)
-    packet_so mid (inr (inr (any, (why, same, from)))) = of_others any (subst (IsFrom told) (let is : why ≡ unheard.Sender origin fault = cc in is) from)
+    packet_so mid (inr (inr (why, same, refuses))) = others_so why same refuses
 
   left_so : (datagram : LeftOutDatagram) (mid : Follower) → Stops events told old mid (stops.LeftOut datagram) → IsRefused events made one (trouble_of (stops.LeftOut datagram))
   left_so datagram mid (inl (strict, (left, number))) = (strict, sym is.left ∙ left, number ∙ is.number)
   left_so datagram mid (inr (inl usually)) = absurd usually
-  left_so datagram mid (inr (inr (any, (why, same, from)))) = absurd (let bad : stops.LeftOut datagram ≡ stops.Unheard why = same in cc)
+  left_so datagram mid (inr (inr (why, same, refuses))) = absurd (let bad : stops.LeftOut datagram ≡ stops.Unheard why = same in cc)
 
   ignored_so : (origin : Origin) (tlv : IgnoredTlv) (ignores_4 : Bool) (mid : Follower) → Stops events told old mid (stops.Ignored origin tlv ignores_4)
       → IsRefused events made one (trouble_of (stops.Ignored origin tlv ignores_4))
   ignored_so origin tlv ignores_4 mid (inl (strict, (packet, front, said_is, same, to, heard))) =
       ((its_packet packet said_is).0 ∙ ap Some same, strict, (front, read_at packet said_is origin front (input_faults.Ignored tlv ignores_4) to))
   ignored_so origin tlv ignores_4 mid (inr (inl usually)) = absurd usually
-  ignored_so origin tlv ignores_4 mid (inr (inr (any, (why, same, from)))) = absurd (let bad : stops.Ignored origin tlv ignores_4 ≡ stops.Unheard why = same in cc)
+  ignored_so origin tlv ignores_4 mid (inr (inr (why, same, refuses))) = absurd (let bad : stops.Ignored origin tlv ignores_4 ≡ stops.Unheard why = same in cc)
 
   pub stops_so : (mid : Follower) (stop : Stop) → Stops events told old mid stop → stop ≢ stops.Unheard unheard.Memory → IsRefused events made one (trouble_of stop)
   stops_so mid (stops.Unheard unheard.Memory) refused not_memory = absurd (not_memory refl)
@@ -281,12 +297,14 @@ module _ (events : Events) (made : List Made) (one : Made) (told : Record) (is :
 -- the record, as far as its sender is followed, is refused behind those before it
 pub stops_followed : (events : Events) (told : Record) (made : List Made) (one : Made) (written : List (Telling Speaker)) (old mid new : Follower) (follows : Bool)
     → follows ≡ is_followed (senders_followed made) (sender_of one.what) → IsTold (if follows then one else record one { what = passed }) told → mid.hearing ≡ old.hearing
-    → HasHeard events (followed made) written old.hearing → (stop : Stop) → Stops events told mid new stop → stop ≢ stops.Unheard unheard.Memory
+    → HasHeard events (followed made) written old.hearing → mid.other_sources ≡ old.other_sources → KnowsOthers events (followed made) old.other_sources → (stop : Stop)
+    → Stops events told mid new stop → stop ≢ stops.Unheard unheard.Memory
     → IsRefused events (followed made) (followed_of (senders_followed made) one) (trouble_of stop)
-stops_followed events told made one written old mid new follows is is_told hearing was stop stops not_memory =
+stops_followed events told made one written old mid new follows is is_told hearing was others others_too stop stops not_memory =
     let here : IsTold (followed_of (senders_followed made) one) told = subst (λ (b : Bool). IsTold (if b then one else record one { what = passed }) told) is is_told in
     let still = subst (HasHeard events (followed made) written) (sym hearing) was in
-    stops_so events (followed made) (followed_of (senders_followed made) one) told here mid written still new stop stops not_memory
+    let still_too = subst (KnowsOthers events (followed made)) (sym others) others_too in
+    stops_so events (followed made) (followed_of (senders_followed made) one) told here mid written still still_too new stop stops not_memory
 
 -- ---- after a record
 

@@ -17,7 +17,7 @@ use Rattle.babel_timeline.specs.declared.telling.Telling.{Telling}
 use Rattle.babel_timeline.specs.Rows.{AllLast, Rows}
 use Rattle.babel_dump.specs.CaptureRun.{IsOutcomeOf}
 use Rattle.babel_dump.specs.EventsRun.{AreReadWhole, HaveTold, Opens, OpensBy, Step, TellsSilent, WroteLines, followed_by, followed_extent, have_come, heard_status, last_time, made_in, moment_read, since_in, told_from, told_in, unlost, written_in}
-use Rattle.babel_dump.specs.Followed.{Ends, EndsAt, EndsBy, Follows, HasHeard, HasHeardFollowed, IsFollowed, Suits, TellsFrom, unlost_by}
+use Rattle.babel_dump.specs.Followed.{Ends, EndsAt, EndsBy, Follows, HasHeard, HasHeardFollowed, IsFollowed, KnowsOthers, Suits, TellsFrom, unlost_by}
 use Rattle.babel_dump.specs.FollowedSenders.{followed, senders_followed, with_packets}
 use Rattle.babel_dump.specs.HeardSenders.{heard_of, heard_told}
 use Rattle.babel_dump.specs.Run.{Output}
@@ -25,6 +25,7 @@ use Rattle.babel_dump.specs.Speakers.{speaker_cmp}
 use Rattle.babel_dump.specs.declared.events.Followed.{Followed}
 use Rattle.babel_dump.specs.declared.events_job.Events.{Events}
 use Rattle.babel_dump.specs.declared.events_outcome.EventsOutcome.{EventsOutcome}
+use Rattle.babel_dump.specs.declared.other_sources.OtherSources.{OtherSources}
 use Rattle.babel_dump.specs.declared.speaker.Speaker.{Speaker}
 use Rattle.babel_dump.specs.declared.followed_senders.FollowedSenders.{FollowedSenders}
 use Rattle.babel_dump.specs.declared.follower.Follower.{Follower}
@@ -55,19 +56,20 @@ follows_none follower = (
 )
 
 -- how far a capture was followed, where this is all that was told
-record IsFollowedBy (events : Events) (fed : List ℕ) (all : Tellings) (capture : State) (senders : FollowedSenders) (hearing : Hearing) : Type 0 where
+record IsFollowedBy (events : Events) (fed : List ℕ) (all : Tellings) (capture : State) (senders : FollowedSenders) (others : Option OtherSources) (hearing : Hearing) : Type 0 where
   read : HasTaken (followed_extent events) capture.progress capture.pending fed
   no_fault : capture.fault ≡ None
   limit : capture.limit ≡ followed_extent events
   wanted : capture.progress.gathering.wanted ≡ followed_by events
   senders_are : senders.senders.entries ≡ senders_followed read.leads.gathered.made
   has_heard : HasHeard events (followed read.leads.gathered.made) all hearing
+  others_too : KnowsOthers events (followed read.leads.gathered.made) others
 
 -- a follower took the records of a piece more, and what they told was written
 module _ (events : Events) (fed piece : List ℕ) (told : Tellings) (old : Followed) (is : IsFollowed events fed told old) (capture : State) (follower : Follower) where
   followed_by_more : capture.limit ≡ old.capture.limit → capture.progress.gathering.wanted ≡ old.capture.progress.gathering.wanted → capture.fault ≡ None
       → Sinks Follows old.follower follower (FeedMore old.capture.progress old.capture.pending capture.progress capture.pending piece) → follower.fault ≡ None
-      → (follower.events.now ≡ events) × IsFollowedBy events (fed ++ piece) (told ++ follower.told.items) capture follower.senders follower.hearing
+      → (follower.events.now ≡ events) × IsFollowedBy events (fed ++ piece) (told ++ follower.told.items) capture follower.senders follower.other_sources follower.hearing
   followed_by_more limit wanted none sinks sound =
       let follows = sinks.took old.follower [] (follows_none old.follower) in
       let read = sinks.are_read (followed_extent events) fed is.read in
@@ -84,22 +86,24 @@ module _ (events : Events) (fed piece : List ℕ) (told : Tellings) (old : Follo
           wanted = wanted ∙ is.wanted;
           senders_are = heard.0;
           has_heard = heard.1;
+          others_too = heard.2;
         },
       )
 
   pub followed_on : (new : Followed) → capture.limit ≡ old.capture.limit → capture.progress.gathering.wanted ≡ old.capture.progress.gathering.wanted → capture.fault ≡ None
       → Sinks Follows old.follower follower (FeedMore old.capture.progress old.capture.pending capture.progress capture.pending piece) → follower.fault ≡ None
       → new.capture ≡ capture → new.follower.events.now ≡ follower.events.now → new.follower.hearing ≡ follower.hearing → new.follower.fault ≡ follower.fault
-      → new.follower.senders ≡ follower.senders → new.follower.told.items ≡ []
+      → new.follower.senders ≡ follower.senders → new.follower.other_sources ≡ follower.other_sources → new.follower.told.items ≡ []
       → IsFollowed events (fed ++ piece) (told ++ follower.told.items) new
-  followed_on new limit wanted none sinks sound same_capture same_events same_hearing same_fault same_senders written =
+  followed_on new limit wanted none sinks sound same_capture same_events same_hearing same_fault same_senders same_others written =
       let all = told ++ follower.told.items in
       let by = followed_by_more limit wanted none sinks sound in
       let whole : all ≡ all ++ new.follower.told.items = sym (append-nil all) ∙ ap (λ (v : Tellings). all ++ v) (sym written) in
-      let now = subst (λ (v : Tellings). IsFollowedBy events (fed ++ piece) v new.capture new.follower.senders new.follower.hearing) whole
-      (subst (IsFollowedBy events (fed ++ piece) all new.capture new.follower.senders) (sym same_hearing)
-      (subst (λ (k : FollowedSenders). IsFollowedBy events (fed ++ piece) all new.capture k follower.hearing) (sym same_senders)
-      (subst (λ (s : State). IsFollowedBy events (fed ++ piece) all s follower.senders follower.hearing) (sym same_capture) by.1))) in
+      let now = subst (λ (v : Tellings). IsFollowedBy events (fed ++ piece) v new.capture new.follower.senders new.follower.other_sources new.follower.hearing) whole
+      (subst (IsFollowedBy events (fed ++ piece) all new.capture new.follower.senders new.follower.other_sources) (sym same_hearing)
+      (subst (λ (o : Option OtherSources). IsFollowedBy events (fed ++ piece) all new.capture new.follower.senders o follower.hearing) (sym same_others)
+      (subst (λ (k : FollowedSenders). IsFollowedBy events (fed ++ piece) all new.capture k follower.other_sources follower.hearing) (sym same_senders)
+      (subst (λ (s : State). IsFollowedBy events (fed ++ piece) all s follower.senders follower.other_sources follower.hearing) (sym same_capture) by.1)))) in
       record {
         read = now.read;
         no_fault = now.no_fault;
@@ -107,7 +111,7 @@ module _ (events : Events) (fed piece : List ℕ) (told : Tellings) (old : Follo
         wanted = now.wanted;
         events_are = same_events ∙ by.0;
         sound = same_fault ∙ sound;
-        has_heard = (now.senders_are, now.has_heard);
+        has_heard = (now.senders_are, now.has_heard, now.others_too);
       }
 
 -- ---- its end

@@ -125,13 +125,18 @@ RefusesAlone start at packet fault =
     ⊎ ((body : List ℕ) × BeginsPacket packet body
     × RefusesTlvIn start (tlvs_of (at + 4) body) fault)
 
--- The packet of a sender is refused: as it is heard, or by itself where it is read strictly. Why
--- the routes for other sources are too many is not said.
+-- what is asked for, but for addresses
+abbrev pub without_pair : Events → Events
+without_pair events = record events { pair = None }
+
+-- The packet of a sender is refused: as it is heard; or by itself where it is read strictly; or
+-- where all routes count, since there may be some for other sources than that of the answer.
 abbrev pub RefusesSender : Events → List Made → Made → Origin → TlvFault → Type 0
 RefusesSender events before one origin fault = RefusesHeard events before one origin fault
     ⊎ ((events.strict ≡ true)
     × RefusesAlone (start_of events origin) (octets_in origin before) (octets_found one.what) fault)
-    ⊎ (events.is_any_source ≡ true)
+    ⊎ ((events.is_any_source ≡ true)
+    × RefusesHeard (without_pair events) before one origin fault)
 
 -- ---- a record that is refused
 

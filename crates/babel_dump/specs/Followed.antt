@@ -28,7 +28,7 @@ use Rattle.babel_timeline.specs.declared.teller.Teller.{Teller}
 use Rattle.babel_timeline.specs.declared.telling.Telling.{Telling}
 use Rattle.babel_dump.specs.Device.{GaveOctets, InputState}
 use Rattle.babel_dump.specs.EventText.{event_in, speaker_of}
-use Rattle.babel_dump.specs.EventsCause.{IsRefused, RefusesAlone, RefusesPart, start_of}
+use Rattle.babel_dump.specs.EventsCause.{IsRefused, RefusesAlone, RefusesPart, start_of, without_pair}
 use Rattle.babel_dump.specs.EventsRun.{AreInOrder, TellsSilent, hellos_made, last_time}
 use Rattle.babel_dump.specs.EventsRun.{HaveTold, HaveToldSo, IsReportOf, IsSaid, Step}
 use Rattle.babel_dump.specs.EventsRun.{TellsCapture, WroteLines, asked_by, followed_by}
@@ -49,6 +49,7 @@ use Rattle.babel_dump.specs.declared.hearing.Unheard.{Unheard}
 use Rattle.babel_dump.specs.declared.hearing.Unheard.TheVariants as unheard
 use Rattle.babel_dump.specs.declared.input_fault.InputFault.{InputFault}
 use Rattle.babel_dump.specs.declared.input_fault.InputFault.TheVariants as input_faults
+use Rattle.babel_dump.specs.declared.other_sources.OtherSources.{OtherSources}
 use Rattle.babel_dump.specs.declared.since.Since.{Since}
 use Rattle.babel_dump.specs.declared.events_outcome.EventsOutcome.{EventsOutcome}
 use Rattle.babel_dump.specs.declared.stop.Stop.{Stop}
@@ -153,12 +154,32 @@ HearsTold events told old new =
     → HasHeard events made (before ++ old.told.items) old.hearing
     → HasHeard events (made ++ one ∷ []) (before ++ new.told.items) new.hearing
 
+-- the records were heard for the routes for other sources, where answers are for any source
+pub record HasHeardOthers (events : Events) (made : List Made) (others : OtherSources) : Type 0
+  where
+    pub is_any : events.is_any_source ≡ true
+    pub suits : Suits (without_pair events) others.teller
+    pub told : List (Telling Speaker)
+    pub have_told : HaveTold (without_pair events) None made told others.teller.timeline.rows
+    pub heard : (speaker : Speaker)
+        → IsHeardOf (without_pair events) made others.teller.heard.entries speaker
+
+-- the same, if they are heard
+abbrev pub KnowsOthers : Events → List Made → Option OtherSources → Type 0
+KnowsOthers events made others = IfSome others (HasHeardOthers events made)
+
+-- now also of this record
+abbrev pub HearsOthers : Events → Record → (old new : Option OtherSources) → Type 0
+HearsOthers events told old new = (made : List Made) (one : Made) → IsTold one told
+    → KnowsOthers events made old → KnowsOthers events (made ++ one ∷ []) new
+
 -- of these records those of senders that are followed were heard, and this is to be written of what
 -- they told
 abbrev pub HasHeardFollowed : Events → List Made → List (Telling Speaker) → Follower → Type 0
 HasHeardFollowed events made written follower =
     (follower.senders.senders.entries ≡ senders_followed made)
     × HasHeard events (followed made) (written ++ follower.told.items) follower.hearing
+    × KnowsOthers events (followed made) follower.other_sources
 
 -- now also of this record
 abbrev pub HearsFollowed : Events → Record → Follower → Follower → Type 0
@@ -263,24 +284,19 @@ RefusesUsually events told old (stops.Unheard fault) =
     Suits events old.hearing.teller → RefusesUnheard events told old.hearing.teller fault
 RefusesUsually events told old stop = ⊥
 
--- memory ran out, or it is of this sender
-abbrev pub IsOf : Origin → Unheard → Type 0
-IsOf origin unheard.Memory = Unit {0}
-IsOf origin (unheard.Sender of fault) = of ≡ origin
-
--- the record has a packet of this sender
-abbrev pub IsFrom : Record → Unheard → Type 0
-IsFrom told unheard.Memory = Unit {0}
-IsFrom told (unheard.Sender origin fault) =
-    (packet : BabelPacket) × (packet_said told.said ≡ Some packet) × (packet.origin ≡ origin)
+-- the routes for other sources can't be heard for this
+abbrev pub RefusesOthers : Events → Record → Option OtherSources → Unheard → Type 0
+RefusesOthers events told old fault = (others : OtherSources) × (old ≡ Some others)
+    × (Suits (without_pair events) others.teller
+    → RefusesUnheard (without_pair events) told others.teller fault)
 
 -- why no more is heard than the record, in one of these ways
 abbrev pub Stops : Events → Record → (old mid : Follower) → Stop → Type 0
 Stops events told old mid stop =
     ((events.strict ≡ true) × RefusesTold events told old mid stop)
     ⊎ RefusesUsually events told old stop
-    ⊎ ((events.is_any_source ≡ true) × ((fault : Unheard) × (stop ≡ stops.Unheard fault)
-    × IsFrom told fault))
+    ⊎ ((fault : Unheard) × (stop ≡ stops.Unheard fault)
+    × RefusesOthers events told old.other_sources fault)
 
 -- what is told of why no more is heard
 abbrev pub trouble_of : Stop → Trouble

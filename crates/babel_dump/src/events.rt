@@ -250,6 +250,7 @@ impl<'a> Followed<'a> {
             × (self.new.follower.hearing ≡ self.old.follower.hearing)
             × (self.new.follower.fault ≡ self.old.follower.fault) }
         ensures senders { self.new.follower.senders ≡ self.old.follower.senders }
+        ensures others { self.new.follower.other_sources ≡ self.old.follower.other_sources }
         ensures told { OnOk result (self.new.follower.told.items ≡ []) }
         ensures empty { OnOk result (self.new.buffer.items ≡ []) }
         ensures room { OnOk result (2048 ≤ vec_capacity self.new.buffer) }

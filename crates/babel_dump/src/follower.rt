@@ -5,9 +5,9 @@ ghost use Rattle.babel_capture.specs.Counts.{Made};
 ghost use Rattle.babel_capture.specs.Sinking.{IsTold, left_said, packet_said};
 ghost use Rattle.babel_tlv.specs.Framing.{framed};
 ghost use Rattle.babel_dump.specs.Followed.{HasHeard, HearsFollowed, HearsFront, HearsTold};
-ghost use Rattle.babel_dump.specs.Followed.{IsFrom, IsWholeTold, RefusesFront, RefusesTold};
-ghost use Rattle.babel_dump.specs.Followed.{RefusesUnheard, RefusesUsually, Stops, StopsFollowed};
-ghost use Rattle.babel_dump.specs.Followed.{Suits, trouble_of};
+ghost use Rattle.babel_dump.specs.Followed.{HearsOthers, IsWholeTold, KnowsOthers, RefusesFront};
+ghost use Rattle.babel_dump.specs.Followed.{RefusesOthers, RefusesTold, RefusesUnheard};
+ghost use Rattle.babel_dump.specs.Followed.{RefusesUsually, Stops, StopsFollowed, Suits, trouble_of};
 ghost use Rattle.babel_dump.specs.FollowedSenders.{is_followed, with_followed};
 ghost use Rattle.babel_dump.specs.FollowedSenders.{sender_of as sender_found};
 ghost use Rattle.babel_dump.specs.declared.hearing.Unheard.TheVariants as unheard;
@@ -53,6 +53,7 @@ impl<'a> Follower<'a> {
         ensures events { result.events.now ≡ events.now }
         ensures nobody { result.senders.senders.entries ≡ [] }
         ensures none { HasHeard events.now [] [] result.hearing }
+        ensures others { KnowsOthers events.now [] result.other_sources }
         ensures told { result.told.items ≡ [] }
         ensures fault { result.fault ≡ None }
     {
@@ -103,6 +104,7 @@ impl<'a> Follower<'a> {
         ensures same { (self.new.events.now ≡ self.old.events.now)
             × (self.new.hearing ≡ self.old.hearing) × (self.new.told ≡ self.old.told)
             × (self.new.fault ≡ self.old.fault) }
+        ensures others { self.new.other_sources ≡ self.old.other_sources }
         ensures follows { IfOk result (λ follows. (one : Made) → IsTold one told.now
             → (follows ≡ is_followed self.old.senders.senders.entries (sender_found one.what))
             × (self.new.senders.senders.entries
@@ -126,31 +128,27 @@ impl<'a> Follower<'a> {
         ensures senders { self.new.senders ≡ self.old.senders }
         ensures heard { OnOk result
             (HearsTold self.old.events.now told.now self.old self.new) }
+        ensures others { OnOk result (HearsOthers self.old.events.now told.now
+            self.old.other_sources self.new.other_sources) }
         ensures stops { IfErr result (Stops self.old.events.now told.now self.old self.new) }
     {
         self.hear(told)?;
-        if !self.events.is_any_source {
-            return Ok(());
-        }
         Ok(self.hear_others(told)?)
     }
 
-    /// Hears the routes for other sources.
+    /// Hears the routes for other sources, if they are asked for.
     fn hear_others(&mut self, told: &Record<'_>) -> Result<(), Unheard>
         ensures same { (self.new.events ≡ self.old.events) × (self.new.hearing ≡ self.old.hearing)
             × (self.new.told ≡ self.old.told) × (self.new.fault ≡ self.old.fault) }
         ensures senders { self.new.senders ≡ self.old.senders }
-        ensures from { IfErr result (IsFrom told.now) }
+        ensures others { OnOk result (HearsOthers self.old.events.now told.now
+            self.old.other_sources self.new.other_sources) }
+        ensures refused { IfErr result
+            (RefusesOthers self.old.events.now told.now self.old.other_sources) }
     {
-        let Some(others) = &mut self.other_sources else {
-            return Ok(());
-        };
-        match (told.time, &told.said) {
-            (Some(time), Said::Packet(packet)) => {
-                let (events, since) = (self.events, self.hearing.since());
-                others.hear(events, time.nanoseconds(), packet, since)
-            }
-            _ => Ok(()),
+        match &mut self.other_sources {
+            Some(others) => others.hear(self.events, told, self.hearing.since()),
+            None => Ok(()),
         }
     }
 
@@ -172,6 +170,7 @@ impl<'a> Follower<'a> {
         ensures same { (self.new.events.now ≡ self.old.events.now)
             × (self.new.fault ≡ self.old.fault) }
         ensures senders { self.new.senders ≡ self.old.senders }
+        ensures others { self.new.other_sources ≡ self.old.other_sources }
         ensures heard { OnOk result
             (HearsTold self.old.events.now told.now self.old self.new) }
         ensures whole { OnOk result (self.old.events.now.strict ≡ true
@@ -193,6 +192,7 @@ impl<'a> Follower<'a> {
         ensures same { (self.new.events.now ≡ self.old.events.now)
             × (self.new.fault ≡ self.old.fault) }
         ensures senders { self.new.senders ≡ self.old.senders }
+        ensures others { self.new.other_sources ≡ self.old.other_sources }
         ensures heard { OnOk result
             (HearsTold self.old.events.now told.now self.old self.new) }
         ensures refused { Suits self.old.events.now self.old.hearing.teller → IfErr result
@@ -216,6 +216,7 @@ impl<'a> Follower<'a> {
             × (self.new.hearing ≡ self.old.hearing) × (self.new.told ≡ self.old.told)
             × (self.new.fault ≡ self.old.fault) }
         ensures senders { self.new.senders ≡ self.old.senders }
+        ensures others { self.new.other_sources ≡ self.old.other_sources }
     {
         self.remarks.say(gathered, says);
     }
@@ -226,6 +227,7 @@ impl<'a> Follower<'a> {
         ensures same { (self.new.events.now ≡ self.old.events.now)
             × (self.new.fault ≡ self.old.fault) }
         ensures senders { self.new.senders ≡ self.old.senders }
+        ensures others { self.new.other_sources ≡ self.old.other_sources }
         ensures heard { OnOk result
             (HearsTold self.old.events.now told.now self.old self.new) }
         ensures whole { OnOk result (IsWholeTold self.old.events.now told.now self.old) }
@@ -246,6 +248,7 @@ impl<'a> Follower<'a> {
         ensures same { (self.new.events.now ≡ self.old.events.now)
             × (self.new.fault ≡ self.old.fault) }
         ensures senders { self.new.senders ≡ self.old.senders }
+        ensures others { self.new.other_sources ≡ self.old.other_sources }
         ensures refused { IsErr result × IfErr result
             (RefusesTold self.old.events.now told.now self.old self.new) }
     {
@@ -264,6 +267,7 @@ impl<'a> Follower<'a> {
         ensures same { (self.new.events.now ≡ self.old.events.now)
             × (self.new.fault ≡ self.old.fault) }
         ensures senders { self.new.senders ≡ self.old.senders }
+        ensures others { self.new.other_sources ≡ self.old.other_sources }
         ensures heard { OnOk result
             (HearsTold self.old.events.now told.now self.old self.new) }
         ensures whole { OnOk result (IsWholeTold self.old.events.now told.now self.old) }
@@ -305,6 +309,7 @@ impl<'a> Follower<'a> {
         ensures same { (self.new.events.now ≡ self.old.events.now)
             × (self.new.fault ≡ self.old.fault) }
         ensures senders { self.new.senders ≡ self.old.senders }
+        ensures others { self.new.other_sources ≡ self.old.other_sources }
         ensures heard { OnOk result (HearsFront self.old.events.now told.now packet.now
             (framed (take before (drop 4 packet.now.octets.now))) self.old self.new) }
         ensures refused { Suits self.old.events.now self.old.hearing.teller → IfErr result
@@ -324,7 +329,9 @@ impl<'a> Follower<'a> {
 }
 
 /// No routes, where answers are for any source.
-fn other_sources(alloc: Global, events: &Events) -> Option<OtherSources> {
+fn other_sources(alloc: Global, events: &Events) -> Option<OtherSources>
+    ensures { KnowsOthers events.now [] result }
+{
     if !events.is_any_source {
         return None;
     }

@@ -10,15 +10,15 @@ ghost use Rattle.babel_timeline.specs.Hearing.{octets_heard, report_of};
 ghost use Rattle.babel_timeline.specs.declared.telling.Telling.{Telling as TellingSaid};
 ghost use Rattle.babel_dump.specs.EventsRun.{is_from, is_of, requests_asked, requests_made};
 ghost use Rattle.babel_dump.specs.EventsRun.{told_from};
-ghost use Rattle.babel_dump.specs.Followed.{EndsBy, HasHeard, HearsPacket, HearsRecord, Suits};
-ghost use Rattle.babel_dump.specs.Followed.{RefusesTeller, RefusesUnheard, TellsNext, TellsThen};
-ghost use Rattle.babel_dump.specs.Followed.{unlost_by};
+ghost use Rattle.babel_dump.specs.Followed.{EndsBy, HasHeard, HearsRecord, RefusesUnheard, Suits};
+ghost use Rattle.babel_dump.specs.Followed.{TellsNext, TellsThen, unlost_by};
 ghost use Rattle.babel_dump.specs.Speakers.{speaker_cmp};
 ghost use Rattle.babel_dump.specs.declared.speaker.Speaker.{Speaker as SpeakerSaid};
 
 use crate::addr_pair::AddrPair;
 use crate::events_job::Events;
 use crate::factor::Factor;
+use crate::hear_said::hear_said;
 use crate::left_out::LeftOutDatagram;
 use crate::push_event::speaker_of;
 use crate::remarks::Remarks;
@@ -28,7 +28,7 @@ use babel_capture::{BabelPacket, Missed, Origin, Record, Said, Time};
 use babel_prefix::Addr;
 use babel_table::Report;
 use babel_timeline::{Teller, Telling, tell_requests, unicast};
-use babel_tlv::{Fault as DumpFault, Start};
+use babel_tlv::Fault as DumpFault;
 use std::alloc::{AllocError, Global};
 use std::collections::BTreeSet;
 
@@ -156,45 +156,12 @@ impl Hearing {
         ensures refused { Suits events.now self.old.teller → IfErr result
             (RefusesUnheard events.now said.now self.old.teller) }
     {
-        let Some(time) = said.time else {
-            return Ok(());
-        };
-        let time = time.nanoseconds();
-        self.teller.expire(time, &mut self.heard)?;
-        match &said.said {
-            Said::Packet(packet) => self.hear_packet(events, time, packet),
-            _ => Ok(()),
-        }
-    }
-
-    /// Hears a packet.
-    fn hear_packet(
-        &mut self,
-        events: &Events,
-        time: u128,
-        packet: &BabelPacket<'_>,
-    ) -> Result<(), Unheard>
-        requires { time < 2 ^ 96 }
-        ensures same { (self.new.lost ≡ self.old.lost) × (self.new.since ≡ self.old.since) }
-        ensures heard { Suits events.now self.old.teller → OnOk result (HearsPacket events.now
-            packet.now.origin time packet.now.octets.now self.old.teller self.new.teller
-            self.old.heard.items self.new.heard.items) }
-        ensures refused { Suits events.now self.old.teller → IfErr result (RefusesTeller events.now
-            packet.now.origin time packet.now.octets.now self.old.teller) }
-    {
-        let Origin { place, sender } = packet.origin;
-        let start = Start {
-            sender,
-            via_v6: events.limits.via_v6(),
-        };
-        let speaker = Speaker { sender, place };
-        match self
-            .teller
-            .hear(speaker, start, time, packet.octets, &mut self.heard)
-        {
-            Ok(()) => Ok(()),
-            Err(fault) => Err(Unheard::of(packet.origin, fault)),
-        }
+        hear_said(
+            &mut self.teller,
+            events.limits.via_v6(),
+            said,
+            &mut self.heard,
+        )
     }
 
     /// Takes what was told up to this time; adds what of it is told from the moment on.

@@ -1,20 +1,23 @@
 //! Routes for other sources than that of an answer.
-ghost use Rattle.std.specs.Prelude.{◌^◌, ◌<◌, IfErr};
-ghost use Rattle.babel_dump.specs.Followed.{IsOf};
+ghost use Rattle.std.specs.Prelude.{◌≡◌, ◌∷◌, ◌++◌, IfErr, List, OnOk, [], true};
+ghost use Rattle.babel_capture.specs.Counts.{Made};
+ghost use Rattle.babel_capture.specs.Sinking.{IsTold};
+ghost use Rattle.babel_dump.specs.EventsCause.{without_pair};
+ghost use Rattle.babel_dump.specs.Followed.{HasHeardOthers, RefusesUnheard, Suits};
 
 use crate::addr_pair::AddrPair;
 use crate::any_source::is_source_specific;
 use crate::events_job::Events;
+use crate::hear_said::hear_said;
 use crate::hearing::{Unheard, factor};
 use crate::note::Note;
 use crate::push_event::held_after;
 use crate::since::Since;
 use crate::speaker::Speaker;
 use crate::spelling::Spelling;
-use babel_capture::{BabelPacket, Origin};
+use babel_capture::{Origin, Record};
 use babel_prefix::Addr;
 use babel_timeline::{Change, Subject, Teller, Telling};
-use babel_tlv::Start;
 use std::alloc::{AllocError, Global};
 use std::collections::BTreeSet;
 
@@ -81,7 +84,10 @@ pub(crate) fn source_note(
 
 impl OtherSources {
     /// Nothing was heard.
-    pub(crate) fn new(alloc: Global, events: &Events, pair: AddrPair) -> OtherSources {
+    pub(crate) fn new(alloc: Global, events: &Events, pair: AddrPair) -> OtherSources
+        requires { events.now.is_any_source ≡ true }
+        ensures { HasHeardOthers events.now [] result }
+    {
         let limit = events.limits.entries();
         OtherSources {
             pair,
@@ -91,32 +97,23 @@ impl OtherSources {
         }
     }
 
-    /// Hears a packet that came at this time.
+    /// Hears a record of a capture, of whichever destination its packet tells.
     pub(crate) fn hear(
         &mut self,
         events: &Events,
-        time: u128,
-        packet: &BabelPacket<'_>,
+        said: &Record<'_>,
         since: &Since,
     ) -> Result<(), Unheard>
-        requires { time < 2 ^ 96 }
-        ensures { IfErr result (IsOf packet.now.origin) }
+        ensures heard { OnOk result ((made : List Made) (one : Made) → IsTold one said.now
+            → HasHeardOthers events.now made self.old
+            → HasHeardOthers events.now (made ++ one ∷ []) self.new) }
+        ensures refused { Suits (without_pair events.now) self.old.teller → IfErr result
+            (RefusesUnheard (without_pair events.now) said.now self.old.teller) }
     {
-        let origin = packet.origin;
-        let Origin { place, sender } = origin;
-        let start = Start {
-            sender,
-            via_v6: events.limits.via_v6(),
-        };
-        let speaker = Speaker { sender, place };
         self.told.clear();
-        let heard = self
-            .teller
-            .hear(speaker, start, time, packet.octets, &mut self.told);
-        match heard {
-            Ok(()) => Ok(self.keep(since)?),
-            Err(fault) => Err(Unheard::of(origin, fault)),
-        }
+        let via_v6 = events.limits.via_v6();
+        hear_said(&mut self.teller, via_v6, said, &mut self.told)?;
+        Ok(self.keep(since)?)
     }
 
     /// Takes what has expired by this moment.
@@ -127,7 +124,9 @@ impl OtherSources {
     }
 
     /// Takes the changes that were told last.
-    fn keep(&mut self, since: &Since) -> Result<(), AllocError> {
+    fn keep(&mut self, since: &Since) -> Result<(), AllocError>
+        ensures { self.new.teller ≡ self.old.teller }
+    {
         let (dst, told) = (self.pair.dst, &self.told);
         keep_changes(&dst, told, since, &mut self.held)
     }

@@ -17,7 +17,7 @@ returns-in-Ok-clause-followed g c fed told is =
       more = sunk.told.items;
       is_followed = followed_on c.args.events.now fed c.args.piece.now told c.args.self.now is c.feed-fed.new.self sunk c.write.new.self c.feed-fed.ensures.same.0 c.feed-fed.ensures.same.1
           c.in-Ok.ensures.ok.1 c.in-Ok.ensures.sunk (sym said.3 ∙ sym same.3 ∙ c.in_ok-fault.ensures.none) same.0 (same.1 ∙ ap (λ e. e.now) said.0) (same.2 ∙ said.1) (same.3 ∙ said.3)
-          (c.write.ensures.senders ∙ c.say.ensures.senders)
+          (c.write.ensures.senders ∙ c.say.ensures.senders) (c.write.ensures.others ∙ c.say.ensures.others)
           c.in_ok-write.ensures.told;
       wrote = subst (λ t. WroteLines c.args.events.now t.items writer) said.2 c.in_ok-write.ensures.lines;
     }

@@ -1,49 +1,17 @@
-use Rattle.std.proofs.Common.{[], ap, sym, ◌∙◌, rules, ◌≡◌, None, Some, subst}
 use Rattle.std.proofs.lemmas.Result.{on_ok_weaker}
-use Rattle.babel_capture.specs.Sinking.{IsPacketOf, packet_said}
-use Rattle.babel_dump.proofs.EventsFollowed.{ends_tell_so, silences_so, suits_still, under}
-use Rattle.babel_dump.proofs.HeardRecords.{hears_no_packet, hears_one_packet, hears_untimed}
-use Rattle.babel_dump.specs.Followed.{HearsPacket, RefusesUnheard, Suits}
-use Rattle.babel_dump.proofs.EventCauses.{err_exit, if_err_so}
-use Rattle.babel_dump.proofs.RefusedRecords.{record_refused}
-use Rattle.babel_dump.proofs.PacketsFed.{none_said}
-use Rattle.babel_dump.proofs.SpeakerLaws.{speaker_order}
+use Rattle.babel_capture.specs.Counts.{Made}
+use Rattle.babel_capture.specs.Sinking.{IsTold}
+use Rattle.babel_dump.specs.Followed.{HearsRecord, Suits}
+use Rattle.babel_dump.proofs.EventsFollowed.{under}
 use Rattle.babel_dump.proofs.hearing.Hearing.hear.Goals as goal
 
-pub returns-in_default-clause-heard : goal.returns-in_default-clause-heard
-returns-in_default-clause-heard c one suits told =
-    let none : c.args.said.now.time ≡ None = search rules in
-    rw c.requires (hears_untimed c.args.events.now one c.args.self.now.teller suits (sym told.time ∙ none))
+pub returns-clause-heard : goal.returns-clause-heard
+returns-clause-heard c =
+    let events = c.args.events.now in
+    let teller = c.args.self.now.teller in
+    on_ok_weaker c.hear_said.result (λ hears one suits told. hears suits one told)
+    (under (Suits events teller) ((one : Made) → IsTold one c.args.said.now → HearsRecord events one teller c.hear_said.new.teller c.hear_said.new.told.items) c.hear_said.result
+    (c.hear_said.ensures.heard events c.via_v6.ensures.value))
 
-pub returns-in_default-said-clause-heard : goal.returns-in_default-said-clause-heard
-returns-in_default-said-clause-heard c one suits told =
-    let time : c.args.said.now.time ≡ Some c.nanoseconds-time.result = search rules in
-    let packet : IsPacketOf one.what None = subst (IsPacketOf one.what) (none_said c.args.said.now.said c.in_default-said.not-Packet) told.packet in
-    hears_no_packet c.args.events.now one c.args.self.now.teller c.expire.new.self suits c.expire.ensures.same c.expire.ensures.limit c.expire.ensures.heard c.nanoseconds-time.result _ (sym told.time ∙ time) (sym packet.0)
-    (ends_tell_so _ speaker_order c.args.events.now c.args.self.now.teller suits _ _ _ _ (rw c.requires at c.in_ok-expire.ensures.ok))
-    (silences_so _ speaker_order c.args.events.now c.args.self.now.teller suits [] c.nanoseconds-time.result [] _ c.expire.new.self.watch (rw c.requires at c.in_ok-expire.ensures.silences))
-
-pub returns-in-Packet-clause-heard : goal.returns-in-Packet-clause-heard
-returns-in-Packet-clause-heard c =
-    on_ok_weaker c.hear_packet.result
-    (λ hears one suits told.
-    let time : c.args.said.now.time ≡ Some c.nanoseconds-time.result = search rules in
-    let packet : IsPacketOf one.what (Some c.in-Packet.packet) = subst (IsPacketOf one.what) (ap packet_said c.in-Packet.is) told.packet in
-    let here = hears (suits_still _ _ c.args.events.now c.expire.ensures.same c.expire.ensures.limit suits) in
-    hears_one_packet c.args.events.now one c.args.self.now.teller c.expire.new.self c.hear_packet.new.self.teller c.expire.ensures.heard c.nanoseconds-time.result c.in-Packet.packet.origin
-    c.in-Packet.packet.octets.now _ _ (sym told.time ∙ time) (sym packet.0) (sym packet.1)
-    (ends_tell_so _ speaker_order c.args.events.now c.args.self.now.teller suits _ _ _ _ (rw c.requires at c.in_ok-expire.ensures.ok))
-    (silences_so _ speaker_order c.args.events.now c.args.self.now.teller suits [] c.nanoseconds-time.result [] _ c.expire.new.self.watch (rw c.requires at c.in_ok-expire.ensures.silences)) here)
-    (under (Suits c.args.events.now _) (HearsPacket c.args.events.now _ _ _ _ _ _ _) c.hear_packet.result c.hear_packet.ensures.heard)
-
-pub returns-in_err-expire-clause-refused : goal.returns-in_err-expire-clause-refused
-returns-in_err-expire-clause-refused c suits =
-    err_exit c.from_residual.result c.from_residual.ensures.1 (λ why memory. subst (RefusesUnheard c.args.events.now c.args.said.now c.args.self.now.teller) (sym memory) tt)
-
-pub returns-in-Packet-clause-refused : goal.returns-in-Packet-clause-refused
-returns-in-Packet-clause-refused c suits =
-    let time : c.args.said.now.time ≡ Some c.nanoseconds-time.result = search rules in
-    if_err_so c.hear_packet.result
-    (λ why refuses. record_refused c.args.events.now c.args.said.now c.args.self.now.teller c.expire.new.self c.in-Packet.packet (ap packet_said c.in-Packet.is) c.nanoseconds-time.result time _
-    (ends_tell_so _ speaker_order c.args.events.now c.args.self.now.teller suits _ _ _ _ (rw c.requires at c.in_ok-expire.ensures.ok)) c.expire.ensures.heard why refuses)
-    (c.hear_packet.ensures.refused (suits_still _ _ c.args.events.now c.expire.ensures.same c.expire.ensures.limit suits))
+pub returns-clause-refused : goal.returns-clause-refused
+returns-clause-refused c suits = c.hear_said.ensures.refused c.args.events.now c.via_v6.ensures.value suits
