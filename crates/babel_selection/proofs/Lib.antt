@@ -4,3 +4,5 @@ pub mod LinkLaws
 pub mod SourceLaws
 pub mod SelectionLaws
 pub mod ToldLaws
+pub mod OfferLaws
+pub mod OwnLaws

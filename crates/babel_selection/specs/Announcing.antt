@@ -2,11 +2,11 @@
 -- table of all of them.
 use Rattle.std.specs.Prelude.{◌≡◌, ℕ, if◌then◌else◌, List, [], ◌∷◌, ◌++◌, Some}
 use Rattle.std.specs.BTreeMap.{is_at}
-use Rattle.babel_tlv.specs.Route.{Announcement}
+use Rattle.babel_tlv.specs.Route.{Announcement, RouteKey}
 use Rattle.babel_selection.specs.declared.distance.Distance.{Distance}
 use Rattle.babel_selection.specs.declared.source.Source.{Source}
-use Rattle.babel_selection.specs.Distances.{OwnUpdate, after_update, distance_of, source_cmp}
-use Rattle.babel_selection.specs.Distances.{source_of}
+use Rattle.babel_selection.specs.Distances.{OwnUpdate, after_update, distance_of, is_gone}
+use Rattle.babel_selection.specs.Distances.{source_cmp, source_of}
 use Rattle.babel_selection.specs.Hearing.{entry_at}
 
 -- an Update of a source changes the entry of that alone
@@ -16,6 +16,12 @@ TakesUpdate time source ann old new = (other : Source) → entry_at source_cmp n
     ≡ (if is_at (source_cmp source) other
     then Some (after_update time ann (entry_at source_cmp old source))
     else entry_at source_cmp old other)
+
+-- the keys of the entries that stand at the moment
+abbrev pub standing_keys : ℕ → List (Source × Distance) → List RouteKey
+standing_keys moment [] = []
+standing_keys moment (entry ∷ entries) =
+    (if is_gone moment entry.1 then [] else entry.0.key ∷ []) ++ standing_keys moment entries
 
 -- these are the entries after these Updates
 abbrev pub AreDistances : List OwnUpdate → List (Source × Distance) → Type 0

@@ -5,5 +5,7 @@ pub mod HeardLinks
 pub mod LinkPairs
 pub mod Distances
 pub mod Announcing
+pub mod OwnUpdates
 pub mod Selection
 pub mod ToldKeys
+pub mod Offers

@@ -15,10 +15,14 @@
 //! - What an IHU says counts until so many times its Interval after it. — `IhuSaid::rxcost_at`
 //! - A link costs what 2-out-of-3 or ETX says of both costs. — `link_cost`
 //! - A source table is that of the router's own Updates, and what is feasible goes by it. —
-//!   `Sources::hear` (`TakesUpdate`), `distance`; `laws::distances_are_kept` · *begun*, *update*
+//!   `Sources::hear` (`TakesUpdate`), `distance`; `laws::distances_are_kept` · *begun*, *update*;
+//!   `Sources::hear_packet` (`updates_of`)
 //! - Each route for a key has the state that the definition gives it; what is selected is feasible,
 //!   finite, and what the router announces, or the least. — `Choice::of`, `state`, `least_own`;
 //!   `laws::selected_is_best` · *usable*, *least*, *unfeasible*
+//! - The routes that senders announce are put in order, by key, and each is told with what it is to
+//!   the router; a route of its own comes first, where it uses that. — `sort_offers` ·
+//!   *permutation*, *sorted*; `chosen_routes` (`chosen_rows`), `Offer::of`, `own`
 //! - Of two addresses it is told of the best match of the keys of which a route is used, and of
 //!   those that match better. — `best_used`, `is_told`; `laws::told_are_of_answer`
 #![tactic(auto)]
@@ -34,6 +38,9 @@ pub mod laws;
 mod link_hearing;
 mod link_node;
 mod link_pairs;
+mod offer;
+mod offers;
+mod own_updates;
 mod selection;
 mod seqno;
 mod source;
@@ -50,6 +57,8 @@ pub use ihus::{Ihus, Numbered, Pair};
 pub use link_hearing::LinkHearing;
 pub use link_node::LinkNode;
 pub use link_pairs::links;
+pub use offer::Offer;
+pub use offers::{ChosenRoute, chosen_routes, sort_offers};
 pub use selection::{Choice, RouteState, least_own};
 pub use source::Source;
 pub use sources::Sources;

@@ -1,7 +1,7 @@
 //! The source table of a router, by its own Updates.
-ghost use Rattle.std.specs.Prelude.{◌≡◌, [], length, OnOk};
+ghost use Rattle.std.specs.Prelude.{◌≡◌, [], length, IfOk, OnOk};
 ghost use Rattle.babel_selection.specs.Distances.{source_cmp, source_of, standing};
-ghost use Rattle.babel_selection.specs.Announcing.{TakesUpdate};
+ghost use Rattle.babel_selection.specs.Announcing.{TakesUpdate, standing_keys};
 ghost use Rattle.babel_selection.specs.Hearing.{entry_at};
 
 use crate::distance::Distance;
@@ -77,6 +77,19 @@ impl Sources {
         ensures { result ≡ entry_at source_cmp self.now source.now }
     {
         self.distances.get(source).copied()
+    }
+
+    /// The keys of the entries that stand at the moment, in order.
+    pub fn keys(&self, alloc: Global, moment: u128) -> Result<Vec<Key>, AllocError>
+        ensures { IfOk result (λ keys. keys.items ≡ standing_keys moment self.now) }
+    {
+        let mut keys = Vec::new(alloc);
+        for (source, distance) in &self.distances {
+            if !distance.is_gone(moment) {
+                keys.push(source.key)?;
+            }
+        }
+        Ok(keys)
     }
 
     /// The entry of a source, if it stands at the moment.
