@@ -7,7 +7,7 @@ ghost use Rattle.babel_dump.specs.Run.{output};
 ghost use Rattle.babel_dump.specs.AskedRun.{Did, DidJob, Failed, FailedEvents, GaveOn};
 ghost use Rattle.babel_dump.specs.AskedRun.{IsDump, IsJobRefused, IsMisplacedIn};
 ghost use Rattle.babel_dump.specs.AskedRun.{IsOriginsRefused, IsRefused, ToldEvents};
-ghost use Rattle.babel_dump.specs.AskedRun.{WroteOrigins, WrotePairs, WroteSenders};
+ghost use Rattle.babel_dump.specs.AskedRun.{WroteOrigins, WrotePairs, WroteSelection, WroteSenders};
 ghost use Rattle.babel_dump.specs.AskedRun.{misplaced_told};
 ghost use Rattle.babel_dump.specs.OriginText.{capture_on};
 ghost use Rattle.babel_dump.specs.OriginsMade.{TakesOn};
@@ -33,6 +33,9 @@ use crate::origins_text::{OriginsText, origins_text};
 use crate::read_senders::Captured;
 use crate::run_fault::{RunFault, Side};
 use crate::says::Says;
+use crate::select::Selection;
+use crate::select_job::Select;
+use crate::selection_read::SelectionRead;
 use crate::statuses::status_of_all;
 use crate::told_origins::ToldOrigins;
 use crate::told_pairs::ToldPairs;
@@ -72,6 +75,7 @@ pub fn run_asked<R: Read + Drop, S: Read + Drop, W: ByteOut, T: Says>(
         Asked::EachPair(pairs) => tell_pairs(alloc, seed, pairs, reader, other, writer),
         Asked::Origins(origins) => tell_origins(alloc, seed, origins, reader, other, writer),
         Asked::Events(events) => tell_events(alloc, events, reader, writer, says),
+        Asked::Select(select) => tell_selection(alloc, seed, select, reader, writer),
     }
 }
 
@@ -331,4 +335,30 @@ fn tell_events<R: Read + Drop, W: ByteOut, T: Says>(
     let done = Done::new(alloc)?;
     let answer = run_events(alloc, events, &mut FromReader::new(reader), writer, says)?;
     Ok(done.of_events(events, answer)?)
+}
+
+/// Reads a capture, and writes which routes a router in it uses.
+fn tell_selection<R: Read + Drop, W: ByteOut>(
+    alloc: Global,
+    seed: u128,
+    select: &Select,
+    reader: R,
+    writer: &mut W,
+) -> Result<Done, Trouble>
+    requires { HasRoomToWrite (W.state writer.old) }
+    ensures { IfOk result (WroteSelection select.now (R.remaining reader)
+        (output (W.state writer.old) (W.state writer.new))) }
+{
+    let read = SelectionRead::of(alloc, seed, select, &mut FromReader::new(reader))?;
+    let done = Done::new(alloc)?;
+    let Selection {
+        lines,
+        status,
+        counts,
+        senders,
+        read,
+    } = Selection::of(alloc, select, read)?;
+    let done = done.of_select(select, &read, senders, status, &counts)?;
+    write_text(writer, &lines)?;
+    Ok(done)
 }

@@ -22,12 +22,16 @@ use crate::notes::Notes;
 use crate::other_sources::source_note;
 use crate::outcome::Reports;
 use crate::place_word::NamedOrigin;
+use crate::router_places::{at_several, greatest_interval};
 use crate::run_fault::{RunFault, Side};
 use crate::says::Says;
+use crate::select_job::Select;
 use crate::spelling::Spelling;
+use crate::told_routes::KeyCounts;
 use crate::trouble::{Trouble, say_hint};
 use crate::write::write_text;
 use babel_capture::{Gathered, Origin};
+use babel_prefix::Addr;
 use babel_table::Report;
 use babel_tlv::Reason;
 use std::alloc::{AllocError, Global};
@@ -48,6 +52,10 @@ pub struct Done {
     senders: Vec<ToldSender>,
     /// What there is to know of one of these.
     sender_notes: Notes,
+    /// What there is to know after all else.
+    last_notes: Notes,
+    /// The address of the router that selects which sends at several places, if one does.
+    several: Option<Addr>,
 }
 
 /// A sender in a capture that is told by itself.
@@ -129,6 +137,8 @@ impl Done {
             notes: Notes::new(alloc)?,
             senders: Vec::new(alloc),
             sender_notes: Notes::new(alloc)?,
+            last_notes: Notes::new(alloc)?,
+            several: None,
         })
     }
 
@@ -246,6 +256,27 @@ impl Done {
         self
     }
 
+    /// What came of `select`, of these senders, of which so many keys are told.
+    pub(crate) fn of_select(
+        mut self,
+        select: &Select,
+        read: &CaptureRead,
+        senders: Vec<ToldSender>,
+        status: u8,
+        counts: &KeyCounts,
+    ) -> Result<Done, AllocError>
+        ensures { IfOk result (λ done. done.status ≡ status) }
+    {
+        let interval = greatest_interval(select, &read.gathered);
+        self.notes
+            .add_capture(Side::First, capture_notes(read), interval)?;
+        self.last_notes.add_counts(select, counts)?;
+        self.several = at_several(select, &read.gathered);
+        self.status = status;
+        self.senders = senders;
+        Ok(self)
+    }
+
     /// Adds what there is to know of a capture, of which each sender is told by itself.
     pub(crate) fn add_capture(
         &mut self,
@@ -253,14 +284,8 @@ impl Done {
         each: &EachSender,
         read: &CaptureRead,
     ) -> Result<(), AllocError> {
-        let capture = CaptureNotes {
-            report: read.gathered.report(),
-            cut: read.cut,
-            are_apart: true,
-            expired_rows: 0,
-        };
         self.notes
-            .add_capture(side, capture, each.interval(&read.gathered))
+            .add_capture(side, capture_notes(read), each.interval(&read.gathered))
     }
 
     /// The exit status: the greatest of that of the run and those of the senders.
@@ -294,7 +319,18 @@ impl Done {
                 notes.write_json_of(&mut FromWriter::new(&mut writer), spelling, sender)?;
             }
         }
-        Ok(())
+        self.last_notes
+            .write_json(&mut FromWriter::new(&mut writer))
+    }
+}
+
+/// What the notes say of a capture, of which each sender is told by itself.
+fn capture_notes(read: &CaptureRead) -> CaptureNotes {
+    CaptureNotes {
+        report: read.gathered.report(),
+        cut: read.cut,
+        are_apart: true,
+        expired_rows: 0,
     }
 }
 
@@ -308,6 +344,21 @@ pub fn say_done<S: Says>(says: &mut S, asked: &Asked, done: &mut Done) {
     }
     for sender in &done.senders {
         say_sender(says, asked, sender, &mut done.sender_notes);
+    }
+    if !asked.is_quiet() {
+        say_last(says, done);
+    }
+}
+
+/// Says what there is to know after all else.
+fn say_last<S: Says>(says: &mut S, done: &Done) {
+    for note in done.last_notes.list() {
+        says.say(note);
+    }
+    if let Some(address) = done.several {
+        says.say(&format_args!(
+            "hint: {address} is at several places, and may be two routers: --interface names one"
+        ));
     }
 }
 

@@ -84,7 +84,7 @@ impl ReadSenders {
                     expired_rows,
                 },
             ) => {
-                self.count(captured.each, &table)?;
+                self.count(captured.each, table.rows().len())?;
                 let report = *table.report();
                 let read = Ok(DumpRead {
                     report,
@@ -100,11 +100,11 @@ impl ReadSenders {
         }
     }
 
-    /// Counts the rows of a table.
-    fn count(&mut self, each: &EachSender, table: &Table) -> Result<(), Trouble>
+    /// Counts so many rows more.
+    pub(crate) fn count(&mut self, each: &EachSender, rows: usize) -> Result<(), Trouble>
         ensures { IfErr result (λ trouble. misplaced_told trouble ≡ None) }
     {
-        match each.rows_with(self.rows, table.rows().len()) {
+        match each.rows_with(self.rows, rows) {
             Some(rows) => {
                 self.rows = rows;
                 Ok(())
