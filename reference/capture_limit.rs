@@ -18,7 +18,7 @@
 //! It reads blocks where they lie in one buffer, and each header of a frame where it lies in its
 //! block. Of a frame that has no Babel it reads some 20 octets; of one that has, its packet is
 //! copied once, into the dump, or its TLVs are read where they are: timeline.rs. It writes no notes
-//! and no hints.
+//! and no hints, and puts no fragments together: what is measured and compared has none.
 
 use std::collections::hash_map::{Entry, RandomState};
 use std::collections::HashMap;
@@ -168,7 +168,7 @@ impl fmt::Display for Fault {
             Fault::NoTime(at) => write!(f, "packet without a time at {at}"),
             Fault::Dump(text, at) => write!(f, "{text} at {at}"),
             Fault::TooManyInterfaces(at) => write!(f, "too many interfaces at {at}"),
-            Fault::Lacking(at, Lack::Fragment) => write!(f, "datagram in fragments at {at}"),
+            Fault::Lacking(at, Lack::Fragment) => write!(f, "fragments of a datagram missing at {at}"),
             Fault::Lacking(at, Lack::CutShort) => write!(f, "datagram cut short at {at}"),
             Fault::Lacking(at, Lack::Snapped) => {
                 write!(f, "datagram cut by the recorder at {at}")

@@ -1,6 +1,6 @@
 ghost use Rattle.std.specs.Prelude.{◌≡◌, ◌≤◌, ◌<◌, ◌+◌, ◌^◌, length, ◌-◌, ◌==◌, IfOk, IfErr, Ok};
 ghost use Rattle.std.specs.Prelude.{Err};
-ghost use Rattle.babel_capture.specs.Blocks.{section_with, sight_in};
+ghost use Rattle.babel_capture.specs.Passage.{section_with, sender_with, sight_in};
 ghost use Rattle.babel_capture.specs.Numbers.{number_at};
 ghost use Rattle.babel_capture.specs.Lengths.{header_len};
 ghost use Rattle.babel_capture.specs.Contents.{block_said, captured_of, content_of, file_said};
@@ -24,6 +24,7 @@ use crate::order::Order;
 use crate::seen::Seen;
 use crate::time::Time;
 use crate::window::{Moment, Window, is_between, is_empty};
+use babel_prefix::Addr;
 
 /// Types of blocks: draft-ietf-opsawg-pcapng, 4.2, 4.3, 4.4. The packet block is an old one, which
 /// the enhanced packet block replaced.
@@ -80,13 +81,23 @@ impl<'a> Packet<'a> {
         look(self.interface, self.link, self.frame, self.whole_len)
     }
 
+    /// Who sent the datagram that its frame is, if a router may read it.
+    pub(crate) fn sender(&self) -> Option<Addr>
+        ensures { result ≡ sender_with (sight_in (captured_of self.now)) }
+    {
+        match self.look() {
+            Seen::Datagram { ends, .. } => Some(ends.sender),
+            _ => None,
+        }
+    }
+
     /// The section where it came, if it is seen as a datagram of Babel.
     pub(crate) fn babel_section(&self, seen: &Seen<'_>) -> Option<u64>
         ensures { result ≡ section_with (captured_of self.now).section (sight_of seen.now) }
     {
         match seen {
             Seen::Datagram { .. } => Some(self.section),
-            Seen::Other | Seen::Short | Seen::Flawed { .. } => None,
+            Seen::Other | Seen::Short | Seen::Fragment(_) | Seen::Flawed { .. } => None,
         }
     }
 

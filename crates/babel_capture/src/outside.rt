@@ -3,6 +3,7 @@ use crate::finding::Finding;
 use crate::seen::Seen;
 use crate::time::Time;
 use crate::wanted::Wanted;
+use babel_prefix::Addr;
 
 /// What is told of the packets of the sender that is named, if one is, that are passed over for
 /// their place or their time.
@@ -31,20 +32,20 @@ impl Outside {
         finding: &Finding<'_>,
     ) {
         if let Finding::Passed = finding {
-            self.pass(wanted, packet, seen);
+            self.pass(wanted, packet, seen.sender());
         }
     }
 
     /// Notes a packet that was passed over for its time.
     pub(crate) fn pass_skipped(&mut self, wanted: &Wanted, packet: &Packet<'_>) {
         if self.first.is_none() && wanted.sender.is_some() {
-            self.pass(wanted, packet, &packet.look());
+            self.pass(wanted, packet, packet.sender());
         }
     }
 
-    /// Notes a packet that is passed over.
-    fn pass(&mut self, wanted: &Wanted, packet: &Packet<'_>, seen: &Seen<'_>) {
-        if self.first.is_none() && wanted.names(seen) {
+    /// Notes a packet that is passed over, and that this sender sent.
+    fn pass(&mut self, wanted: &Wanted, packet: &Packet<'_>, sender: Option<Addr>) {
+        if self.first.is_none() && sender.is_some() && sender == wanted.sender {
             self.first = packet.time();
         }
     }

@@ -22,7 +22,7 @@ use crate::interfaces::interfaces_of;
 use crate::left_out::first_left_out;
 use crate::packet_feeder::PacketFeeder;
 use crate::reading::Reading;
-use babel_capture::Capture;
+use babel_capture::{Capture, NoSink};
 use babel_table::Feeder;
 use babel_tlv::Fault;
 use std::alloc::Global;
@@ -43,10 +43,10 @@ pub(crate) fn read_captured<R: ByteIn>(
     let mut capture = capture_for(alloc, &how, reading.wanted());
     let fed = feed_all(&mut capture, &how, reader, &mut packets);
     if let Some(fault) = packets.feeder.fault() {
-        return Err(dump_refused(alloc, reading, &capture, fed, fault));
+        return Err(dump_refused(alloc, reading, &mut capture, fed, fault));
     }
     fed?;
-    let notes = end_of(alloc, reading, &capture)?;
+    let notes = end_of(alloc, reading, &mut capture)?;
     Ok(fed_by(reading, packets.feeder, capture.moment(), notes))
 }
 
@@ -55,16 +55,16 @@ pub(crate) fn read_captured<R: ByteIn>(
 fn dump_refused(
     alloc: Global,
     reading: &Reading,
-    capture: &Capture,
+    capture: &mut Capture,
     fed: Result<(), InputFault>,
     fault: Fault,
 ) -> InputFault
-    requires { OnOk fed (capture.now.fault ≡ None) }
+    requires { OnOk fed (capture.old.fault ≡ None) }
     ensures { ((result ≡ InputFault.Dump fault)
-        × (fault ≢ Fault.Memory → IsToldAfter fed capture.now))
+        × (fault ≢ Fault.Memory → IsToldAfter fed capture.old))
         ⊎ (IsErrAnd fed (λ refusal. result ≡ refusal))
-        ⊎ (IsOkAnd fed (λ _. (octets : List ℕ) → HasRead capture.now octets
-        → EndsRefused reading.now capture.now octets result)) }
+        ⊎ (IsOkAnd fed (λ _. (octets : List ℕ) → HasRead capture.old octets
+        → EndsRefused reading.now capture.old capture.new octets result)) }
 {
     if fault == Fault::Memory {
         return InputFault::Dump(fault);
@@ -80,15 +80,24 @@ fn dump_refused(
     }
 }
 
-/// What the notes say of a capture that was fed whole, or why it is refused at its end.
-fn end_of(alloc: Global, reading: &Reading, capture: &Capture) -> Result<CaptureNotes, InputFault>
-    requires { capture.now.fault ≡ None }
-    ensures ok { IfOk result (λ notes. (fed : List ℕ) → HasRead capture.now fed
-        → EndsWith reading.now capture.now fed notes) }
-    ensures err { IfErr result (λ fault. (fed : List ℕ) → HasRead capture.now fed
-        → EndsRefused reading.now capture.now fed fault) }
+/// Ends a capture that was fed whole: what the notes say of it, or why it is refused at its end.
+/// Nothing of the dump is in datagrams of which fragments are missing.
+fn end_of(
+    alloc: Global,
+    reading: &Reading,
+    capture: &mut Capture,
+) -> Result<CaptureNotes, InputFault>
+    requires { capture.old.fault ≡ None }
+    ensures same { (capture.new.limit ≡ capture.old.limit)
+        × (capture.new.progress.context ≡ capture.old.progress.context) }
+    ensures ok { IfOk result (λ notes. (fed : List ℕ) → HasRead capture.old fed
+        → EndsWith reading.now capture.old capture.new fed notes) }
+    ensures one_place { IfOk result
+        (λ _. length capture.old.progress.gathering.senders ≡ 1) }
+    ensures err { IfErr result (λ fault. (fed : List ℕ) → HasRead capture.old fed
+        → EndsRefused reading.now capture.old capture.new fed fault) }
 {
-    let read_to = capture.cut()?;
+    let read_to = capture.end(&mut NoSink)?;
     let cut = accepted(read_to, reading.accept_cut)?;
     let report = capture.gathered().report();
     if is_one_place(capture.gathered()) {

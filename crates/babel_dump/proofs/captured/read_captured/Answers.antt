@@ -13,7 +13,7 @@ returns g c =
     let is = fed_from reader c.in_ok-packets.packets c.feed_all-fed.new.sink c.feed_all-fed.new.capture (Ok tt) c.of_capture-how.result c.capture_for-capture.result.progress.gathering.wanted
     c.of_capture-how.ensures (c.capture_for-capture.ensures.wanted ∙ c.wanted.ensures) c.requires.capture fed.limit fed.wanted
     (record { heard = packets.heard; limits = packets.made.0; mode = packets.made.1; sender = packets.made.2; factor = packets.factor }) fed.took fed.gathered in
-    was_fed reader c.in_ok-packets.packets c.feed_all-fed.new.sink c.feed_all-fed.new.capture c.fed_by.result c.in_ok-notes.notes is c.in_ok-notes.ensures.ok c.fed_by.ensures.feeder
+    was_fed reader c.in_ok-packets.packets c.feed_all-fed.new.sink c.feed_all-fed.new.capture c.end_of-notes.new.capture c.end_of-notes.ensures.same.0 c.end_of-notes.ensures.same.1 c.fed_by.result c.in_ok-notes.notes is c.in_ok-notes.ensures.ok c.fed_by.ensures.feeder
     (search rules) c.fed_by.ensures.left_out c.fed_by.ensures.notes c.fed_by.ensures.noted
 
 pub returns-in-Some : goal.returns-in-Some
@@ -24,7 +24,7 @@ returns-in-Some g c =
     let is = fed_from reader c.in_ok-packets.packets c.feed_all-fed.new.sink c.feed_all-fed.new.capture c.feed_all-fed.result c.of_capture-how.result
     c.capture_for-capture.result.progress.gathering.wanted c.of_capture-how.ensures (c.capture_for-capture.ensures.wanted ∙ c.wanted.ensures) c.requires.capture fed.limit fed.wanted
     (record { heard = packets.heard; limits = packets.made.0; mode = packets.made.1; sender = packets.made.2; factor = packets.factor }) fed.took fed.gathered in
-    refused reader c.in_ok-packets.packets c.feed_all-fed.new.sink c.feed_all-fed.new.capture c.feed_all-fed.result c.in-Some.fault c.dump_refused.result is
+    refused reader c.in_ok-packets.packets c.feed_all-fed.new.sink c.feed_all-fed.new.capture c.dump_refused.new.capture c.feed_all-fed.result c.in-Some.fault c.dump_refused.result is
     (sym c.fault.ensures ∙ c.in-Some.is) c.dump_refused.ensures
 
 pub returns-in_err-fed : goal.returns-in_err-fed
@@ -47,4 +47,4 @@ returns-in_err-notes g c =
     let is = fed_from reader c.in_ok-packets.packets c.feed_all-fed.new.sink c.feed_all-fed.new.capture (Ok tt) c.of_capture-how.result c.capture_for-capture.result.progress.gathering.wanted
     c.of_capture-how.ensures (c.capture_for-capture.ensures.wanted ∙ c.wanted.ensures) c.requires.capture fed.limit fed.wanted
     (record { heard = packets.heard; limits = packets.made.0; mode = packets.made.1; sender = packets.made.2; factor = packets.factor }) fed.took fed.gathered in
-    rw (exit.1, exit.2) (not_ended reader c.in_ok-packets.packets c.feed_all-fed.new.sink c.feed_all-fed.new.capture c.in_err-notes.field-0.0 is c.in_err-notes.ensures.err)
+    rw (exit.1, exit.2) (not_ended reader c.in_ok-packets.packets c.feed_all-fed.new.sink c.feed_all-fed.new.capture c.end_of-notes.new.capture c.in_err-notes.field-0.0 is c.in_err-notes.ensures.err)

@@ -36,4 +36,4 @@ returns-clause-skipped g c at =
     } in
     subst (λ (v : Gathering). Sinks g.S.Sink.has c.args.sink.now c.take.new.self (GatherMore v new (skipped_of (v.report.packets + 1) at packet ∷ []))) c.self.view_is
     (sinks-told g.S.Sink.has c.args.sink.now c.take.new.self (GatherMore old new (next ∷ [])) telling (made_of next passed) told c.take.ensures
-    (gathered-push next old new passed refl c.count_skipped.ensures (passed-listed old.wanted.are_listed old.senders None) (λ few. few) tt refl refl))
+    (gathered-push next old new passed refl c.count_skipped.ensures (passed-listed old.wanted.are_listed old.senders None) (λ few. few) tt refl refl refl))
