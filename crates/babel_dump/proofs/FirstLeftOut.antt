@@ -130,14 +130,14 @@ module _ (made : List Made) (reason : Reason) where
   none_left : left_for made reason ≡ None → (one : Made) → Contains made one → IsLeftFor reason one → ⊥
   none_left e one c is = by left_out (left_there one c is) e
     where
-      by : (all : List Made) → Listed all one → option_map (λ (first : ℕ). (length (map number_of all), first)) (lowest (map number_of all)) ≡ None → ⊥
+      by : (all : List Made) → Listed all one → option_map {U = ℕ × ℕ} (λ (first : ℕ). (length (map number_of all), first)) (lowest (map number_of all)) ≡ None → ⊥
       by [] none e = elim none [ ]
       by (first ∷ all) t e = absurd cc
 
   left_none : ((one : Made) → Contains made one → IsLeftFor reason one → ⊥) → left_for made reason ≡ None
   left_none none = by left_out (λ one t. let there = there_left one t in none one there.0 there.1)
     where
-      by : (all : List Made) → ((one : Made) → Listed all one → ⊥) → option_map (λ (first : ℕ). (length (map number_of all), first)) (lowest (map number_of all)) ≡ None
+      by : (all : List Made) → ((one : Made) → Listed all one → ⊥) → option_map {U = ℕ × ℕ} (λ (first : ℕ). (length (map number_of all), first)) (lowest (map number_of all)) ≡ None
       by [] none = refl
       by (first ∷ all) none = absurd (none first (inl refl))
 

@@ -12,13 +12,13 @@ pub returns : goal.returns
 returns g c =
     let fed = c.in_ok-feed_all.ensures in
     let f = c.feed_all.new.capture in
-    let ended = c.end-end.new.self in
+    let ended = c.end.new.self in
     let cut = c.in_ok-cut.ensures.ok in
     let report : c.report.result ≡ ended.progress.gathering.report = search rules in
     record {
-      made = rw (← c.capture_for-capture.ensures.wanted) (given_read g.S.Sink.has c.args.sink.now c.feed_all.new.sink c.end-end.new.sink _ f ended
-          (record { limit = fed.limit; wanted = fed.wanted }) fed.gathered.made c.end-end.ensures.same.0 c.end-end.ensures.same.1 c.end-end.ensures.wanted _
-          (subst (λ (place : Option ℕ). Sinks g.S.Sink.has c.feed_all.new.sink c.end-end.new.sink (EndMore f.progress f.pending ended.progress.gathering place)) (sym cut.0)
+      made = rw (← c.capture_for-capture.ensures.wanted) (given_read g.S.Sink.has c.args.sink.now c.feed_all.new.sink c.end.new.sink _ f ended
+          (record { limit = fed.limit; wanted = fed.wanted }) fed.gathered.made c.end.ensures.same.0 c.end.ensures.same.1 c.end.ensures.wanted _
+          (subst (λ (place : Option ℕ). Sinks g.S.Sink.has c.feed_all.new.sink c.end.new.sink (EndMore f.progress f.pending ended.progress.gathering place)) (sym cut.0)
           c.in_ok-end.ensures.sunk)
           c.into_gathered.ensures cut.1 (λ strict. subst (λ (r : Counts). LeavesNoneOut r) report (c.in_ok-refuse_left_out.ensures.none strict)) c.moment-moment.ensures);
       cause = tt;
@@ -51,13 +51,13 @@ pub returns-in_err-cut : goal.returns-in_err-cut
 returns-in_err-cut g c =
     let fed = c.in_ok-feed_all.ensures in
     let f = c.feed_all.new.capture in
-    let ended = c.end-end.new.self in
+    let ended = c.end.new.self in
     let short = c.in_err-cut.ensures.err in
     let exit = err_from_is_err_and c.from_residual-in_err-cut.result c.from_residual-in_err-cut.ensures.1 in record {
       made = search rules;
       cause = rw (exit.1, exit.2, ← c.capture_for-capture.ensures.wanted) (λ _.
-          given_cut g.S.Sink.has c.args.sink.now c.feed_all.new.sink c.end-end.new.sink _ f ended (record { limit = fed.limit; wanted = fed.wanted }) fed.gathered.made
-          c.end-end.ensures.same.0 c.end-end.ensures.same.1 c.end-end.ensures.wanted short.1.0 _
+          given_cut g.S.Sink.has c.args.sink.now c.feed_all.new.sink c.end.new.sink _ f ended (record { limit = fed.limit; wanted = fed.wanted }) fed.gathered.made
+          c.end.ensures.same.0 c.end.ensures.same.1 c.end.ensures.wanted short.1.0 _
           (λ given read. subst (λ (place : Option ℕ). IsReadToCut f.limit given ended.progress.gathering place) short.1.1 (c.in_ok-end.ensures.ok given read))
           short.0 short.1.2);
       called = search rules;
@@ -67,7 +67,7 @@ pub returns-in_err-refuse_left_out : goal.returns-in_err-refuse_left_out
 returns-in_err-refuse_left_out g c =
     let fed = c.in_ok-feed_all.ensures in
     let f = c.feed_all.new.capture in
-    let ended = c.end-end.new.self in
+    let ended = c.end.new.self in
     let cut = c.in_ok-cut.ensures.ok in
     let first = c.in_err-refuse_left_out.ensures.first in
     let report : c.report.result ≡ ended.progress.gathering.report = search rules in
@@ -76,8 +76,8 @@ returns-in_err-refuse_left_out g c =
       cause = rw (exit.1, exit.2, first.3, ← c.capture_for-capture.ensures.wanted) (record {
         gathering = ended.progress.gathering;
         cut = c.in_ok-cut.cut;
-        given = given_capture g.S.Sink.has c.args.sink.now c.feed_all.new.sink c.end-end.new.sink _ f ended (record { limit = fed.limit; wanted = fed.wanted }) fed.gathered.made
-            c.end-end.ensures.same.0 c.end-end.ensures.same.1 c.end-end.ensures.wanted c.in_ok-cut.cut
+        given = given_capture g.S.Sink.has c.args.sink.now c.feed_all.new.sink c.end.new.sink _ f ended (record { limit = fed.limit; wanted = fed.wanted }) fed.gathered.made
+            c.end.ensures.same.0 c.end.ensures.same.1 c.end.ensures.wanted c.in_ok-cut.cut
             (λ given read. subst (λ (place : Option ℕ). IsReadToCut f.limit given ended.progress.gathering place) (sym cut.0) (c.in_ok-end.ensures.ok given read)) cut.1;
         strict = first.0;
         first = ap first_left_out (sym report) ∙ first.2;

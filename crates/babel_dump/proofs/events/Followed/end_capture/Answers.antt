@@ -12,19 +12,19 @@ returns-in_err-fault-clause-cause g c =
     err_exit c.from_residual.result c.from_residual.ensures.1 (λ trouble same fed told is.
     let some = c.in_err-fault.ensures.some in
     of_stop c.args.events.now (RefusesWhole c.args.events.now fed) ⊥ ⊥ ⊥ (RefusesToEnd c.args.events.now fed) some.0 trouble (same ∙ some.2)
-    (λ not_memory. record_at_end c.args.events.now fed told c.args.self.now is c.end-end.new.sink some.0
-    (sym c.say.ensures.same.3 ∙ some.1) not_memory c.end-end.new.self c.end-end.result c.end-end.ensures.sunk (c.end-end.ensures.stopped is.no_fault) c.end-end.ensures.wanted))
+    (λ not_memory. record_at_end c.args.events.now fed told c.args.self.now is c.end.new.sink some.0
+    (sym c.say.ensures.same.3 ∙ some.1) not_memory c.end.new.self c.end.result c.end.ensures.sunk (c.end.ensures.stopped is.no_fault) c.end.ensures.wanted))
 
 pub returns-in-Ok-Some-clause-cause : goal.returns-in-Ok-Some-clause-cause
 returns-in-Ok-Some-clause-cause g c fed told is =
     of_fault c.args.events.now (RefusesWhole c.args.events.now fed) ⊥ ⊥ ⊥ (RefusesToEnd c.args.events.now fed) (input_faults.Capture (capture_faults.CutShort c.in-Ok-Some.at)) c.of_capture.result c.of_capture.ensures
-    (λ not_memory. cut_refused c.args.events.now fed told c.args.self.now c.end-end.new.self c.in-Ok-Some.at is (rw c.in-Ok-Some.field-0-is at c.in-Ok-Some.ensures.ok) c.end-end.ensures.wanted (search rules))
+    (λ not_memory. cut_refused c.args.events.now fed told c.args.self.now c.end.new.self c.in-Ok-Some.at is (rw c.in-Ok-Some.field-0-is at c.in-Ok-Some.ensures.ok) c.end.ensures.wanted (search rules))
 
 pub returns-in-Ok-clause-ended : goal.returns-in-Ok-clause-ended
 returns-in-Ok-clause-ended g c fed told is =
     let said = c.say.ensures.same in
-    followed_to_end c.args.events.now fed told c.args.self.now c.in-Ok.cut is c.end-end.new.self c.end-end.new.sink _ refl said.1 (ap (λ t. t.items) said.2) c.say.ensures.senders c.say.ensures.others c.in-Ok.ensures.sunk
-    (sym said.3 ∙ c.in_ok-fault.ensures.none) (search rules) c.end-end.ensures.same.0 c.end-end.ensures.same.1 c.end-end.ensures.wanted
+    followed_to_end c.args.events.now fed told c.args.self.now c.in-Ok.cut is c.end.new.self c.end.new.sink _ refl said.1 (ap (λ t. t.items) said.2) c.say.ensures.senders c.say.ensures.others c.in-Ok.ensures.sunk
+    (sym said.3 ∙ c.in_ok-fault.ensures.none) (search rules) c.end.ensures.same.0 c.end.ensures.same.1 c.end.ensures.wanted
 
 pub returns-in-Err-clause-cause : goal.returns-in-Err-clause-cause
 returns-in-Err-clause-cause g c fed told is =
