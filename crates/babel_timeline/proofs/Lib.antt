@@ -19,3 +19,4 @@ pub mod CountLaws
 pub mod SilenceTold
 pub mod WatchTold
 pub mod RefusedLaws
+pub mod CountTold

@@ -1,6 +1,6 @@
 -- What makes a change.
-use Rattle.std.proofs.Common.{◌≡◌, ℕ, zero, suc, ◌<◌, Bool, true, false, cond, ◌⊎◌, inl, inr, List, [], ◌∷◌, ◌++◌, map, Option, Some, None, refl, sym, ap, subst, ◌∙◌, arith}
-use Rattle.std.specs.Prelude.{IfSome, option_to_list, slice_index_or}
+use Rattle.std.proofs.Common.{◌≡◌, ℕ, zero, suc, Bool, true, false, cond, ◌⊎◌, inl, inr, List, [], ◌∷◌, ◌++◌, map, Option, Some, None, refl, sym, ap, subst, ◌∙◌, arith}
+use Rattle.std.specs.Prelude.{IfSome, option_to_list}
 use Rattle.std.specs.declared.cmp.Ordering.{Ordering}
 use Rattle.std.specs.BTreeMap.{is_at}
 use Rattle.std.specs.List.{AllByRecursion, Contains, filter}
@@ -15,7 +15,7 @@ use Rattle.babel_tlv.specs.declared.mode.Mode.TheVariants as modes
 use Rattle.babel_tlv.specs.declared.reason.Reason.{Reason}
 use Rattle.babel_tlv.specs.Route.{Announcement, RouteKey}
 use Rattle.babel_table.specs.Holds.{same_key}
-use Rattle.babel_table.specs.Moments.{Stamp, Told, Word, word}
+use Rattle.babel_table.specs.Moments.{Stamp, Word, word}
 use Rattle.babel_table.proofs.HoldsLaws.{same_key-decides}
 use Rattle.babel_table.proofs.MomentLaws.{words_from}
 use Rattle.babel_timeline.specs.declared.change.Change.{Change}
@@ -25,7 +25,7 @@ use Rattle.babel_timeline.specs.declared.row.Row.{Row}
 use Rattle.babel_timeline.specs.declared.subject.Subject.{Subject}
 use Rattle.babel_timeline.specs.Accounts.{IsMade, Makes, Said, said, said_by, word_on}
 use Rattle.babel_timeline.specs.Changes.{TellsAnnouncement, change, ending}
-use Rattle.babel_timeline.specs.Rows.{end_of, row_at}
+use Rattle.babel_timeline.specs.Rows.{end_of}
 use Rattle.babel_timeline.proofs.WordLaws.{all_more, next, none_left}
 
 -- ---- lists

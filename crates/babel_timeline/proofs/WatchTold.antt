@@ -1,29 +1,27 @@
 -- Who is told to be silent is, step by step.
 use Rattle.std.proofs.Common.{◌≡◌, ℕ, ◌+◌, ◌*◌, ◌<◌, ◌≤◌, Bool, true, false, cond, ◌⊎◌, inl, inr, List, [], ◌∷◌, ◌++◌, map, fold, Option, Some, None, refl, sym, ap, subst, ◌∙◌, arith, append_assoc}
-use Rattle.std.specs.Prelude.{◌&&◌, ◌||◌, ◌↔◌, not, nat_lt, is_none}
+use Rattle.std.specs.Prelude.{◌&&◌, ◌||◌, not, nat_lt}
 use Rattle.std.specs.declared.cmp.Ordering.{Ordering}
 use Rattle.std.specs.Cmp.{IsTotalOrder}
 use Rattle.std.specs.BTreeMap.{is_at}
 use Rattle.std.specs.List.{AllByRecursion, Contains, cons_option, filter_map}
-use Rattle.std.specs.Option.{is_some}
 use Rattle.std.proofs.lemmas.Bool.Decides.{nat_tests}
-use Rattle.std.proofs.lemmas.List.{append-nil, map-append}
+use Rattle.std.proofs.lemmas.List.{append-nil}
 use Rattle.std.proofs.lemmas.List.Elements.{Contains-append_left}
 use Rattle.std.proofs.lemmas.List.Sums.{fold-append}
 use Rattle.std.proofs.lemmas.Map.Lookups.{CmpEqualImpliesEq}
 use Rattle.babel_prefix.proofs.Insertion.{equal_of}
 use Rattle.babel_tlv.specs.declared.hello.Hello.{Hello}
 use Rattle.babel_tlv.specs.Framing.{TlvAt}
-use Rattle.babel_tlv.specs.Hellos.{hello_of, is_scheduled}
+use Rattle.babel_tlv.specs.Hellos.{hello_of}
 use Rattle.babel_table.specs.Moments.{Stamp, end_after}
 use Rattle.babel_timeline.specs.declared.change.Change.{Change}
 use Rattle.babel_timeline.specs.declared.telling.Telling.{Telling}
 use Rattle.babel_timeline.specs.declared.telling.Telling.TheVariants as tellings
 use Rattle.babel_timeline.specs.declared.watch.Silence.{Silence}
-use Rattle.babel_timeline.specs.Rows.{Rows}
-use Rattle.babel_timeline.specs.Silence.{FallsSilent, IsSilentAt, IsWatch, NoneFallsSilent, TakesHello, Watching, awaited, is_silent, last_hello, patience}
+use Rattle.babel_timeline.specs.Silence.{FallsSilent, IsSilentAt, NoneFallsSilent, TakesHello, Watching, awaited, is_silent, last_hello, patience}
 use Rattle.babel_timeline.specs.SilencesTold.{IsSo, IsWatched, IsWatchedWhole, TellsReturns, TellsSilences, TellsWhoIsSilent, hello_at, hellos_among, interval_of, is_told_silent, scheduled, silent_after, watches}
-use Rattle.babel_timeline.specs.Telling.{AskedFor, IsTold}
+use Rattle.babel_timeline.specs.Telling.{AskedFor}
 use Rattle.babel_timeline.proofs.MadeLaws.{all_map, has_first, has_last, has_later}
 use Rattle.babel_timeline.proofs.WatchLaws.{awaited_last, hello_keeps, one_some, silence_keeps, silent_told, still_expired}
 use Rattle.babel_timeline.proofs.WordLaws.{all_more}

@@ -1,6 +1,6 @@
 -- What is told of who is silent: this project's own.
 use Rattle.std.specs.Prelude.{◌≡◌, ◌↔◌, ℕ, ◌≤◌, Bool, true, false, not, ◌&&◌, ◌||◌, is_none}
-use Rattle.std.specs.Prelude.{if◌then◌else◌, List, ◌++◌, fold, map, Option, Some, None}
+use Rattle.std.specs.Prelude.{if◌then◌else◌, List, [], ◌∷◌, ◌++◌, fold, map, Option, Some, None}
 use Rattle.std.specs.declared.cmp.Ordering.{Ordering}
 use Rattle.std.specs.BTreeMap.{is_at}
 use Rattle.std.specs.List.{AllByRecursion, Contains, filter_map}
@@ -12,9 +12,10 @@ use Rattle.babel_table.specs.Moments.{Stamp, end_after}
 use Rattle.babel_timeline.specs.declared.telling.Telling.{Telling}
 use Rattle.babel_timeline.specs.declared.telling.Telling.TheVariants as tellings
 use Rattle.babel_timeline.specs.RequestsTold.{body_of}
+use Rattle.babel_timeline.specs.Rows.{Rows}
 use Rattle.babel_timeline.specs.Silence.{IsSilentAt, IsWatch, NoneFallsSilent, Watching, is_silent}
-use Rattle.babel_timeline.specs.Silence.{patience}
-use Rattle.babel_timeline.specs.Telling.{AskedFor}
+use Rattle.babel_timeline.specs.Silence.{patience, row_count}
+use Rattle.babel_timeline.specs.Telling.{AskedFor, TellsEnds, of_rows}
 
 -- whether it is told who is silent: where each change is told, and rows end
 abbrev pub watches : Option ℕ → AskedFor → Bool
@@ -104,3 +105,41 @@ module _ {S : Type 0} (cmp : S → S → Ordering) where
       (hellos : List (S × Stamp)) (before : List (Telling S))
       → IsWatchedWhole hellos time (before ++ old) was
       → IsWatchedWhole (hellos ++ more) time (before ++ new) now
+
+-- ---- how many rows who falls silent holds
+
+-- it is told that senders return, and nothing else
+abbrev pub TellsOnlyReturns : {S : Type 0} → (time : ℕ) → (old new : List (Telling S)) → Type 0
+TellsOnlyReturns {S = S} time old new =
+    (senders : List S) × (new ≡ old ++ map (tellings.Returns time) senders)
+
+-- where this was told, so many rows of a sender are left at a time
+abbrev pub Leaving : Type 0 → Type 1
+Leaving S = (told : List (Telling S)) → (time : ℕ) → S → (routes : ℕ) → Type 0
+
+module _ {S : Type 0} (Leaves : Leaving S) where
+  -- who falls silent holds as many rows as are left then, where this was told
+  abbrev pub CountsRows : (told : List (Telling S)) → Telling S → Type 0
+  CountsRows told (tellings.Change change) = Unit {0}
+  CountsRows told (tellings.Answer time sender answer before) = Unit {0}
+  CountsRows told (tellings.Request time sender to request) = Unit {0}
+  CountsRows told (tellings.Silent time sender since routes) = Leaves told time sender routes
+  CountsRows told (tellings.Returns time sender) = Unit {0}
+
+  -- and so does each who is told besides, one after another
+  abbrev pub EachCounts : (told more : List (Telling S)) → Type 0
+  EachCounts told [] = Unit {0}
+  EachCounts told (one ∷ more) = CountsRows told one × EachCounts (told ++ one ∷ []) more
+
+module _ {S : Type 0} (cmp : S → S → Ordering) (factor : Option ℕ) (rows : Rows S)
+    (old : List (Telling S)) where
+  -- of these rows so many of the sender are left, once all that ends by the time was told, and this
+  pub record LeavesRows (told : List (Telling S)) (time : ℕ) (sender : S) (routes : ℕ) : Type 0
+    where
+      pub left : Rows S
+      pub ends : TellsEnds cmp factor None time rows left (of_rows None old) (of_rows None told)
+      pub are : routes ≡ row_count cmp sender left
+
+  -- with what is told anew, each who falls silent holds so many
+  abbrev pub TellsCounts : (new : List (Telling S)) → Type 0
+  TellsCounts new = (more : List (Telling S)) × (new ≡ old ++ more) × EachCounts LeavesRows old more

@@ -28,6 +28,8 @@
 //!   then (RFC 8966, 3.4.1): each that falls silent by a time is told, once, in order; and its next
 //!   such Hello ends it. — `laws::silent_are_told` · *begun*, *hello*, *silence*, *told*;
 //!   `Watch::fall_silent` · *none*, *first*; `hear` · *returns*, *taken*
+//! - It is told with how many rows the sender has, once all that ends by then is told. —
+//!   `Teller::hear`, `expire` · *holding* (`TellsCounts`)
 #![tactic(auto)]
 
 mod asked;

@@ -7,8 +7,9 @@ ghost use Rattle.babel_timeline.specs.Hearing.{CountsAt, CountsPacket, octets_he
 ghost use Rattle.babel_timeline.specs.Hearing.{report_of};
 ghost use Rattle.babel_timeline.specs.Refusing.{RefusesPacket};
 ghost use Rattle.babel_timeline.specs.Rows.{AllLast};
-ghost use Rattle.babel_timeline.specs.SilencesTold.{TellsReturns, TellsSilences, hellos_among};
-ghost use Rattle.babel_timeline.specs.SilencesTold.{hellos_heard, scheduled, watches};
+ghost use Rattle.babel_timeline.specs.SilencesTold.{TellsCounts, TellsOnlyReturns, TellsReturns};
+ghost use Rattle.babel_timeline.specs.SilencesTold.{TellsSilences, hellos_among, hellos_heard};
+ghost use Rattle.babel_timeline.specs.SilencesTold.{scheduled, watches};
 ghost use Rattle.babel_timeline.specs.Telling.{Hears, TellsEnds, of_rows};
 ghost use Rattle.babel_timeline.specs.Taking.{KeepsBounds};
 
@@ -108,6 +109,8 @@ fn expire_watched<S: Sender>(
     ensures last { OnOk result (AllLast S.cmp timeline.old.factor until timeline.new.rows) }
     ensures silences { OnOk result
         (TellsSilences S.cmp [] until told.old.items told.new.items watch.old watch.new) }
+    ensures holding { OnOk result (TellsCounts S.cmp timeline.old.factor timeline.old.rows
+        told.old.items told.new.items) }
 {
     while let Some(silence) = watch.fall_silent(until)? {
         interest.expire(timeline, silence.time, told)?;
@@ -129,6 +132,7 @@ fn hear_hellos<S: Sender>(
     ensures rows { OnOk result (of_rows None told.new.items ≡ of_rows None told.old.items) }
     ensures returns { OnOk result (TellsReturns S.cmp (hellos_heard sender time packet.now) time
         told.old.items told.new.items watch.old watch.new) }
+    ensures only { OnOk result (TellsOnlyReturns time told.old.items told.new.items) }
 {
     let [_, _, _, _, body @ ..] = packet else {
         return Ok(());
@@ -153,6 +157,7 @@ fn hear_hello<S: Sender>(
     ensures returns { OnOk result (TellsReturns S.cmp
         (hellos_among sender time (tlv_value tlv.now ∷ [])) time told.old.items told.new.items
         watch.old watch.new) }
+    ensures only { OnOk result (TellsOnlyReturns time told.old.items told.new.items) }
 {
     let Some(interval) = scheduled(tlv) else {
         return Ok(());
@@ -220,6 +225,9 @@ impl<S: Sender> Teller<S> {
         ensures silences { watches self.old.timeline.factor self.old.interest.asked ≡ true
             → OnOk result (TellsSilences S.cmp [] until told.old.items told.new.items
             self.old.watch self.new.watch) }
+        ensures holding { watches self.old.timeline.factor self.old.interest.asked ≡ true
+            → OnOk result (TellsCounts S.cmp self.old.timeline.factor self.old.timeline.rows
+            told.old.items told.new.items) }
     {
         if self.is_watching() {
             let timeline = &mut self.timeline;
@@ -262,6 +270,7 @@ impl<S: Sender> Teller<S> {
         ensures returns { watches self.old.timeline.factor self.old.interest.asked ≡ true
             → OnOk result (TellsReturns S.cmp (hellos_heard sender time packet.now) time
             told.old.items told.new.items self.old.watch self.new.watch) }
+        ensures only { OnOk result (TellsOnlyReturns time told.old.items told.new.items) }
     {
         if self.is_watching() {
             return hear_hellos(&mut self.watch, sender, time, packet, told);
@@ -306,6 +315,9 @@ impl<S: Sender> Teller<S> {
         ensures silences { watches self.old.timeline.factor self.old.interest.asked ≡ true
             → OnOk result (TellsSilences S.cmp (hellos_heard sender time packet.now) time
             told.old.items told.new.items self.old.watch self.new.watch) }
+        ensures holding { watches self.old.timeline.factor self.old.interest.asked ≡ true
+            → OnOk result (TellsCounts S.cmp self.old.timeline.factor self.old.timeline.rows
+            told.old.items told.new.items) }
         // What changes by the TLVs before a fault is told, too.
         ensures refused { IfErr result (λ fault. fault ≢ Fault.Memory
             → RefusesPacket S.cmp self.old.timeline.limit self.old.interest.asked sender

@@ -4,6 +4,7 @@ use Rattle.babel_tlv.specs.Frames.{tlv_value}
 use Rattle.babel_table.specs.Moments.{Stamp}
 use Rattle.babel_timeline.specs.Silence.{TakesHello, is_silent}
 use Rattle.babel_timeline.specs.SilencesTold.{scheduled}
+use Rattle.babel_timeline.proofs.CountTold.{returns_none, returns_one}
 use Rattle.babel_timeline.proofs.TakingLaws.{on_ok_then}
 use Rattle.babel_timeline.proofs.WatchTold.{hello_heard}
 use Rattle.babel_timeline.proofs.teller.hear_hello.Goals as goal
@@ -24,3 +25,13 @@ returns-clause-returns g c =
     hello_heard g.S.Ord.cmp g.met.S.Ord.total g.met.S.Sender.exact c.args.sender c.args.time c.in-Some.interval c.args.watch.now c.hear.new.self
     (subst (λ (h : Stamp). TakesHello g.S.Ord.cmp c.args.sender h c.args.watch.now c.hear.new.self) c.new.ensures c.in_ok-hear.ensures.taken)
     (tlv_value c.args.tlv.now) c.args.told.now.items c.args.told.now.items false here silent refl
+
+pub returns-then-branch-clause-only : goal.returns-then-branch-clause-only
+returns-then-branch-clause-only g c =
+    on_ok_then c.add_return.result c.add_return.ensures (returns_one c.args.time c.args.sender c.args.told.now.items c.add_return.new.told.items)
+
+pub returns-clause-only : goal.returns-clause-only
+returns-clause-only g c = returns_none c.args.time c.args.told.now.items
+
+pub returns-in_default-clause-only : goal.returns-in_default-clause-only
+returns-in_default-clause-only g c = returns_none c.args.time c.args.told.now.items

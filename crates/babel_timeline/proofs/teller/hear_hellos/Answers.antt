@@ -6,6 +6,7 @@ use Rattle.babel_tlv.specs.Framing.{TlvAt, tlvs_of}
 use Rattle.babel_tlv.specs.Left.{tlvs_left}
 use Rattle.babel_table.specs.Moments.{Stamp}
 use Rattle.babel_timeline.specs.SilencesTold.{TellsReturns, hellos_among}
+use Rattle.babel_timeline.proofs.CountTold.{returns_more, returns_none}
 use Rattle.babel_timeline.proofs.WatchTold.{first_hello, nothing, returns_then}
 use Rattle.babel_timeline.proofs.teller.hear_hellos.Goals as goal
 
@@ -14,6 +15,7 @@ loop-tlv-init g c =
     let packet = c.args.packet.now in
     record {
       rows = refl;
+      only = returns_none c.args.time c.args.told.now.items;
       returns = (
         [],
         ap (hellos_among c.args.sender c.args.time) (c.new-tlvs.ensures.left ∙ ap (tlvs_of 0) (take_all (length packet - 4) (drop 4 packet) (omega (arith, length-drop 4 packet)))),
@@ -29,6 +31,7 @@ loop-tlv-preserved g c =
     let left : List TlvAt = tlvs_left c.advance.new.self in
     record {
       rows = c.in_ok-hear_hello.ensures.rows ∙ c.loop-tlv.invariant.rows;
+      only = returns_more c.args.time c.args.told.now.items c.loop-tlv.told.items c.hear_hello.new.told.items c.loop-tlv.invariant.only c.in_ok-hear_hello.ensures.only;
       returns = (
         before.0 ++ here,
         append_assoc before.0 here (hellos_among c.args.sender c.args.time left)
@@ -44,3 +47,6 @@ returns-clause-returns g c =
     let none : tlvs_left c.loop-tlv.tlvs ≡ [] = (rw c.in_default-advance.is at c.advance.ensures.next).0 in
     subst (λ (h : List (g.row.S.Denot × Stamp)). TellsReturns g.S.Ord.cmp h c.args.time c.args.told.now.items c.loop-tlv.told.items c.args.watch.now c.loop-tlv.watch)
     (sym (append-nil last.0) ∙ ap (λ (t : List TlvAt). last.0 ++ hellos_among c.args.sender c.args.time t) (sym none) ∙ last.1) last.2
+
+pub returns-clause-only : goal.returns-clause-only
+returns-clause-only g c = c.loop-tlv.invariant.only

@@ -11,6 +11,7 @@ use Rattle.babel_table.specs.Moments.{Stamp}
 use Rattle.babel_timeline.specs.Silence.{Watching}
 use Rattle.babel_timeline.specs.SilencesTold.{TellsSilences, hellos_heard, watches}
 use Rattle.babel_timeline.specs.Telling.{AskedFor, Hears, IsTold, TellsEnds, of_rows}
+use Rattle.babel_timeline.proofs.CountTold.{counts_changes, counts_returns}
 use Rattle.babel_timeline.proofs.RefusedLaws.{if_err_so, refuses_then}
 use Rattle.babel_timeline.proofs.SilenceTold.{hears_then}
 use Rattle.babel_timeline.proofs.TakingLaws.{on_ok_then}
@@ -54,6 +55,19 @@ returns-clause-silences g c watching =
     (silences_then cmp g.met.S.Ord.total g.met.S.Sender.exact c.args.time more c.args.told.now.items c.expire.new.told.items c.hear_hellos.new.told.items c.hear_packet.new.told.items
     old.watch c.expire.new.self.watch c.hear_hellos.new.self.watch hears.tells.changes (c.in_ok-expire.ensures.silences watching) (c.in_ok-hear_hellos.ensures.returns still)
     (subst (λ (q : AskedFor). IsTold cmp q hears.tells.changes c.hear_hellos.new.self.timeline.rows c.hear_packet.new.self.timeline.rows c.hear_hellos.new.told.items c.hear_packet.new.told.items) none hears.tells.told)))
+
+-- How many rows who fell silent holds is told.
+pub returns-clause-holding : goal.returns-clause-holding
+returns-clause-holding g c watching =
+    let cmp = g.S.Ord.cmp in
+    let old = c.args.self.now in
+    let told = c.args.told.now.items in
+    let hellos = c.hear_hellos.new.told.items in
+    let none : c.hear_hellos.new.self.interest.asked ≡ None = ap (λ (i : Interest). i.asked) (c.hear_hellos.ensures.same.1 ∙ c.expire.ensures.same.1) ∙ watches_all old.timeline.factor old.interest.asked watching in
+    on_ok_then c.hear_packet.result c.hear_packet.ensures.ok (λ hears.
+    counts_changes cmp old.timeline.factor old.timeline.rows told hellos c.hear_packet.new.told.items hears.tells.changes
+    (subst (λ (q : AskedFor). IsTold cmp q hears.tells.changes c.hear_hellos.new.self.timeline.rows c.hear_packet.new.self.timeline.rows hellos c.hear_packet.new.told.items) none hears.tells.told)
+    (counts_returns cmp old.timeline.factor old.timeline.rows told c.expire.new.told.items hellos c.args.time c.in_ok-hear_hellos.ensures.only (c.in_ok-expire.ensures.holding watching)))
 
 -- What changed by the TLVs before a fault is told behind what ended.
 pub returns-clause-refused : goal.returns-clause-refused

@@ -1,5 +1,5 @@
 -- The last subject up to the sender's key is the sender's, or none is.
-use Rattle.std.proofs.Common.{◌≡◌, ◌∙◌, false, true, refl, sym}
+use Rattle.std.proofs.Common.{◌≡◌, ◌∙◌, false, true, sym}
 use Rattle.std.specs.BTreeMap.Range.{IsLeBy}
 use Rattle.babel_timeline.specs.Places.{rows_of}
 use Rattle.babel_timeline.specs.Rows.{subject_cmp, subject_of}
