@@ -9,6 +9,7 @@ use Rattle.babel_capture.specs.Counts.{Made}
 use Rattle.babel_capture.specs.Reading.{HasTaken}
 use Rattle.babel_capture.specs.Window.{Extent}
 use Rattle.babel_dump.proofs.CaptureFeeding.{unread}
+use Rattle.babel_dump.proofs.EventsRuns.{of_none}
 use Rattle.babel_tlv.specs.declared.start.Start.{Start}
 use Rattle.babel_tlv.specs.Context.{first_context}
 use Rattle.babel_tlv.specs.declared.view.View.{View}
@@ -17,7 +18,7 @@ use Rattle.babel_timeline.specs.declared.teller.Teller.{Teller}
 use Rattle.babel_timeline.specs.declared.telling.Telling.{Telling}
 use Rattle.babel_timeline.specs.Rows.{Rows}
 use Rattle.babel_timeline.specs.Silence.{Watching}
-use Rattle.babel_timeline.specs.SilencesTold.{TellsSilences, hellos_heard, watches}
+use Rattle.babel_timeline.specs.SilencesTold.{TellsCounts, TellsSilences, hellos_heard, watches}
 use Rattle.babel_timeline.specs.Telling.{AskedFor, Hears, TellsEnds, of_rows, said_of}
 use Rattle.babel_timeline.specs.Hearing.{CountsPacket}
 use Rattle.babel_dump.specs.EventsRun.{asked_by, followed_by, followed_extent, speaker_at}
@@ -38,10 +39,6 @@ both_ok P Q (Err e) p q = tt
 pub same_rows : (P : Rows Speaker → Type 0) (old new : Teller Speaker) → new ≡ old → P old.timeline.rows → P new.timeline.rows
 same_rows P old new same p = subst (λ (t : Teller Speaker). P t.timeline.rows) (sym same) p
 
-of_none : (asked : AskedFor) → of_rows {S = Speaker} asked [] ≡ []
-of_none None = refl
-of_none (Some pair) = refl
-
 pub suits_still : (old new : Teller Speaker) (events : Events) → (new.timeline.factor ≡ old.timeline.factor) × (new.interest ≡ old.interest) → new.timeline.limit ≡ old.timeline.limit → Suits events old
     → Suits events new
 suits_still old new events same limit suits = record {
@@ -61,6 +58,12 @@ module _ (cmp : Speaker → Speaker → Ordering) (order : cmp ≡ speaker_cmp) 
   silences_so more time old new now silences watching =
       subst (λ (k : Speaker → Speaker → Ordering). TellsSilences k more time old new teller.watch now) order (silences (watching_so watching))
 
+  pub counts_told_so : (before told : List (Telling Speaker)) → (watches teller.timeline.factor teller.interest.asked ≡ true → TellsCounts cmp teller.timeline.factor teller.timeline.rows before told)
+      → watches events.expiry (asked_by events) ≡ true → TellsCounts speaker_cmp events.expiry teller.timeline.rows before told
+  counts_told_so before told counts watching =
+      subst (λ (f : Option ℕ). TellsCounts speaker_cmp f teller.timeline.rows before told) suits.factor
+      (subst (λ (k : Speaker → Speaker → Ordering). TellsCounts k teller.timeline.factor teller.timeline.rows before told) order (counts (watching_so watching)))
+
   pub hears_packet : (origin : Origin) (via : Bool) → via ≡ events.limits.via_v6 → (time at : ℕ) (packet : List ℕ) (new : Teller Speaker) (before told : List (Telling Speaker))
       → (new.timeline.factor ≡ teller.timeline.factor) × (new.interest ≡ teller.interest) → new.timeline.limit ≡ teller.timeline.limit
       → Hears cmp teller.timeline.factor teller.interest.asked teller.interest.view (speaker_at origin)
@@ -68,8 +71,9 @@ module _ (cmp : Speaker → Speaker → Ordering) (order : cmp ≡ speaker_cmp) 
       (of_rows teller.interest.asked before) (of_rows teller.interest.asked told)
       → CountsPacket cmp (speaker_at origin) (record { sender = origin.sender; via_v6 = via }) packet teller.heard.entries new.heard.entries
       → (watches teller.timeline.factor teller.interest.asked ≡ true → TellsSilences cmp (hellos_heard (speaker_at origin) time packet) time before told teller.watch new.watch)
+      → (watches teller.timeline.factor teller.interest.asked ≡ true → TellsCounts cmp teller.timeline.factor teller.timeline.rows before told)
       → HearsPacket events origin time packet teller new before told
-  hears_packet origin via via_is time at packet new before told same limit hears counts silences =
+  hears_packet origin via via_is time at packet new before told same limit hears counts silences counted =
       let begin : Bool → Start = λ v. record { sender = origin.sender; via_v6 = v } in
       let rows = teller.timeline.rows in
       let after = new.timeline.rows in
@@ -86,6 +90,7 @@ module _ (cmp : Speaker → Speaker → Ordering) (order : cmp ≡ speaker_cmp) 
         counts = subst (λ (k : Speaker → Speaker → Ordering). CountsPacket k (speaker_at origin) (begin events.limits.via_v6) packet teller.heard.entries new.heard.entries) order
             (subst (λ (v : Bool). CountsPacket cmp (speaker_at origin) (begin v) packet teller.heard.entries new.heard.entries) via_is counts);
         silences = silences_so (hellos_heard (speaker_at origin) time packet) time before told new.watch silences;
+        counts_rows = counts_told_so before told counted;
       }
 
   pub ends_tell_so : (until : ℕ) (rows after : Rows Speaker) (new : List (Telling Speaker))

@@ -83,6 +83,10 @@ told_more (Some pair) changes more rows after before here are (answers, is, keep
 
 -- ---- records
 
+pub of_none : (asked : AskedFor) → of_rows {S = Speaker} asked [] ≡ []
+of_none None = refl
+of_none (Some pair) = refl
+
 told_none : (asked : AskedFor) → AreTold asked [] [] []
 told_none None = refl
 told_none (Some pair) = no_answers speaker_cmp speaker_total speaker_exact pair
@@ -147,15 +151,13 @@ module _ (events : Events) where
         (ends_tell speaker_cmp speaker_total speaker_exact events.expiry (asked_by events) time rows after [] (of_rows (asked_by events) here) ends) have
 
     -- one that gives a packet
-    pub told_of_packet : (time : ℕ) (origin : Origin) (packet : List ℕ) (said : List (Said Speaker)) (rows mid after : Rows Speaker) (told here : Tellings) → time_of one.came ≡ Some time
+    pub told_of_packet : (time : ℕ) (origin : Origin) (packet : List ℕ) (said : List (Said Speaker)) (rows after : Rows Speaker) (here : Tellings) → time_of one.came ≡ Some time
         → Some origin ≡ origin_found one.what → packet ≡ octets_found one.what → IsSaid events time origin.place origin.sender packet said
-        → TellsEnds speaker_cmp events.expiry (asked_by events) time rows mid [] (of_rows (asked_by events) told)
-        → Tells speaker_cmp events.expiry (asked_by events) said time mid after (of_rows (asked_by events) told) (of_rows (asked_by events) here)
+        → Tells speaker_cmp events.expiry (asked_by events) said time rows after (of_rows (asked_by events) []) (of_rows (asked_by events) here)
         → HaveTold events None made before rows → HaveTold events None (made ++ one ∷ []) (before ++ here) after
-    told_of_packet time origin packet said rows mid after told here came is octets is_said ends tells have =
+    told_of_packet time origin packet said rows after here came is octets is_said tells have =
         told_timed time said rows after here came (says_packet events time one.what origin packet said is octets is_said)
-        (tells_then speaker_cmp speaker_total speaker_exact events.expiry (asked_by events) [] said time rows mid after [] (of_rows (asked_by events) told) (of_rows (asked_by events) here)
-        (ends_tell speaker_cmp speaker_total speaker_exact events.expiry (asked_by events) time rows mid [] (of_rows (asked_by events) told) ends) tells) have
+        (subst (λ (t : Tellings). Tells speaker_cmp events.expiry (asked_by events) said time rows after t (of_rows (asked_by events) here)) (of_none (asked_by events)) tells) have
 
   -- what expires besides, up to a moment
   pub told_until : (made : List Made) (moment : ℕ) (rows after : Rows Speaker) (before here : Tellings)

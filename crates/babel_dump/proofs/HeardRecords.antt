@@ -32,18 +32,18 @@ use Rattle.babel_timeline.specs.Hearing.{CountsPacket, heard_of, nothing_heard}
 use Rattle.babel_timeline.proofs.WordLaws.{IsInner, snoc_split}
 use Rattle.babel_timeline.specs.declared.teller.Teller.{Teller}
 use Rattle.babel_timeline.specs.declared.telling.Telling.{Telling}
-use Rattle.babel_timeline.specs.SilencesTold.{TellsSilences, hellos_heard, watches}
+use Rattle.babel_timeline.specs.SilencesTold.{TellsCounts, TellsSilences, hellos_heard, watches}
 use Rattle.babel_timeline.specs.Telling.{TellsEnds, of_rows}
 use Rattle.babel_dump.specs.EventText.{speaker_of}
 use Rattle.babel_dump.specs.EventText.{time_of as time_told}
-use Rattle.babel_dump.specs.EventsRun.{AreTlvsOf, HaveTold, HaveToldSo, OpensRightly, Step, TellsSilent, asked_by, first_time, have_come, is_from, is_heard, is_lost, is_of, last_time, made_in, packets_heard, requests_made, since_in, speaker_at, told_from, told_in, unlost, written_in}
+use Rattle.babel_dump.specs.EventsRun.{AreTlvsOf, CountsRoutes, HaveTold, HaveToldSo, OpensRightly, Step, TellsSilent, asked_by, first_time, have_come, is_from, is_heard, is_lost, is_of, last_time, made_in, packets_heard, requests_made, since_in, speaker_at, told_from, told_in, unlost, written_in}
 use Rattle.babel_dump.specs.Followed.{HasHeard, HearsPacket, HearsRecord, IsHeardOf, KnowsSilent, Suits, TellsFrom, TellsNext, unlost_by}
 use Rattle.babel_dump.specs.Speakers.{speaker_cmp, speaker_exact}
 use Rattle.babel_dump.specs.declared.events_job.Events.{Events}
 use Rattle.babel_dump.specs.declared.hearing.Hearing.{Hearing}
 use Rattle.babel_dump.specs.declared.speaker.Speaker.{Speaker}
 use Rattle.babel_dump.proofs.EventsFollowed.{suits_still}
-use Rattle.babel_dump.proofs.SilentRuns.{its_hellos, knows_none, knows_timed, knows_untimed, no_hellos, silences_both, tells_now}
+use Rattle.babel_dump.proofs.SilentRuns.{counts_none, counts_so, its_hellos, knows_none, knows_timed, knows_untimed, no_hellos, tells_now}
 use Rattle.babel_dump.proofs.EventsRuns.{Tellings, told_of_no_packet, told_of_none, told_of_packet, told_untimed}
 use Rattle.babel_dump.specs.declared.since.Since.{Since}
 use Rattle.babel_dump.proofs.SinceLaws.{AwaitsAfter, awaits_begun, awaits_none, awaits_on, quiet_more}
@@ -226,6 +226,7 @@ module _ (events : Events) where
         quiet = λ none. refl;
         silent = λ front back split. subst TellsNow (sym (no_front front back split)) (tells_now events [] [] hearing.teller knows);
         knows = knows;
+        counts = λ front back step split. absurd (no_step front step back split);
         lost = λ speaker. ap (list_any (is_at (speaker_cmp speaker))) lost;
         heard = none_heard hearing.teller.heard.entries heard;
       }
@@ -277,6 +278,7 @@ module _ (events : Events) where
           (awaits_on (since_in events.since (made_in was.steps ++ one ∷ [])) (made_in was.steps) one (told_in was.steps ++ told) new.since from.awaits));
       silent = fronts TellsNow (tells_now events (made_in steps) (told_in steps) new.teller knows) was.silent;
       knows = knows;
+      counts = counts;
       quiet = λ none. told_is ∙ quiet_more (made_in was.steps) one (told_in was.steps) told was.quiet untimed (ap first_time (sym made_is) ∙ none);
       lost = λ speaker. lost speaker ∙ ap (λ (b : Bool). b || missed speaker) (was.lost speaker) ∙ sym (lost_here speaker) ∙ ap (λ (m : List Made). is_lost m speaker) (sym made_is);
       heard = λ speaker. subst (λ (m : List Made). IsHeardOf events m new.teller.heard.entries speaker) (sym made_is) (hears.heard (made_in was.steps) speaker (was.heard speaker));
@@ -335,6 +337,14 @@ module _ (events : Events) where
             by (inl (all, last)) = subst (λ (f : List Step). OpensRightly events f here) (sym all) (subst (OpensRightly events was.steps) (sym last) from.opens)
             by (inr inner) = was.opens front inner.rest here inner.whole
 
+        counts : (front back : List Step) (here : Step) → steps ≡ front ++ here ∷ back → CountsRoutes events (made_in front) (told_in front) here.told
+        counts front back here split = by (snoc_split was.steps step front here back split)
+          where
+            by : ((front ≡ was.steps) × (here ≡ step)) ⊎ IsInner was.steps step front here back → CountsRoutes events (made_in front) (told_in front) here.told
+            by (inl (all, last)) = subst (λ (f : List Step). CountsRoutes events (made_in f) (told_in f) here.told) (sym all)
+                (subst (λ (s : Step). CountsRoutes events (made_in was.steps) (told_in was.steps) s.told) (sym last) (hears.counts (made_in was.steps) (told_in was.steps) was.have_told))
+            by (inr inner) = was.counts front inner.rest here inner.whole
+
         missed : Speaker → Bool
         missed speaker = is_of speaker (option_map (λ (m : Missed). m.origin) (missed_in one.what))
 
@@ -352,34 +362,33 @@ module _ (events : Events) where
       tells = λ made before have. subst (λ (t : Tellings). HaveTold events None (made ++ one ∷ []) t old.timeline.rows) (sym (append-nil before))
           (told_untimed events made one before before old.timeline.rows none have);
       silences = λ made before knows. subst (λ (t : Tellings). KnowsSilent events (made ++ one ∷ []) t old) (sym (append-nil before)) (knows_untimed events made one before old none knows);
+      counts = λ made before have. counts_none events made before;
       heard = λ made speaker. heard_nothing made one old.heard.entries (untimed_heard one none) speaker;
     }
 
     module _ (mid : Teller Speaker) where
       pub hears_no_packet : Suits events old → (mid.timeline.factor ≡ old.timeline.factor) × (mid.interest ≡ old.interest) → mid.timeline.limit ≡ old.timeline.limit → mid.heard ≡ old.heard → (time : ℕ) (told : Tellings)
           → time_of one.came ≡ Some time → None ≡ origin_found one.what → TellsEnds speaker_cmp events.expiry (asked_by events) time old.timeline.rows mid.timeline.rows [] (of_rows (asked_by events) told)
-          → (watches events.expiry (asked_by events) ≡ true → TellsSilences speaker_cmp [] time [] told old.watch mid.watch) → HearsRecord events one old mid told
-      hears_no_packet suits same limit heard time told came none ends silences = record {
+          → (watches events.expiry (asked_by events) ≡ true → TellsSilences speaker_cmp [] time [] told old.watch mid.watch)
+          → (watches events.expiry (asked_by events) ≡ true → TellsCounts speaker_cmp events.expiry old.timeline.rows [] told) → HearsRecord events one old mid told
+      hears_no_packet suits same limit heard time told came none ends silences counts = record {
         suits = suits_still old mid events same limit suits;
         tells = λ made before have. told_of_no_packet events made one before time old.timeline.rows mid.timeline.rows told came none ends have;
         silences = λ made before knows. knows_timed events made one before told time [] old mid came (no_hellos time one.what none) silences knows;
+        counts = λ made before have. counts_so events made old.timeline.rows before told counts have;
         heard = λ made speaker was. subst (λ h. IsHeardOf events (made ++ one ∷ []) h speaker) (ap (λ h. h.entries) (sym heard))
             (heard_nothing made one old.heard.entries (no_packet_heard one time came none) speaker was);
       }
 
-      pub hears_one_packet : (new : Teller Speaker) → mid.heard ≡ old.heard → (time : ℕ) (origin : Origin) (packet : List ℕ) (ended told : Tellings) → time_of one.came ≡ Some time
-          → Some origin ≡ origin_found one.what → packet ≡ octets_found one.what
-          → TellsEnds speaker_cmp events.expiry (asked_by events) time old.timeline.rows mid.timeline.rows [] (of_rows (asked_by events) ended)
-          → (watches events.expiry (asked_by events) ≡ true → TellsSilences speaker_cmp [] time [] ended old.watch mid.watch) → HearsPacket events origin time packet mid new ended told
-          → HearsRecord events one old new told
-      hears_one_packet new heard time origin packet ended told came is octets ends silences here = record {
+      pub hears_one_packet : (time : ℕ) (origin : Origin) (packet : List ℕ) (told : Tellings) → time_of one.came ≡ Some time → Some origin ≡ origin_found one.what → packet ≡ octets_found one.what
+          → HearsPacket events origin time packet old mid [] told → HearsRecord events one old mid told
+      hears_one_packet time origin packet told came is octets here = record {
         suits = here.suits;
-        tells = λ made before have.
-            told_of_packet events made one before time origin packet here.said old.timeline.rows mid.timeline.rows new.timeline.rows ended told came is octets here.is_said ends here.tells have;
-        silences = λ made before knows. knows_timed events made one before told time (hellos_heard (speaker_at origin) time packet) old new came (its_hellos time one.what origin packet is octets)
-            (λ watching. silences_both time (hellos_heard (speaker_at origin) time packet) ended told old.watch mid.watch new.watch (silences watching) (here.silences watching)) knows;
-        heard = λ made speaker was. heard_packet made one old.heard.entries new.heard.entries speaker time origin packet came is octets
-            (subst (λ h. CountsPacket speaker_cmp (speaker_at origin) (start_by events (speaker_at origin)) packet h new.heard.entries) (ap (λ h. h.entries) heard) here.counts) was;
+        tells = λ made before have. told_of_packet events made one before time origin packet here.said old.timeline.rows mid.timeline.rows told came is octets here.is_said here.tells have;
+        silences = λ made before knows.
+            knows_timed events made one before told time (hellos_heard (speaker_at origin) time packet) old mid came (its_hellos time one.what origin packet is octets) here.silences knows;
+        counts = λ made before have. counts_so events made old.timeline.rows before told here.counts_rows have;
+        heard = λ made speaker was. heard_packet made one old.heard.entries mid.heard.entries speaker time origin packet came is octets here.counts was;
       }
 
   -- a record was heard, and then a sender is lost, if a datagram of it is missed there

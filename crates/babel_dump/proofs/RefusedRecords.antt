@@ -16,7 +16,7 @@ use Rattle.babel_tlv.specs.declared.view.View.{View}
 use Rattle.babel_timeline.specs.Hearing.{octets_heard, report_of}
 use Rattle.babel_timeline.specs.Refusing.{RefusesPacket}
 use Rattle.babel_timeline.specs.Rows.{Rows}
-use Rattle.babel_timeline.specs.Telling.{AskedFor, TellsEnds, of_rows}
+use Rattle.babel_timeline.specs.Telling.{AskedFor, of_rows}
 use Rattle.babel_timeline.specs.declared.teller.Teller.{Teller}
 use Rattle.babel_timeline.specs.declared.telling.Telling.{Telling}
 use Rattle.babel_dump.specs.EventsCause.{IsPartOf, IsRefused, RefusesAlone, RefusesHeard, RefusesPart, octets_in, start_of, without_pair}
@@ -38,7 +38,6 @@ use Rattle.babel_dump.specs.declared.speaker.Speaker.{Speaker}
 use Rattle.babel_dump.specs.declared.stop.Stop.{Stop}
 use Rattle.babel_dump.specs.declared.stop.Stop.TheVariants as stops
 use Rattle.babel_dump.specs.declared.unread_tlv.UnreadTlv.{UnreadTlv}
-use Rattle.babel_dump.proofs.EventsRuns.{told_until}
 use Rattle.babel_dump.proofs.FollowedLaws.{followed-push}
 use Rattle.babel_dump.proofs.UnreadTlvs.{front_of_packet}
 
@@ -89,24 +88,18 @@ teller_refuses events origin came packet teller (unheard.Sender of other) fault 
     let not_memory : fault ≢ faults.Memory = λ is. absurd (let bad : unheard.Sender of other ≡ unheard.Memory = memory is in cc) in
     subst (RefusesTeller events origin came packet teller) (sym (sender not_memory)) (refl, part not_memory)
 
--- the record that has the packet is refused, too: once all has ended that ends by its time
-pub record_refused : (events : Events) (told : Record) (old mid : Teller Speaker) (packet : BabelPacket) → packet_said told.said ≡ Some packet → (came : ℕ) → told.time ≡ Some came
-    → (ended : List (Telling Speaker)) → TellsEnds speaker_cmp events.expiry (asked_by events) came old.timeline.rows mid.timeline.rows [] (of_rows (asked_by events) ended) → mid.heard ≡ old.heard
-    → (why : Unheard) → RefusesTeller events packet.origin came packet.octets.now mid why → RefusesUnheard events told old why
-record_refused events told old mid packet said_is came timed ended ends heard unheard.Memory refuses = tt
-record_refused events told old mid packet said_is came timed ended ends heard (unheard.Sender origin fault) (of, part) = record {
+-- the record that has the packet is refused, too
+pub record_refused : (events : Events) (told : Record) (teller : Teller Speaker) (packet : BabelPacket) → packet_said told.said ≡ Some packet → (came : ℕ) → told.time ≡ Some came → (why : Unheard)
+    → RefusesTeller events packet.origin came packet.octets.now teller why → RefusesUnheard events told teller why
+record_refused events told teller packet said_is came timed unheard.Memory refuses = tt
+record_refused events told teller packet said_is came timed (unheard.Sender origin fault) (of, part) = record {
   packet = packet;
   said_is = said_is;
   origin_is = sym of;
   came = came;
   timed = timed;
-  rows = mid.timeline.rows;
-  ended = ended;
-  ends = ends;
-  refuses = subst (λ (o : Origin). RefusesPart events o came packet.octets.now mid.timeline.rows (octets_heard speaker_cmp old.heard.entries (speaker_at o)) (report_of speaker_cmp old.heard.entries (speaker_at o)).tlvs fault)
-      (sym of)
-      (subst (λ h. RefusesPart events packet.origin came packet.octets.now mid.timeline.rows (octets_heard speaker_cmp h.entries (speaker_at packet.origin))
-      (report_of speaker_cmp h.entries (speaker_at packet.origin)).tlvs fault) heard part);
+  refuses = subst (λ (o : Origin). RefusesPart events o came packet.octets.now teller.timeline.rows (octets_heard speaker_cmp teller.heard.entries (speaker_at o))
+      (report_of speaker_cmp teller.heard.entries (speaker_at o)).tlvs fault) (sym of) part;
 }
 
 -- what was heard in place of a packet is refused
@@ -186,14 +179,14 @@ module _ (events : Events) (made : List Made) (one : Made) (told : Record) (is :
   refused_so from origin fault said time is_part = record {
     came = said.came;
     timed = sym is.time ∙ sym time ∙ said.timed;
-    told = before ++ said.ended;
-    rows = said.rows;
-    have_told = told_until events made said.came teller.timeline.rows said.rows before said.ended said.ends have;
+    told = before;
+    rows = teller.timeline.rows;
+    have_told = have;
     report = report_of speaker_cmp teller.heard.entries (speaker_at origin);
     is_report = (heard (speaker_at origin)).report;
     part = said.packet.octets.now;
     is_part = is_part;
-    refuses = subst (λ (n : ℕ). RefusesPart events origin said.came said.packet.octets.now said.rows n (report_of speaker_cmp teller.heard.entries (speaker_at origin)).tlvs fault)
+    refuses = subst (λ (n : ℕ). RefusesPart events origin said.came said.packet.octets.now teller.timeline.rows n (report_of speaker_cmp teller.heard.entries (speaker_at origin)).tlvs fault)
         (heard (speaker_at origin)).octets said.refuses;
   }
 

@@ -13,13 +13,17 @@ use Rattle.babel_capture.specs.Times.{time_of}
 use Rattle.babel_table.specs.Moments.{Stamp}
 use Rattle.babel_timeline.specs.declared.teller.Teller.{Teller}
 use Rattle.babel_timeline.specs.Silence.{Watching}
-use Rattle.babel_timeline.specs.SilencesTold.{IsWatched, IsWatchedWhole, TellsSilences, hellos_heard, watches}
+use Rattle.babel_timeline.specs.Rows.{Rows}
+use Rattle.babel_timeline.specs.SilencesTold.{EachCounts, IsWatched, IsWatchedWhole, TellsCounts, TellsSilences, hellos_heard, watches}
+use Rattle.babel_timeline.specs.SilencesTold.{LeavesRows as LeftRows}
+use Rattle.babel_timeline.specs.Telling.{AskedFor, TellsEnds, of_rows}
+use Rattle.babel_timeline.proofs.CountTold.{all_end-last, each_also}
 use Rattle.babel_timeline.proofs.WatchLaws.{begins}
-use Rattle.babel_timeline.proofs.WatchTold.{told_who}
-use Rattle.babel_dump.specs.EventsRun.{AreInOrder, AreUpTo, TellsSilent, asked_by, hellos_found, hellos_made, last_time, speaker_at}
+use Rattle.babel_timeline.proofs.WatchTold.{told_who, watches_all}
+use Rattle.babel_dump.specs.EventsRun.{AreInOrder, AreUpTo, CountsRoutes, HaveTold, LeavesRows, TellsSilent, asked_by, hellos_found, hellos_made, last_time, speaker_at}
 use Rattle.babel_dump.specs.Followed.{KnowsSilent}
 use Rattle.babel_dump.specs.Speakers.{speaker_cmp, speaker_exact}
-use Rattle.babel_dump.proofs.EventsRuns.{Tellings, in_order_front}
+use Rattle.babel_dump.proofs.EventsRuns.{Tellings, in_order_front, told_until}
 use Rattle.babel_dump.proofs.SpeakerLaws.{speaker_total}
 use Rattle.babel_dump.specs.declared.events_job.Events.{Events}
 use Rattle.babel_dump.specs.declared.speaker.Speaker.{Speaker}
@@ -67,12 +71,6 @@ its_hellos time (found place ends found_octets has_trailer) origin packet is oct
 
 -- ---- one after another
 
--- first the one, then the other
-pub silences_both : (time : ℕ) (more : List (Speaker × Stamp)) (ended told : Tellings) (u v w : Watching Speaker) → TellsSilences speaker_cmp [] time [] ended u v
-    → TellsSilences speaker_cmp more time ended told v w → TellsSilences speaker_cmp more time [] told u w
-silences_both time more ended told u v w first second hellos moment before le watched =
-    second hellos time before (omega arith) (subst (λ (h : List (Speaker × Stamp)). IsWatched speaker_cmp h time (before ++ ended) v) (append-nil hellos) (first hellos moment before le watched).0)
-
 module _ (events : Events) where
   pub knows_none : (teller : Teller Speaker) → teller.watch ≡ record { rows = []; silent = record { keys = [] } } → KnowsSilent events [] [] teller
   knows_none teller none order watching = subst (IsWatchedWhole speaker_cmp [] 0 []) (sym none) (
@@ -114,3 +112,25 @@ module _ (events : Events) where
         told_who speaker_cmp speaker_total speaker_exact (hellos_made made) moment (before ++ here) new.watch
         (subst (λ (h : List (Speaker × Stamp)). IsWatchedWhole speaker_cmp h moment (before ++ here) new.watch) (append-nil (hellos_made made))
         (silences watching (hellos_made made) (last_time made) before le (nothing_yet before old (knows order watching))))
+
+    -- ---- how many rows who falls silent holds
+
+    pub counts_none : (before : Tellings) → CountsRoutes events made before []
+    counts_none before watching = tt
+
+    pub counts_so : (rows : Rows Speaker) (before here : Tellings) → (watches events.expiry (asked_by events) ≡ true → TellsCounts speaker_cmp events.expiry rows [] here)
+        → HaveTold events None made before rows → CountsRoutes events made before here
+    counts_so rows before here counts have watching =
+        let told = counts watching in
+        subst (λ (t : Tellings). EachCounts (LeavesRows events made) t here) (append-nil before)
+        (subst (EachCounts (LeavesRows events made) (before ++ [])) (sym told.1) (each_also (LeftRows speaker_cmp events.expiry rows []) (LeavesRows events made) before leaves [] told.0 told.2))
+      where
+        leaves : (told : Tellings) (time : ℕ) (speaker : Speaker) (routes : ℕ) → LeftRows speaker_cmp events.expiry rows [] told time speaker routes
+            → LeavesRows events made (before ++ told) time speaker routes
+        leaves told time speaker routes these = record {
+          rows = these.left;
+          have_told = told_until events made time rows these.left before told
+              (subst (λ (q : AskedFor). TellsEnds speaker_cmp events.expiry q time rows these.left [] (of_rows q told)) (sym (watches_all events.expiry (asked_by events) watching)) these.ends) have;
+          last = all_end-last speaker_cmp events.expiry time these.ends.changes rows these.left these.ends.ends;
+          are = these.are;
+        }

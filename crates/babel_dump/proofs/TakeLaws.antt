@@ -16,7 +16,7 @@ use Rattle.babel_timeline.specs.declared.teller.Teller.{Teller}
 use Rattle.babel_timeline.specs.declared.telling.Telling.{Telling}
 use Rattle.babel_timeline.specs.Rows.{AllLast, Rows}
 use Rattle.babel_dump.specs.CaptureRun.{IsOutcomeOf}
-use Rattle.babel_dump.specs.EventsRun.{AreReadWhole, HaveTold, Opens, OpensBy, Step, TellsSilent, WroteLines, followed_by, followed_extent, have_come, heard_status, last_time, made_in, moment_read, since_in, told_from, told_in, unlost, written_in}
+use Rattle.babel_dump.specs.EventsRun.{AreReadWhole, CountsRoutes, HaveTold, Opens, OpensBy, Step, TellsSilent, WroteLines, followed_by, followed_extent, have_come, heard_status, last_time, made_in, moment_read, since_in, told_from, told_in, unlost, written_in}
 use Rattle.babel_dump.specs.Followed.{Ends, EndsAt, EndsBy, Follows, HasHeard, HasHeardFollowed, IsFollowed, KnowsOthers, Suits, TellsFrom, unlost_by}
 use Rattle.babel_dump.specs.FollowedSenders.{followed, senders_followed, with_packets}
 use Rattle.babel_dump.specs.HeardSenders.{heard_of, heard_told}
@@ -33,7 +33,7 @@ use Rattle.babel_dump.specs.declared.hearing.Hearing.{Hearing}
 use Rattle.babel_dump.proofs.EventsRuns.{told_so, told_until}
 use Rattle.babel_dump.proofs.HeardLaws.{heard_senders}
 use Rattle.babel_dump.proofs.HeardRecords.{unlost_is}
-use Rattle.babel_dump.proofs.SilentRuns.{silent_until}
+use Rattle.babel_dump.proofs.SilentRuns.{counts_none, counts_so, silent_until}
 use Rattle.babel_dump.proofs.FollowLaws.{same_made}
 
 abbrev Tellings : Type 0
@@ -122,6 +122,7 @@ record HasEnded (events : Events) (made : List Made) (moment : Option ℕ) (step
   rows : Rows Speaker
   have_told : HaveTold events moment made (told_in steps ++ ended) rows
   all_last : IfSome moment (λ m. AllLast speaker_cmp events.expiry m rows)
+  counts : CountsRoutes events made (told_in steps) ended
   silent : IfSome moment (λ m. last_time made ≤ m → TellsSilent events m made (told_in steps ++ ended))
   opening : Tellings
   opens : OpensBy (since_in events.since (made_in steps)) moment (made_in steps) (told_in steps ++ ended) opening
@@ -143,6 +144,7 @@ ended_by_then events made told None old new same was = record {
   rows = old.follower.hearing.teller.timeline.rows;
   have_told = subst (λ (t : Tellings). HaveTold events None (made_in was.steps) t old.follower.hearing.teller.timeline.rows) (sym (append-nil (told_in was.steps))) was.have_told;
   all_last = tt;
+  counts = counts_none events (made_in was.steps) (told_in was.steps);
   silent = tt;
   opening = [];
   opens = never_opens (since_in events.since (made_in was.steps)) (made_in was.steps) (told_in was.steps ++ []);
@@ -153,6 +155,7 @@ ended_by_then events made told (Some moment) old new ends was = record {
   rows = new.follower.hearing.teller.timeline.rows;
   have_told = told_until events (made_in was.steps) moment old.follower.hearing.teller.timeline.rows new.follower.hearing.teller.timeline.rows (told_in was.steps) ends.ended ends.tells was.have_told;
   all_last = ends.last;
+  counts = counts_so events (made_in was.steps) old.follower.hearing.teller.timeline.rows (told_in was.steps) ends.ended ends.counts was.have_told;
   silent = silent_until events (made_in was.steps) moment (told_in was.steps) ends.ended old.follower.hearing.teller new.follower.hearing.teller ends.silences was.knows;
   opening = from.opening;
   opens = from.opens;
@@ -224,7 +227,9 @@ ending events fed told writer old new status cut answer is read accepted ends wr
             steps = was.steps;
             are_made = was.are_made ∙ ap followed (sym made);
             each = was.each;
+            counts = was.counts;
             ended = done.ended;
+            counts_last = done.counts;
             rows = done.rows;
             have_told = known untimed moment (told_in was.steps ++ done.ended) done.rows done.have_told;
             all_last = λ timed. subst (λ (m : Option ℕ). IfSome m (λ t. AllLast speaker_cmp events.expiry t done.rows)) (when_timed untimed moment timed) done.all_last;

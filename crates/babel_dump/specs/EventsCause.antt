@@ -104,7 +104,7 @@ pub record RefusesHeard (events : Events) (before : List Made) (one : Made) (ori
   pub timed : time_of one.came ≡ Some came
   pub told : List (Telling Speaker)
   pub rows : Rows Speaker
-  pub have_told : HaveTold events (Some came) before told rows
+  pub have_told : HaveTold events None before told rows
   pub report : Report
   pub is_report : IsReportOf events before (speaker_at origin) report
   pub part : List ℕ

@@ -39,7 +39,8 @@ use Rattle.babel_timeline.specs.declared.telling.Telling.TheVariants as tellings
 use Rattle.babel_timeline.specs.Accounts.{IsAccount, Said}
 use Rattle.babel_timeline.specs.RequestsTold.{requests_told, unicast}
 use Rattle.babel_timeline.specs.Rows.{AllLast, Rows}
-use Rattle.babel_timeline.specs.SilencesTold.{TellsWhoIsSilent, hellos_heard, watches}
+use Rattle.babel_timeline.specs.Silence.{row_count}
+use Rattle.babel_timeline.specs.SilencesTold.{EachCounts, TellsWhoIsSilent, hellos_heard, watches}
 use Rattle.babel_timeline.specs.Telling.{AreAnswers, AreLastSaid, AskedFor, answered, of_rows, said_of}
 use Rattle.babel_dump.specs.CaptureRun.{IsOutcomeOf}
 use Rattle.babel_dump.specs.Device.{GaveOctets, InputState}
@@ -189,6 +190,21 @@ abbrev pub TellsSilent : Events → (moment : ℕ) → List Made → List (Telli
 TellsSilent events moment made told =
     AreInOrder made → watches events.expiry (asked_by events) ≡ true
     → TellsWhoIsSilent speaker_cmp (hellos_made made) moment told
+
+-- Behind these records, and what was told, so many rows of a sender are left at the time: once all
+-- that ends by then was told.
+pub record LeavesRows (events : Events) (made : List Made) (told : List (Telling Speaker))
+    (time : ℕ) (speaker : Speaker) (routes : ℕ) : Type 0 where
+  pub rows : Rows Speaker
+  pub have_told : HaveTold events (Some time) made told rows
+  pub last : AllLast speaker_cmp events.expiry time rows
+  pub are : routes ≡ row_count speaker_cmp speaker rows
+
+-- Where rows end and each change is told: behind these records, and what was told, each who is told
+-- besides to fall silent is told to hold so many.
+abbrev pub CountsRoutes : Events → List Made → (told more : List (Telling Speaker)) → Type 0
+CountsRoutes events made told more = watches events.expiry (asked_by events) ≡ true
+    → EachCounts (LeavesRows events made) told more
 
 -- a record, what it told, and what was answered just before the moment, where that came with it
 pub record Step : Type 0 where
@@ -387,10 +403,10 @@ moment_read events blocks gathering =
 
 -- The octets are a capture. Its records, as far as their senders are followed, told what they say,
 -- one after another; and then all that ends by the moment that it was read to is told. At each time
--- exactly those senders are told to be silent that are. Of it, and of what each record requests, if
--- that is asked for, this is written: what is told of the moment or later that is asked for, behind
--- the answers just before it; of a sender nothing more once a datagram of it was left out that lacks
--- something. The answer is of what was read.
+-- exactly those senders are told to be silent that are, each with how many rows it has left. Of it,
+-- and of what each record requests, if that is asked for, this is written: what is told of the moment
+-- or later that is asked for, behind the answers just before it; of a sender nothing more once a
+-- datagram of it was left out that lacks something. The answer is of what was read.
 pub record TellsCapture (events : Events) (octets : List ℕ) (written : List (Telling Speaker))
     (answer : EventsOutcome) : Type 0 where
   pub gathering : Gathering
@@ -405,7 +421,10 @@ pub record TellsCapture (events : Events) (octets : List ℕ) (written : List (T
       → OpensRightly events front step
   pub silent : (front back : List Step) → steps ≡ front ++ back
       → TellsSilent events (last_time (made_in front)) (made_in front) (told_in front)
+  pub counts : (front back : List Step) (step : Step) → steps ≡ front ++ step ∷ back
+      → CountsRoutes events (made_in front) (told_in front) step.told
   pub ended : List (Telling Speaker)
+  pub counts_last : CountsRoutes events (made_in steps) (told_in steps) ended
   pub rows : Rows Speaker
   pub have_told : HaveTold events (moment_read events is_read.is_read.blocks gathering)
       (made_in steps) (told_in steps ++ ended) rows

@@ -20,7 +20,8 @@ use Rattle.babel_tlv.specs.declared.fault.Fault.{Fault}
 use Rattle.babel_tlv.specs.declared.fault.Fault.TheVariants as faults
 use Rattle.babel_timeline.specs.Hearing.{CountsPacket, octets_heard, report_of}
 use Rattle.babel_timeline.specs.Rows.{AllLast, Rows}
-use Rattle.babel_timeline.specs.SilencesTold.{IsWatchedWhole, TellsSilences, hellos_heard, watches}
+use Rattle.babel_timeline.specs.SilencesTold.{IsWatchedWhole, TellsCounts, TellsSilences}
+use Rattle.babel_timeline.specs.SilencesTold.{hellos_heard, watches}
 use Rattle.babel_timeline.specs.Telling.{Tells, TellsEnds, answered, of_rows}
 use Rattle.babel_timeline.specs.Accounts.{Said}
 use Rattle.babel_timeline.specs.declared.heard.Heard.{Heard}
@@ -29,8 +30,8 @@ use Rattle.babel_timeline.specs.declared.telling.Telling.{Telling}
 use Rattle.babel_dump.specs.Device.{GaveOctets, InputState}
 use Rattle.babel_dump.specs.EventText.{event_in, speaker_of}
 use Rattle.babel_dump.specs.EventsCause.{IsRefused, RefusesAlone, RefusesPart, start_of, without_pair}
-use Rattle.babel_dump.specs.EventsRun.{AreInOrder, TellsSilent, hellos_made, last_time}
-use Rattle.babel_dump.specs.EventsRun.{HaveTold, HaveToldSo, IsReportOf, IsSaid, Step}
+use Rattle.babel_dump.specs.EventsRun.{AreInOrder, CountsRoutes, HaveTold, HaveToldSo, IsReportOf}
+use Rattle.babel_dump.specs.EventsRun.{IsSaid, Step, TellsSilent, hellos_made, last_time}
 use Rattle.babel_dump.specs.EventsRun.{TellsCapture, WroteLines, asked_by, followed_by}
 use Rattle.babel_dump.specs.EventsRun.{followed_extent, is_lost, keeps_told, made_in, packets_heard}
 use Rattle.babel_dump.specs.EventsRun.{Opens, OpensRightly, first_time, has_come, have_come}
@@ -142,6 +143,8 @@ pub record HasHeard (events : Events) (made : List Made) (written : List (Tellin
   pub silent : (front back : List Step) → steps ≡ front ++ back
       → TellsSilent events (last_time (made_in front)) (made_in front) (told_in front)
   pub knows : KnowsSilent events (made_in steps) (told_in steps) hearing.teller
+  pub counts : (front back : List Step) (step : Step) → steps ≡ front ++ step ∷ back
+      → CountsRoutes events (made_in front) (told_in front) step.told
   pub lost : (speaker : Speaker)
       → contains speaker_cmp hearing.lost speaker ≡ is_lost (made_in steps) speaker
   pub heard : (speaker : Speaker)
@@ -207,8 +210,7 @@ HearsFront events told packet octets old new = (front : Record) × HearsTold eve
     × ((said : BabelPacket) × (packet_said front.said ≡ Some said)
     × (said.origin ≡ packet.origin) × (said.octets.now ≡ octets))
 
--- The record has a packet of this sender, which a teller refuses for this, once all has ended that
--- ends by its time.
+-- The record has a packet of this sender, which a teller refuses for this.
 pub record RefusesSaid (events : Events) (told : Record) (teller : Teller Speaker) (origin : Origin)
     (fault : Fault) : Type 0 where
   pub packet : BabelPacket
@@ -216,11 +218,7 @@ pub record RefusesSaid (events : Events) (told : Record) (teller : Teller Speake
   pub origin_is : packet.origin ≡ origin
   pub came : ℕ
   pub timed : told.time ≡ Some came
-  pub rows : Rows Speaker
-  pub ended : List (Telling Speaker)
-  pub ends : TellsEnds speaker_cmp events.expiry (asked_by events) came teller.timeline.rows rows []
-      (of_rows (asked_by events) ended)
-  pub refuses : RefusesPart events origin came packet.octets.now rows
+  pub refuses : RefusesPart events origin came packet.octets.now teller.timeline.rows
       (octets_heard speaker_cmp teller.heard.entries (speaker_at origin))
       (report_of speaker_cmp teller.heard.entries (speaker_at origin)).tlvs fault
 
@@ -384,6 +382,8 @@ pub record EndsBy (events : Events) (moment : ℕ) (old new : Hearing)
       new.teller.timeline.rows [] (of_rows (asked_by events) ended)
   pub silences : watches events.expiry (asked_by events) ≡ true
       → TellsSilences speaker_cmp [] moment [] ended old.teller.watch new.teller.watch
+  pub counts : watches events.expiry (asked_by events) ≡ true
+      → TellsCounts speaker_cmp events.expiry old.teller.timeline.rows [] ended
   pub last : AllLast speaker_cmp events.expiry moment new.teller.timeline.rows
   pub printed : List (Telling Speaker)
   pub from : TellsThen (Some moment) old.since ended new.since printed
@@ -418,6 +418,8 @@ pub record HearsPacket (events : Events) (origin : Origin) (time : ℕ) (packet 
   pub silences : watches events.expiry (asked_by events) ≡ true
       → TellsSilences speaker_cmp (hellos_heard (speaker_at origin) time packet) time before told
       old.watch new.watch
+  pub counts_rows : watches events.expiry (asked_by events) ≡ true
+      → TellsCounts speaker_cmp events.expiry old.timeline.rows before told
 
 -- with this record this is told besides, and what was heard of senders is of it, too
 pub record HearsRecord (events : Events) (one : Made) (old new : Teller Speaker)
@@ -429,6 +431,8 @@ pub record HearsRecord (events : Events) (one : Made) (old new : Teller Speaker)
   pub silences : (made : List Made) (before : List (Telling Speaker))
       → KnowsSilent events made before old
       → KnowsSilent events (made ++ one ∷ []) (before ++ told) new
+  pub counts : (made : List Made) (before : List (Telling Speaker))
+      → HaveTold events None made before old.timeline.rows → CountsRoutes events made before told
   pub heard : (made : List Made) (speaker : Speaker)
       → IsHeardOf events made old.heard.entries speaker
       → IsHeardOf events (made ++ one ∷ []) new.heard.entries speaker

@@ -32,10 +32,9 @@ pub(crate) fn hear_said(
         return Ok(());
     };
     let time = time.nanoseconds();
-    teller.expire(time, told)?;
     match &said.said {
         Said::Packet(packet) => hear_packet(teller, via_v6, time, packet, told),
-        _ => Ok(()),
+        _ => Ok(teller.expire(time, told)?),
     }
 }
 

@@ -6,7 +6,7 @@ use Rattle.babel_dump.proofs.hear_said.hear_packet.Goals as goal
 pub returns-in-Ok-clause-heard : goal.returns-in-Ok-clause-heard
 returns-in-Ok-clause-heard c events via suits =
     hears_packet _ speaker_order events c.args.teller.now suits c.args.packet.now.origin c.args.via_v6 via c.args.time _ c.args.packet.now.octets.now c.hear.new.self _ _ c.hear.ensures.same c.hear.ensures.limit
-    c.in-Ok.ensures.ok c.in-Ok.ensures.counts c.in-Ok.ensures.silences
+    c.in-Ok.ensures.ok c.in-Ok.ensures.counts c.in-Ok.ensures.silences c.in-Ok.ensures.holding
 
 pub returns-in-Err-clause-refused : goal.returns-in-Err-clause-refused
 returns-in-Err-clause-refused c events via suits =
