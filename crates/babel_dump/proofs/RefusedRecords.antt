@@ -19,7 +19,8 @@ use Rattle.babel_timeline.specs.Rows.{Rows}
 use Rattle.babel_timeline.specs.Telling.{AskedFor, of_rows}
 use Rattle.babel_timeline.specs.declared.teller.Teller.{Teller}
 use Rattle.babel_timeline.specs.declared.telling.Telling.{Telling}
-use Rattle.babel_dump.specs.EventsCause.{IsPartOf, IsRefused, RefusesAlone, RefusesHeard, RefusesPart, octets_in, start_of, without_pair}
+use Rattle.babel_dump.specs.EventsCause.{IsPartOf, IsRefused, RefusesAlone, RefusesHeard, RefusesPart, octets_in, start_of}
+use Rattle.babel_dump.specs.EventsRun.{without_pair}
 use Rattle.babel_dump.specs.EventsRun.{HaveTold, asked_by, speaker_at, told_in}
 use Rattle.babel_dump.specs.Followed.{Follows, HasHeard, HasHeardFollowed, HasHeardOthers, HasStopped, IsHeardOf, KnowsOthers, RefusesOthers, RefusesFront, RefusesPacketRead, RefusesSaid, RefusesTeller, RefusesTold, RefusesUnheard, RefusesUsually, Stops, StopsFollowed, Suits, octets_before, trouble_of}
 use Rattle.babel_dump.specs.FollowedSenders.{followed, followed_of, is_followed, sender_of, senders_followed}

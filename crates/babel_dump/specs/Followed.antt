@@ -29,9 +29,10 @@ use Rattle.babel_timeline.specs.declared.teller.Teller.{Teller}
 use Rattle.babel_timeline.specs.declared.telling.Telling.{Telling}
 use Rattle.babel_dump.specs.Device.{GaveOctets, InputState}
 use Rattle.babel_dump.specs.EventText.{event_in, speaker_of}
-use Rattle.babel_dump.specs.EventsCause.{IsRefused, RefusesAlone, RefusesPart, start_of, without_pair}
-use Rattle.babel_dump.specs.EventsRun.{AreInOrder, CountsRoutes, HaveTold, HaveToldSo, IsReportOf}
-use Rattle.babel_dump.specs.EventsRun.{IsSaid, Step, TellsSilent, hellos_made, last_time}
+use Rattle.babel_dump.specs.EventsCause.{IsRefused, RefusesAlone, RefusesPart, start_of}
+use Rattle.babel_dump.specs.EventsRun.{without_pair}
+use Rattle.babel_dump.specs.EventsRun.{AreInOrder, CountsRoutes, TellsSilent, hellos_made, last_time}
+use Rattle.babel_dump.specs.EventsRun.{AreOthers, HaveTold, HaveToldSo, IsReportOf, IsSaid, Step}
 use Rattle.babel_dump.specs.EventsRun.{TellsCapture, WroteLines, asked_by, followed_by}
 use Rattle.babel_dump.specs.EventsRun.{followed_extent, is_lost, keeps_told, made_in, packets_heard}
 use Rattle.babel_dump.specs.EventsRun.{Opens, OpensRightly, first_time, has_come, have_come}
@@ -161,19 +162,25 @@ HearsTold events told old new =
 pub record HasHeardOthers (events : Events) (made : List Made) (others : OtherSources) : Type 0
   where
     pub is_any : events.is_any_source ≡ true
+    pub of : events.pair ≡ Some others.pair
     pub suits : Suits (without_pair events) others.teller
     pub told : List (Telling Speaker)
     pub have_told : HaveTold (without_pair events) None made told others.teller.timeline.rows
     pub heard : (speaker : Speaker)
         → IsHeardOf (without_pair events) made others.teller.heard.entries speaker
+    pub quiet : first_time made ≡ None → told ≡ []
+    pub are : AreOthers others.pair.dst (since_in events.since made) told others.held
 
--- the same, if they are heard
+-- the same, if they are heard; and where answers are for any source they are
 abbrev pub KnowsOthers : Events → List Made → Option OtherSources → Type 0
-KnowsOthers events made others = IfSome others (HasHeardOthers events made)
+KnowsOthers events made None = events.is_any_source ≡ true → events.pair ≡ None
+KnowsOthers events made (Some others) = HasHeardOthers events made others
 
--- now also of this record
-abbrev pub HearsOthers : Events → Record → (old new : Option OtherSources) → Type 0
-HearsOthers events told old new = (made : List Made) (one : Made) → IsTold one told
+-- now also of this record, by which the moment is this one that is asked for
+abbrev pub HearsOthers : Events → Record → (since : Option ℕ) → (old new : Option OtherSources)
+    → Type 0
+HearsOthers events told since old new = (made : List Made) (one : Made) → IsTold one told
+    → since ≡ since_in events.since (made ++ one ∷ [])
     → KnowsOthers events made old → KnowsOthers events (made ++ one ∷ []) new
 
 -- of these records those of senders that are followed were heard, and this is to be written of what

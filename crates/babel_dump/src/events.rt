@@ -5,18 +5,21 @@ ghost use Rattle.std.specs.Prelude.{◌∷◌, None, IfErr, IfOk, OnOk, false, i
 ghost use Rattle.std.specs.Prelude.{true, vec_capacity};
 ghost use Rattle.std.specs.List.{flat_map};
 ghost use Rattle.babel_capture.specs.Capture.{HasRead, IsReadToCut, moment_read};
+ghost use Rattle.babel_capture.specs.Counts.{Made};
 ghost use Rattle.babel_timeline.specs.declared.telling.Telling.{Telling as TellingSaid};
 ghost use Rattle.babel_dump.specs.Device.{HasRoomToCount, HasRoomToWrite};
 ghost use Rattle.babel_dump.specs.EventsCause.{EventsCause, Fails, HasNobody, HasUnread};
 ghost use Rattle.babel_dump.specs.EventsCause.{IsBackwards, IsTooLate, IsUnreadIn, RefusesOctets};
 ghost use Rattle.babel_dump.specs.EventsCause.{RefusesPiece, RefusesWhole, TellsFault, nameless};
-ghost use Rattle.babel_dump.specs.EventsRun.{AreReadWhole, TellsEvents, WroteLines, heard_status};
+ghost use Rattle.babel_dump.specs.EventsRun.{AreReadWhole, NotesSome, TellsEvents, WroteLines};
+ghost use Rattle.babel_dump.specs.EventsRun.{heard_status, since_in};
 ghost use Rattle.babel_dump.specs.Followed.{Ends, EndsAt, Goes, HasFollowed, IsFollowed};
-ghost use Rattle.babel_dump.specs.Followed.{Suits, named_event};
+ghost use Rattle.babel_dump.specs.Followed.{KnowsOthers, Suits, named_event};
 ghost use Rattle.babel_dump.specs.FollowedSenders.{with_packets};
 ghost use Rattle.babel_dump.specs.HeardSenders.{heard_of, heard_told};
 ghost use Rattle.babel_dump.specs.Run.{output};
 ghost use Rattle.babel_dump.specs.Slices.{WroteFront};
+ghost use Rattle.babel_dump.specs.declared.events_job.Events.{Events as EventsSaid};
 ghost use Rattle.babel_dump.specs.declared.input_fault.InputFault.TheVariants as input_faults;
 ghost use Rattle.babel_dump.specs.declared.run_fault.Side.TheVariants as sides;
 ghost use Rattle.babel_dump.specs.declared.speaker.Speaker.{Speaker as SpeakerSaid};
@@ -316,7 +319,12 @@ impl<'a> Followed<'a> {
 
     /// Where the answers are for any source, the routes for others, up to the moment that the
     /// capture was read to.
-    fn other_sources(&mut self) -> Result<Option<OtherSources>, AllocError> {
+    fn other_sources(&mut self) -> Result<Option<OtherSources>, AllocError>
+        ensures { IfOk result (λ others. (events : EventsSaid) (made : List Made)
+            → self.old.follower.hearing.since.moment ≡ since_in events.since made
+            → KnowsOthers events made self.old.follower.other_sources
+            → NotesSome events (moment_read self.old.capture) made others) }
+    {
         if let Some(moment) = self.capture.moment() {
             self.follower.expire_others(moment)?;
         }
@@ -383,6 +391,7 @@ impl<'a> Followed<'a> {
     fn expire(&mut self, events: &Events) -> Result<(), AllocError>
         ensures same { (self.new.capture ≡ self.old.capture)
             × (self.new.buffer ≡ self.old.buffer) }
+        ensures others { self.new.follower.other_sources ≡ self.old.follower.other_sources }
         ensures ends { Suits events.now self.old.follower.hearing.teller → OnOk result
             (EndsAt events.now (moment_read self.old.capture) self.old self.new) }
     {

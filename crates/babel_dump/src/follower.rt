@@ -1,15 +1,17 @@
 //! What the records of a capture tell, heard as they are read.
-ghost use Rattle.std.specs.Prelude.{◌≡◌, ◌+◌, ◌^◌, ◌<◌, ◌≤◌, [], IfErr, IfOk, IsErr, None};
+ghost use Rattle.std.specs.Prelude.{◌≡◌, ◌+◌, ◌^◌, ◌<◌, ◌≤◌, List, [], IfErr, IfOk, IsErr, None};
 ghost use Rattle.std.specs.Prelude.{OnOk, Some, drop, false, length, take, true};
 ghost use Rattle.babel_capture.specs.Counts.{Made};
 ghost use Rattle.babel_capture.specs.Sinking.{IsTold, left_said, packet_said};
 ghost use Rattle.babel_tlv.specs.Framing.{framed};
+ghost use Rattle.babel_dump.specs.EventsRun.{NotesSome, since_in};
 ghost use Rattle.babel_dump.specs.Followed.{HasHeard, HearsFollowed, HearsFront, HearsTold};
 ghost use Rattle.babel_dump.specs.Followed.{HearsOthers, IsWholeTold, KnowsOthers, RefusesFront};
 ghost use Rattle.babel_dump.specs.Followed.{RefusesOthers, RefusesTold, RefusesUnheard};
 ghost use Rattle.babel_dump.specs.Followed.{RefusesUsually, Stops, StopsFollowed, Suits, trouble_of};
 ghost use Rattle.babel_dump.specs.FollowedSenders.{is_followed, with_followed};
 ghost use Rattle.babel_dump.specs.FollowedSenders.{sender_of as sender_found};
+ghost use Rattle.babel_dump.specs.declared.events_job.Events.{Events as EventsSaid};
 ghost use Rattle.babel_dump.specs.declared.hearing.Unheard.TheVariants as unheard;
 ghost use Rattle.babel_dump.specs.declared.stop.Stop.{Stop as StopSaid};
 
@@ -129,7 +131,7 @@ impl<'a> Follower<'a> {
         ensures heard { OnOk result
             (HearsTold self.old.events.now told.now self.old self.new) }
         ensures others { OnOk result (HearsOthers self.old.events.now told.now
-            self.old.other_sources self.new.other_sources) }
+            self.new.hearing.since.moment self.old.other_sources self.new.other_sources) }
         ensures stops { IfErr result (Stops self.old.events.now told.now self.old self.new) }
     {
         self.hear(told)?;
@@ -142,7 +144,7 @@ impl<'a> Follower<'a> {
             × (self.new.told ≡ self.old.told) × (self.new.fault ≡ self.old.fault) }
         ensures senders { self.new.senders ≡ self.old.senders }
         ensures others { OnOk result (HearsOthers self.old.events.now told.now
-            self.old.other_sources self.new.other_sources) }
+            self.old.hearing.since.moment self.old.other_sources self.new.other_sources) }
         ensures refused { IfErr result
             (RefusesOthers self.old.events.now told.now self.old.other_sources) }
     {
@@ -158,6 +160,10 @@ impl<'a> Follower<'a> {
             × (self.new.hearing ≡ self.old.hearing) × (self.new.told ≡ self.old.told)
             × (self.new.fault ≡ self.old.fault) }
         ensures senders { self.new.senders ≡ self.old.senders }
+        ensures others { OnOk result ((events : EventsSaid) (made : List Made)
+            → self.old.hearing.since.moment ≡ since_in events.since made
+            → KnowsOthers events made self.old.other_sources
+            → NotesSome events (Some until) made self.new.other_sources) }
     {
         match &mut self.other_sources {
             Some(others) => others.expire(until, self.hearing.since()),

@@ -1,6 +1,9 @@
 use Rattle.std.proofs.Common.{◌≡◌, ◌<◌, true, [], ap, rules, subst, sym, ◌∙◌}
 use Rattle.babel_capture.specs.Counts.{Counts}
-use Rattle.babel_dump.specs.EventsRun.{AreReadWhole, heard_status}
+use Rattle.babel_capture.specs.Capture.{State, moment_read}
+use Rattle.babel_dump.specs.EventsRun.{AreReadWhole, NotesSome, heard_status}
+use Rattle.babel_dump.specs.Followed.{KnowsOthers}
+use Rattle.babel_dump.specs.declared.hearing.Hearing.{Hearing}
 use Rattle.babel_dump.specs.Run.{output}
 use Rattle.babel_dump.specs.declared.outcome.Outcome.{Outcome}
 use Rattle.babel_dump.specs.declared.outcome.Reports.TheVariants as reports
@@ -18,6 +21,10 @@ returns-clause-ends g c fed told is =
     (record { outcome = outcome_of c.report-report.result; senders = c.in_ok-senders.senders; not_followed = c.not_followed.result; other_sources = c.in_ok-other_sources.other_sources }) is c.in_ok-cut.ensures.ok c.in_ok-cut.ensures.accepted (c.in_ok-expire.ensures.ends is.has_heard.1.suits)
     c.in_ok-write.ensures.lines (c.in_ok-status.ensures.status ∙ ap heard_status c.deref.ensures.value) (ap outcome_of report) c.in_ok-senders.ensures
     (λ strict. subst (λ (r : Counts). AreReadWhole r c.in_ok-senders.senders.items) report (rw (← c.deref-2.ensures.value) (c.in_ok-refuse_senders.ensures.whole strict)))
+    (λ made moment knows.
+    subst (λ (k : State). NotesSome c.args.events.now (moment_read k) made c.in_ok-other_sources.other_sources) (c.write.ensures.same.0 ∙ c.expire.ensures.same.0)
+    (c.in_ok-other_sources.ensures c.args.events.now made (ap (λ (h : Hearing). h.since.moment) c.write.ensures.same.2 ∙ moment)
+    (subst (KnowsOthers c.args.events.now made) (sym (c.write.ensures.others ∙ c.expire.ensures.others)) knows)))
 
 pub returns-in_err-cut-clause-cause : goal.returns-in_err-cut-clause-cause
 returns-in_err-cut-clause-cause g c =
