@@ -83,7 +83,7 @@ _babel_dump_names="show lookup normalise key pairs compare diff senders links ex
 # The options that a word follows.
 _babel_dump_valued="--from --other-from --interface --other-interface --since --until --expiry \
 --ignore --to --src --max-routes --max-octets --other-since --other-until --within --match \
---source --id --body --color --names --each"
+--source --id --body --and --color --names --each"
 
 # The options of a command.
 _babel_dump_options() {
@@ -108,7 +108,7 @@ _babel_dump_options() {
             ;;
         diff) echo --from --other-from --interface --other-interface --since --until --expiry \
             --hold --v4-via-v6 --quiet --accept-cut --max-routes --max-octets --other-since \
-            --other-until --within --match --source --id --strict --ignore --origins --stat \
+            --other-until --within --match --source --id --strict --ignore --origins --and --stat \
             --color --json --names --short --help ;;
         senders) echo --since --until --strict --accept-cut --quiet --max-octets --json --short \
             --help ;;

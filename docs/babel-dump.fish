@@ -45,7 +45,7 @@ end
 function __babel_dump_is_valued
     contains -- $argv[1] --from --other-from --interface --other-interface --since --until \
         --expiry --ignore --to --src --max-routes --max-octets --other-since --other-until \
-        --within --match --source --id --body --color --names --each
+        --within --match --source --id --body --and --color --names --each
 end
 
 complete -c babel-dump -n 'not __fish_seen_subcommand_from show lookup normalise key pairs compare diff senders links extract events help' -f
@@ -185,9 +185,11 @@ __babel_dump_option 'normalise' -l hex \
 __babel_dump_option 'show' -l summary \
     -d 'Print only how many routes, router-ids and next hops there are'
 __babel_dump_option 'show' -l origins \
-    -d 'Print who originates what: for each destination, source and router-id the least metric over all senders in a capture, and how many announce it'
+    -d 'Print who originates what: for each destination, source and router-id the least metric over all senders in the captures, and how many announce it'
 __babel_dump_option 'diff' -l origins \
     -d 'Compare who originates what in two captures: for each destination, source and router-id the least metric over all senders'
+__babel_dump_option 'diff' -l and -r \
+    -d 'With --origins: the captures that are compared with all those before this option, each read by itself'
 __babel_dump_option 'diff' -l stat \
     -d 'Print a last line: how many routes are gone, new, changed, and alike'
 __babel_dump_option 'diff' -l color -x -a 'auto always never' \

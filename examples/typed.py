@@ -348,12 +348,14 @@ class Told:
 
 @dataclass(frozen=True)
 class Note:
-    """Of each command but key; of events, and of a sender that is found, with its place."""
+    """Of each command but key; of events, and of a sender that is found, with its place; of several
+    captures on a side with the file."""
 
     note: str
     members: Dict[str, Any]
     origin: Dict[str, Any]
     other: bool
+    file: Optional[str] = None
 
 
 KINDS = Row, Looked, Report, Summary, Counts, Same, Differ, Alone, Differences, Stat
@@ -429,11 +431,12 @@ def first(kinds, found):
 def note(found):
     """A note."""
     name, other = found.pop("note"), value(bool, found.pop("other", False))
+    file = value(Optional[str], found.pop("file", None))
     names = ORIGIN if "sender" in found else {}
     origin = {each: found.pop(each) for each in names}
     if found.keys() != NOTES[name].keys():
         refuse(found)
-    return Note(name, members(NOTES[name], found), members(ORIGIN, origin), other)
+    return Note(name, members(NOTES[name], found), members(ORIGIN, origin), other, file)
 
 
 def line(text):

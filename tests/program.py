@@ -252,7 +252,8 @@ def check_options(program, tally):
     expect(tally, "the commands", set(names), {*options.COMMANDS, "help"})
     manual = options.MANUAL.read_text().replace("\\-", "-")
     for command in options.COMMANDS:
-        shown = re.compile(r"^  (?:-\w, |    )(--[a-z0-9-]+)(?: <(\w+)>)?(?=$|  )", re.MULTILINE)
+        option = r"^  (?:-\w, |    )(--[a-z0-9-]+)(?: <(\w+)>(?:\.\.\.)?)?(?=$|  )"
+        shown = re.compile(option, re.MULTILINE)
         rows = [row for row in options.rows_of(command) if not row.is_argument]
         wanted = [(f"--{row.id}", row.takes[0] if row.takes else "") for row in rows]
         found = shown.findall(help_of(program, command))

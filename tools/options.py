@@ -33,6 +33,7 @@ ZSH = {
     "other-interface": "_babel_dump_places 2",
     "each": "_files",
     "names": "_files",
+    "and": "_files",
     "ignore": f"_values -s , field {FIELDS}",
 }
 FISH = {
@@ -219,7 +220,7 @@ def zsh_spec(row):
         return quoted(f"{front}:{row.id}:_files")
     about = re.sub(r"[][:]", r"\\\g<0>", row.about())
     front = f"({' '.join(f'--{name}' for name in row.conflicts)})" if row.conflicts else ""
-    front += "*" if row.kind == "Words" else ""
+    front += "*" if row.kind in ("Words", "Following") else ""
     if not row.takes:
         return quoted(f"{front}--{row.id}[{about}]")
     words = f"({' '.join(row.takes[1])})" if row.kind == "OneOf" else ZSH.get(row.id, " ")
@@ -255,7 +256,8 @@ def fish():
     lines.append(f"__babel_dump_option help -f -a '{' '.join(COMMANDS)}'")
     lines += ["", f"__babel_dump_option '{' '.join(COMMANDS)}' -l help -d 'Print help'"]
     for row in OPTIONS:
-        more = "" if row.kind == "Nothing" else " -r" if row.id in ("each", "names") else " -x"
+        is_file = row.id in ("each", "names", "and")
+        more = "" if row.kind == "Nothing" else " -r" if is_file else " -x"
         words = " ".join(row.takes[1]) if row.kind == "OneOf" else FISH.get(row.id)
         more += f" -a '{words}'" if words else ""
         front = f"__babel_dump_option '{' '.join(row.commands)}' -l {row.id}{more}"

@@ -161,9 +161,9 @@ wrote_pairs pairs stream other writer senders other_senders made text done first
 
 -- ---- whatever was asked for
 
-pub did_as : (asked known : Asked) (seed : ℕ) (stream other : Option (List ℕ)) (writer : Output) (result : Result Done Trouble) → asked ≡ known
-    → IfOk result (Did known seed stream other writer) → IfOk result (Did asked seed stream other writer)
-did_as asked known seed stream other writer result is did = subst (λ (a : Asked). IfOk result (Did a seed stream other writer)) (sym is) did
+pub did_as : (asked known : Asked) (seed : ℕ) (stream other : Option (List ℕ)) (more other_more : List (Option (List ℕ))) (writer : Output) (result : Result Done Trouble) → asked ≡ known
+    → IfOk result (Did known seed stream other more other_more writer) → IfOk result (Did asked seed stream other more other_more writer)
+did_as asked known seed stream other more other_more writer result is did = subst (λ (a : Asked). IfOk result (Did a seed stream other more other_more writer)) (sym is) did
 
 pub failed_as : (asked known : Asked) (stream : Option (List ℕ)) (writer : Output) (result : Result Done Trouble) → asked ≡ known → IfErr result (Failed known stream writer)
     → IfErr result (Failed asked stream writer)

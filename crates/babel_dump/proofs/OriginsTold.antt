@@ -1,25 +1,26 @@
 -- What the senders in captures originate, one after another.
-use Rattle.std.proofs.Common.{◌≡◌, ℕ, List, [], ◌∷◌, ◌++◌, map, Option, None, Some, refl, sym, ap, subst, ◌∙◌, append_assoc, append-nil}
+use Rattle.std.proofs.Common.{◌≡◌, ℕ, List, [], ◌∷◌, ◌++◌, flat_map, map, Option, None, Some, refl, sym, ap, subst, ◌∙◌, append_assoc, append-nil, add-one, arith, Err, Ok, Result, ◌+◌, ◌<◌, ◌≤◌, suc, zero, length, drop, get_or, slice_set}
 use Rattle.std.specs.Io.KnownBytes.{Appends}
-use Rattle.std.specs.List.{AllByRecursion}
+use Rattle.std.specs.List.{AllByRecursion, Any}
+use Rattle.std.specs.Prelude.{IfSome, OnOk}
 use Rattle.std.specs.List.Sorted.{IsStrictlySortedBy}
 use Rattle.std.specs.Map.{keys_of}
 use Rattle.std.proofs.lemmas.Grind.{flat_map-append}
-use Rattle.std.proofs.lemmas.List.{map-append}
+use Rattle.std.proofs.lemmas.List.{drop_all, map-append}
 use Rattle.babel_capture.specs.Counts.{Made}
 use Rattle.babel_capture.specs.contracts.tallies.OriginOrd.TheImpl.{ghosts}
 use Rattle.babel_capture.specs.declared.tallies.Origin.{Origin}
 use Rattle.babel_table.specs.Rows.{Routes}
 use Rattle.babel_timeline.proofs.WordLaws.{all_more}
 use Rattle.babel_tlv.specs.Pair.{Pair}
-use Rattle.babel_dump.specs.AskedRun.{GaveOn, WroteOrigins}
+use Rattle.babel_dump.specs.AskedRun.{AreAllReadOn, AreReadOn, CaptureRoutes, GaveOn, HaveDump, IsDump, IsMisplacedIn, IsReadOn, WroteOrigins, misplaced_told}
 use Rattle.babel_dump.specs.CaptureGiven.{made_in}
 use Rattle.babel_dump.specs.EachSender.{AreOwn}
 use Rattle.babel_dump.specs.Fed.{AreWhole}
 use Rattle.babel_dump.specs.Filter.{kept_rows}
 use Rattle.babel_dump.specs.Originated.{AreOriginated, TakesMore}
 use Rattle.babel_dump.specs.OriginText.{origins_in, origins_status}
-use Rattle.babel_dump.specs.OriginsMade.{TakesOn, TakesSenders}
+use Rattle.babel_dump.specs.OriginsMade.{TakesRead, TakesSenders}
 use Rattle.babel_dump.specs.Packets.{packets_made}
 use Rattle.babel_dump.specs.PairsMade.{heard_in}
 use Rattle.babel_dump.specs.Run.{Output}
@@ -34,8 +35,13 @@ use Rattle.babel_dump.specs.declared.origins_job.Origins.{Origins}
 use Rattle.babel_dump.specs.declared.run_fault.Side.{Side}
 use Rattle.babel_dump.specs.declared.run_fault.Side.TheVariants as sides
 use Rattle.babel_dump.specs.declared.sender_tables.SenderTable.{SenderTable}
+use Rattle.babel_dump.specs.declared.trouble.Trouble.{Trouble}
 use Rattle.babel_dump.proofs.OriginatedLaws.{All, takes_both, takes_none}
 use Rattle.babel_dump.proofs.ToldSenders.{Entries, IsFedIn, all_fed}
+
+-- what a stream gives, if that is known
+abbrev pub Stream : Type 0
+Stream = Option (List ℕ)
 
 -- a sender's table is its own
 abbrev pub IsReadOwn : EachSender → CaptureRead → List Made → OwnRoutes → Type 0
@@ -89,12 +95,17 @@ module _ (filter : Filter) (side : Side) (each : EachSender) (read : CaptureRead
     takes = all.takes;
   }
 
--- ---- of a capture, if there is one
+-- ---- of a capture, and of more
 
-pub takes_read : (filter : Filter) (side : Side) (each : EachSender) (stream : Option (List ℕ)) (senders : SendersRead) (before after : All) → GaveOn each stream senders
+-- what holds anyhow
+pub on_any : {A E B : Type 0} (result : Result A E) → B → OnOk result B
+on_any (Ok a) holds = holds
+on_any (Err e) holds = tt
+
+pub takes_read : (filter : Filter) (side : Side) (each : EachSender) (stream : Stream) (senders : SendersRead) (before after : All) → GaveOn each stream senders
     → ((made : List Made) → AreWhole (packets_made made) → AreOwn each made senders.tables.entries
     → TakesSenders filter side each (heard_in senders.read made) (keys_of senders.tables.entries) before after)
-    → TakesOn filter side (Some each) stream before after
+    → TakesRead filter side (AreReadOn each stream) before after
 takes_read filter side each stream senders before after on takes =
     let of_all = takes (made_in on.gave.gave.given) on.gave.whole on.gave.are_own in
     record {
@@ -103,17 +114,113 @@ takes_read filter side each stream senders before after on takes =
       takes = of_all.takes;
     }
 
-pub takes_nothing : (filter : Filter) (side : Side) (each : Option EachSender) (stream : Option (List ℕ)) (all : All) → None ≡ each → TakesOn filter side each stream all all
-takes_nothing filter side each stream all none =
-    subst (λ (e : Option EachSender). TakesOn filter side e stream all all) none (record { found = []; read = refl; takes = takes_none side all })
+found_of : CaptureRoutes → List OwnRoutes
+found_of one = one.found
+
+IsOneRead : EachSender → CaptureRoutes → Type 0
+IsOneRead each one = AreReadOn each one.stream one.found
+
+-- the captures of these streams are read
+none_read : (each : EachSender) → AreAllReadOn each [] []
+none_read each = record { captures = []; of_each = refl; are_read = tt; of_all = refl }
+
+next_read : (each : EachSender) (streams : List Stream) (stream : Stream) (found more : List OwnRoutes) → AreAllReadOn each streams found → AreReadOn each stream more
+    → AreAllReadOn each (streams ++ stream ∷ []) (found ++ more)
+unfolding IsOneRead found_of
+next_read each streams stream found more was read =
+    let one : CaptureRoutes = record { stream = stream; found = more } in
+    record {
+      captures = was.captures ++ one ∷ [];
+      of_each = map-append (λ (o : CaptureRoutes). o.stream) was.captures (one ∷ []) ∙ ap (λ (l : List Stream). l ++ stream ∷ []) was.of_each;
+      are_read = all_more (IsOneRead each) was.captures one was.are_read read;
+      of_all = ap (λ (l : List OwnRoutes). l ++ more) was.of_all ∙ ap (λ (l : List OwnRoutes). flat_map found_of was.captures ++ l) (sym (append-nil more))
+          ∙ sym (flat_map-append found_of was.captures (one ∷ []));
+    }
+
+-- some of these streams are read, and these are left
+pub record TakingMore (filter : Filter) (side : Side) (each : EachSender) (streams left : List Stream) (before now : All) : Type 0 where
+  pub seen : List Stream
+  pub of_all : seen ++ left ≡ streams
+  pub taken : TakesRead filter side (AreAllReadOn each seen) before now
+
+module _ (filter : Filter) (side : Side) (each : EachSender) (streams : List Stream) (before : All) where
+  pub taking_no_capture : TakingMore filter side each streams streams before before
+  taking_no_capture = record {
+    seen = [];
+    of_all = refl;
+    taken = record { found = []; read = none_read each; takes = takes_none side before };
+  }
+
+  pub taking_capture : (stream : Stream) (left : List Stream) (now after : All) → TakingMore filter side each streams (stream ∷ left) before now
+      → TakesRead filter side (AreReadOn each stream) now after → TakingMore filter side each streams left before after
+  taking_capture stream left now after was more =
+      let were = was.taken in
+      let rows : rows_of_all filter (were.found ++ more.found) ≡ rows_of_all filter were.found ++ rows_of_all filter more.found =
+      flat_map-append (λ (o : OwnRoutes). kept_rows filter o.table.rows) were.found more.found in
+      record {
+        seen = was.seen ++ stream ∷ [];
+        of_all = append_assoc was.seen (stream ∷ []) left ∙ was.of_all;
+        taken = record {
+          found = were.found ++ more.found;
+          read = next_read each was.seen stream were.found more.found were.read more.read;
+          takes = subst (λ (l : List Pair). TakesMore side l before after) (sym rows)
+              (takes_both side (rows_of_all filter were.found) (rows_of_all filter more.found) before now after were.takes more.takes);
+        };
+      }
+
+  pub taking_captures : (left : List Stream) (after : All) → left ≡ [] → TakingMore filter side each streams left before after → TakesRead filter side (AreAllReadOn each streams) before after
+  taking_captures left after none all =
+      subst (λ (s : List Stream). TakesRead filter side (AreAllReadOn each s) before after)
+      (sym (append-nil all.seen) ∙ ap (λ (l : List Stream). all.seen ++ l) (sym none) ∙ all.of_all) all.taken
+
+pub takes_nothing : (filter : Filter) (side : Side) (each : Option EachSender) (streams : List Stream) (all : All) → None ≡ each → TakesRead filter side (IsReadOn each streams) all all
+takes_nothing filter side each streams all none =
+    subst (λ (e : Option EachSender). TakesRead filter side (IsReadOn e streams) all all) none (record { found = []; read = refl; takes = takes_none side all })
+
+-- ---- a dump among them
+
+some_so : {A : Type 0} {P Q : A → Type 0} (option : Option A) → ((a : A) → P a → Q a) → IfSome option P → IfSome option Q
+some_so None then holds = tt
+some_so (Some a) then holds = then a holds
+
+pub misplaced_so : {A B : Type 0} (trouble : Trouble) → (A → B) → IsMisplacedIn A trouble → IsMisplacedIn B trouble
+misplaced_so trouble then is = some_so (misplaced_told trouble) (λ option told. (told.0, then told.1)) is
+
+any_at : {A : Type 0} (P : A → Type 0) (seen : List A) (one : A) (left : List A) → P one → Any P (seen ++ one ∷ left)
+any_at P [] one left holds = (0, one, omega arith, refl, holds)
+any_at P (first ∷ seen) one left holds =
+    let there = any_at P seen one left holds in
+    (suc there.0, there.1, omega arith, there.3, there.4)
+
+pub have_dump : (streams seen : List Stream) (one : Stream) (left : List Stream) → seen ++ one ∷ left ≡ streams → IsDump one → HaveDump streams
+have_dump streams seen one left all dump = subst HaveDump all (any_at IsDump seen one left dump)
+
+-- where the streams that are left begin with this one, it is one of all
+pub refused_more : (filter : Filter) (side : Side) (each : EachSender) (streams : List Stream) (stream : Stream) (left : List Stream) (before now : All) (trouble : Trouble)
+    → TakingMore filter side each streams (stream ∷ left) before now → IsMisplacedIn (IsDump stream) trouble → IsMisplacedIn (HaveDump streams) trouble
+refused_more filter side each streams stream left before now trouble was is = misplaced_so trouble (have_dump streams was.seen stream left was.of_all) is
+
+-- ---- readers that are left, of which the first is read
+
+left_suc : {A B : Type 0} (f : A → B) (xs : List A) (i : ℕ) (d v : A) → i < length xs → map f (drop i xs) ≡ f (get_or xs i d) ∷ map f (drop (suc i) (slice_set xs i v))
+left_suc f [] i d v within = absurd (omega (arith, within))
+left_suc f (y ∷ xs) zero d v within = refl
+left_suc f (y ∷ xs) (suc i) d v within = left_suc f xs i d v (omega (arith, within))
+
+pub left_at : {A B : Type 0} (f : A → B) (xs : List A) (i : ℕ) (d v : A) → i < length xs → map f (drop i xs) ≡ f (get_or xs i d) ∷ map f (drop (i + 1) (slice_set xs i v))
+left_at f xs i d v within = rw add-one (left_suc f xs i d v within)
+
+pub none_left : {A B : Type 0} (f : A → B) (xs : List A) (i : ℕ) → length xs ≤ i → map f (drop i xs) ≡ []
+none_left f xs i past = ap (map f) (drop_all i xs past)
 
 -- ---- what was written
 
-pub wrote_origins : (origins : Origins) (stream other : Option (List ℕ)) (writer : Output) (first mid all : All) (lines text : List ℕ) (status : ℕ) (done : Done) → AreOriginated first [] []
-    → TakesOn origins.filter sides.First (Some origins.left) stream first mid → TakesOn origins.filter sides.Other origins.right other mid all
+pub wrote_origins : (origins : Origins) (streams others : List Stream) (writer : Output) (first mid all : All) (lines text : List ℕ) (status : ℕ) (done : Done)
+    → AreOriginated first [] [] → TakesRead origins.filter sides.First (AreAllReadOn origins.left streams) first mid
+    → TakesRead origins.filter sides.Other (IsReadOn origins.right others) mid all
     → lines ≡ origins_in origins all → status ≡ origins_status origins all → text ≡ lines → Appends writer.old.taken writer.new.taken text → done.status ≡ status
-    → WroteOrigins origins stream other writer done
-wrote_origins origins stream other writer first mid all lines text status done none left right lines_are status_is same wrote done_is = record {
+    → WroteOrigins origins streams others writer done
+wrote_origins origins streams others writer first mid all lines text status done none left right lines_are status_is same wrote done_is = record {
   left = left.found;
   right = right.found;
   first = left.read;

@@ -1,6 +1,7 @@
 -- What comes of what was asked for, over streams: this project's own.
-use Rattle.std.specs.Prelude.{ℕ, ◌≡◌, ◌≢◌, ◌⊎◌, List, [], codes, Option, None, Some, IfSome}
+use Rattle.std.specs.Prelude.{ℕ, ◌≡◌, ◌≢◌, ◌⊎◌, List, [], ◌∷◌, codes, map, Option, None, Some, IfSome}
 use Rattle.std.specs.Io.KnownBytes.{Appends, Keeps}
+use Rattle.std.specs.List.{AllByRecursion, Any, flat_map}
 use Rattle.std.specs.Map.{keys_of}
 use Rattle.babel_dump.specs.Begun.{BeginsSo}
 use Rattle.babel_dump.specs.CaptureGiven.{made_in}
@@ -133,18 +134,32 @@ pub record AreReadOn (each : EachSender) (stream : Option (List ℕ)) (found : L
   pub on : GaveOn each stream senders
   pub are_read : AreAllRead each (heard_of senders on) (keys_of senders.tables.entries) found
 
--- none where there is no capture
-abbrev pub IsReadOn : Option EachSender → (stream : Option (List ℕ)) → List OwnRoutes → Type 0
-IsReadOn None stream found = found ≡ []
-IsReadOn (Some each) stream found = AreReadOn each stream found
+-- a capture, and the tables of its senders
+pub record CaptureRoutes : Type 0 where
+  pub stream : Option (List ℕ)
+  pub found : List OwnRoutes
 
--- What the senders in the captures originate was written: by all rows that the filter keeps.
-pub record WroteOrigins (origins : Origins) (stream other : Option (List ℕ)) (writer : Output)
-    (done : Done) : Type 0 where
+-- each of the streams is such a capture, read by itself, and these are the tables of all senders
+pub record AreAllReadOn (each : EachSender) (streams : List (Option (List ℕ)))
+    (found : List OwnRoutes) : Type 0 where
+  pub captures : List CaptureRoutes
+  pub of_each : map (λ one. one.stream) captures ≡ streams
+  pub are_read : AllByRecursion (λ one. AreReadOn each one.stream one.found) captures
+  pub of_all : found ≡ flat_map (λ one. one.found) captures
+
+-- none where there is no capture
+abbrev pub IsReadOn : Option EachSender → List (Option (List ℕ)) → List OwnRoutes → Type 0
+IsReadOn None streams found = found ≡ []
+IsReadOn (Some each) streams found = AreAllReadOn each streams found
+
+-- What the senders in the captures originate was written: by all rows that the filter keeps, of all
+-- captures on a side.
+pub record WroteOrigins (origins : Origins) (streams others : List (Option (List ℕ)))
+    (writer : Output) (done : Done) : Type 0 where
   pub left : List OwnRoutes
   pub right : List OwnRoutes
-  pub first : AreReadOn origins.left stream left
-  pub second : IsReadOn origins.right other right
+  pub first : AreAllReadOn origins.left streams left
+  pub second : IsReadOn origins.right others right
   pub all : List (Origination × OnSides)
   pub are : AreOriginated all (rows_of_all origins.filter left) (rows_of_all origins.filter right)
   pub wrote : Appends writer.old.taken writer.new.taken (origins_in origins all)
@@ -159,15 +174,16 @@ pub record ToldEvents (events : Events) (stream : Option (List ℕ)) (writer : O
   pub tells : TellsEvents events reader.old reader.new writer answer
   pub status : done.status ≡ answer.outcome.status
 
--- what was asked for was done
-abbrev pub Did :
-    Asked → (seed : ℕ) → (stream other : Option (List ℕ)) → Output → Done → Type 0
-Did (askeds.Job job) seed stream other = DidJob job seed stream other
-Did (askeds.Lone lone) seed stream other = DidJob lone.job seed stream other
-Did (askeds.EachSender each) seed stream other = WroteSenders each stream other
-Did (askeds.EachPair pairs) seed stream other = WrotePairs pairs stream other
-Did (askeds.Origins origins) seed stream other = WroteOrigins origins stream other
-Did (askeds.Events events) seed stream other = ToldEvents events stream
+-- what was asked for was done, of the first stream and of the other, and of more on either side
+abbrev pub Did : Asked → (seed : ℕ) → (stream other : Option (List ℕ))
+    → (more other_more : List (Option (List ℕ))) → Output → Done → Type 0
+Did (askeds.Job job) seed stream other more other_more = DidJob job seed stream other
+Did (askeds.Lone lone) seed stream other more other_more = DidJob lone.job seed stream other
+Did (askeds.EachSender each) seed stream other more other_more = WroteSenders each stream other
+Did (askeds.EachPair pairs) seed stream other more other_more = WrotePairs pairs stream other
+Did (askeds.Origins origins) seed stream other more other_more =
+    WroteOrigins origins (stream ∷ more) (other ∷ other_more)
+Did (askeds.Events events) seed stream other more other_more = ToldEvents events stream
 
 -- the option that is told as misplaced
 abbrev pub misplaced_told : Trouble → Option (List ℕ)
@@ -188,15 +204,21 @@ IsMisplacedIn IsSo trouble =
 abbrev pub IsDump : Option (List ℕ) → Type 0
 IsDump stream = BeginsSo stream beginnings.Dump
 
--- where one of the streams is a dump
-abbrev pub IsOriginsRefused : (stream other : Option (List ℕ)) → Trouble → Type 0
-IsOriginsRefused stream other = IsMisplacedIn (IsDump stream ⊎ IsDump other)
+-- one of the streams is a dump
+abbrev pub HaveDump : List (Option (List ℕ)) → Type 0
+HaveDump streams = Any IsDump streams
 
-abbrev pub IsRefused : Asked → (stream other : Option (List ℕ)) → Trouble → Type 0
-IsRefused (askeds.Job job) stream other trouble = IsJobRefused job stream other trouble
-IsRefused (askeds.Lone lone) stream other trouble = IsJobRefused lone.job stream other trouble
-IsRefused (askeds.Origins origins) stream other trouble = IsOriginsRefused stream other trouble
-IsRefused asked stream other trouble = Unit {0}
+-- that is one of these, or of those on the other side
+abbrev pub IsOriginsRefused : (streams others : List (Option (List ℕ))) → Trouble → Type 0
+IsOriginsRefused streams others = IsMisplacedIn (HaveDump streams ⊎ HaveDump others)
+
+abbrev pub IsRefused : Asked → (stream other : Option (List ℕ))
+    → (more other_more : List (Option (List ℕ))) → Trouble → Type 0
+IsRefused (askeds.Job job) stream other more other_more = IsJobRefused job stream other
+IsRefused (askeds.Lone lone) stream other more other_more = IsJobRefused lone.job stream other
+IsRefused (askeds.Origins origins) stream other more other_more =
+    IsOriginsRefused (stream ∷ more) (other ∷ other_more)
+IsRefused asked stream other more other_more = λ trouble. Unit {0}
 
 -- what changed in a capture was not told to its end, for this cause
 pub record FailedEvents (events : Events) (stream : Option (List ℕ)) (writer : Output)

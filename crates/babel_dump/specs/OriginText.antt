@@ -1,6 +1,6 @@
 -- What `show --origins` and `diff --origins` write. These are this project's own.
 use Rattle.std.specs.Prelude.{ℕ, Bool, true, ◌&&◌, not, ◌==◌, ◌-◌, if◌then◌else◌}
-use Rattle.std.specs.Prelude.{List, [], ◌++◌, codes, filter, is_none, is_some, length}
+use Rattle.std.specs.Prelude.{List, [], ◌++◌, codes, filter, is_none, is_some, length, nat_lt}
 use Rattle.std.specs.Prelude.{Option, None, Some}
 use Rattle.std.specs.List.{flat_map}
 use Rattle.std.specs.Fmt.{decimal}
@@ -23,10 +23,10 @@ use Rattle.babel_dump.specs.declared.run_fault.Side.{Side}
 use Rattle.babel_dump.specs.declared.run_fault.Side.TheVariants as sides
 use Rattle.babel_dump.specs.declared.style.Style.{Style}
 
--- the capture on this side, if there is one
-abbrev pub capture_on : Side → Origins → Option EachSender
-capture_on sides.First origins = Some origins.left
-capture_on sides.Other origins = origins.right
+-- how the captures on this side are read, if there are any
+abbrev pub captures_on : Side → Origins → Option EachSender
+captures_on sides.First origins = Some origins.left
+captures_on sides.Other origins = origins.right
 
 -- `DST from SRC id ROUTERID metric N senders N`
 abbrev pub origin_text : Style → (has_metric : Bool) → Origination → Announced → List ℕ
@@ -55,9 +55,9 @@ abbrev pub origin_json : Style → Origination → Announced → List ℕ
 origin_json style one announced =
     origin_front style one ++ origin_members true announced ++ line_end
 
--- ---- of one capture
+-- ---- of captures on one side
 
--- a line of what it has
+-- a line of what they have
 abbrev pub shown_by : Format → Origination → Option Announced → List ℕ
 shown_by format one None = []
 shown_by (formats.Text style) one (Some announced) =
@@ -82,7 +82,7 @@ abbrev pub changes_of : (has_metric : Bool) → List (Origination × OnSides)
     → List (Origination × OnSides)
 changes_of has_metric all = filter (λ one. differs has_metric one.1) all
 
--- `-ORIGIN`, `+ORIGIN`, or nothing where the capture on this side does not have it
+-- `-ORIGIN`, `+ORIGIN`, or nothing where the captures on this side do not have it
 abbrev pub marked_origin : Style → (coloured has_metric : Bool) → Side → Origination
     → Option Announced → List ℕ
 marked_origin style coloured has_metric side one None = []
@@ -124,9 +124,13 @@ abbrev pub numbers_after :
     Format → (stat : Bool) → (count : ℕ) → List (Origination × OnSides) → List ℕ
 numbers_after format stat count changes = if stat then numbers_in format count changes else []
 
--- `--- FILE`, `+++ FILE`
-abbrev pub origin_head : (mark file : List ℕ) → List ℕ
-origin_head mark file = mark ++ file_text file ++ newline
+-- ` and N more`, if there are more than the one that is named
+abbrev pub and_more : (more : ℕ) → List ℕ
+and_more more = if nat_lt 0 more then codes " and " ++ decimal more ++ codes " more" else []
+
+-- `--- FILE`, `+++ FILE`: that of the first capture on a side, and how many more there are
+abbrev pub origin_head : (mark file : List ℕ) → (more : ℕ) → List ℕ
+origin_head mark file more = mark ++ file_text file ++ and_more more ++ newline
 
 abbrev pub origin_changes : Origins → (count : ℕ) → List (Origination × OnSides) → List ℕ
 origin_changes origins count changes =
@@ -138,8 +142,9 @@ abbrev pub changed_text :
     Origins → (other_file : List ℕ) → (count : ℕ) → List (Origination × OnSides) → List ℕ
 changed_text origins other_file count [] = []
 changed_text origins other_file count changes =
-    origin_head (codes "--- ") (name_of origins.left.file)
-    ++ origin_head (codes "+++ ") other_file ++ origin_changes origins count changes
+    origin_head (codes "--- ") (name_of origins.left.file) (length origins.more_left.items)
+    ++ origin_head (codes "+++ ") other_file (length origins.more_right.items)
+    ++ origin_changes origins count changes
 
 -- as JSON an object for each change, and the numbers also where there is none
 abbrev pub changed_in :

@@ -1,7 +1,6 @@
 -- How what senders originate is found, one capture after another: this project's own.
-use Rattle.std.specs.Prelude.{ℕ, List, Option}
+use Rattle.std.specs.Prelude.{List}
 use Rattle.babel_capture.specs.declared.tallies.Origin.{Origin}
-use Rattle.babel_dump.specs.AskedRun.{IsReadOn}
 use Rattle.babel_dump.specs.Originated.{TakesMore}
 use Rattle.babel_dump.specs.ToldOrigins.{AreAllRead, OwnRoutes, rows_of_all}
 use Rattle.babel_dump.specs.ToldPairs.{Heard}
@@ -18,9 +17,9 @@ pub record TakesSenders (filter : Filter) (side : Side) (each : EachSender) (hea
   pub are_read : AreAllRead each heard senders found
   pub takes : TakesMore side (rows_of_all filter found) before after
 
--- those of the capture on a side, if there is one
-pub record TakesOn (filter : Filter) (side : Side) (each : Option EachSender)
-    (stream : Option (List ℕ)) (before after : List (Origination × OnSides)) : Type 0 where
+-- those of tables of which this holds are taken
+pub record TakesRead (filter : Filter) (side : Side) (AreRead : List OwnRoutes → Type 0)
+    (before after : List (Origination × OnSides)) : Type 0 where
   pub found : List OwnRoutes
-  pub read : IsReadOn each stream found
+  pub read : AreRead found
   pub takes : TakesMore side (rows_of_all filter found) before after

@@ -28,7 +28,7 @@ pub enum Asked {
     /// What is found of the senders in two captures, of each with its fellow, where there is no
     /// `--from`.
     EachPair(EachPair),
-    /// What the senders in a capture originate, or those in two: `--origins`.
+    /// What the senders in captures originate, on one side or on two: `--origins`.
     Origins(Origins),
     /// `events`: what changed in a capture, and when.
     Events(Events),
@@ -60,6 +60,14 @@ impl Asked {
         }
     }
 
+    /// Where more captures on this side are read from, of `--origins`.
+    pub fn more(&self, side: Side) -> &[DumpFile] {
+        match self {
+            Asked::Origins(origins) => origins.more(side),
+            _ => &[],
+        }
+    }
+
     /// Where the input on this side is read from.
     pub(crate) fn input(&self, side: Side) -> Option<&DumpFile> {
         match side {
@@ -68,11 +76,20 @@ impl Asked {
         }
     }
 
-    /// The same of a capture alone, as `--origins` reads one.
-    pub(crate) fn capture(&self, side: Side) -> Option<&DumpFile> {
+    /// Where the capture is read from that has this place among those of both sides, of `--origins`.
+    pub(crate) fn capture(&self, place: usize) -> Option<&DumpFile> {
         match self {
-            Asked::Origins(_) => self.input(side),
+            Asked::Origins(origins) => origins.file_at(place),
             _ => None,
+        }
+    }
+
+    /// What a line on standard error about the capture at this place begins with: its file, where
+    /// there are several on a side.
+    pub(crate) fn named_capture(&self, place: usize) -> Named<'_> {
+        match self {
+            Asked::Origins(origins) => Named(origins.name_at(place)),
+            _ => self.named(),
         }
     }
 

@@ -1,20 +1,14 @@
 //! Does what is asked for, over streams: whether one is a capture is seen by its first octets.
-ghost use Rattle.std.specs.Prelude.{◌≡◌, ◌⊎◌, IfErr, IfOk, IfSome, None, OnOk, Some};
+ghost use Rattle.std.specs.Prelude.{IfErr, IfOk, IfSome, map};
 ghost use Rattle.std.specs.Io.KnownBytes.{Keeps};
 ghost use Rattle.babel_dump.specs.Begun.{BeginsSo};
 ghost use Rattle.babel_dump.specs.Device.{HasRoomToWrite};
 ghost use Rattle.babel_dump.specs.Run.{output};
-ghost use Rattle.babel_dump.specs.AskedRun.{Did, DidJob, Failed, FailedEvents, GaveOn};
-ghost use Rattle.babel_dump.specs.AskedRun.{IsDump, IsJobRefused, IsMisplacedIn};
-ghost use Rattle.babel_dump.specs.AskedRun.{IsOriginsRefused, IsRefused, ToldEvents};
-ghost use Rattle.babel_dump.specs.AskedRun.{WroteOrigins, WrotePairs, WroteSenders};
-ghost use Rattle.babel_dump.specs.AskedRun.{misplaced_told};
-ghost use Rattle.babel_dump.specs.OriginText.{capture_on};
-ghost use Rattle.babel_dump.specs.OriginsMade.{TakesOn};
+ghost use Rattle.babel_dump.specs.AskedRun.{Did, DidJob, Failed, FailedEvents, IsJobRefused};
+ghost use Rattle.babel_dump.specs.AskedRun.{IsRefused, ToldEvents, WrotePairs, WroteSenders};
 ghost use Rattle.babel_dump.specs.Files.{reading_of};
 ghost use Rattle.babel_dump.specs.declared.run_fault.Side.TheVariants as sides;
 
-use crate::absence::Absence;
 use crate::asked::Asked;
 use crate::begun::{Begins, Begun, Whole};
 use crate::byte_in::FromReader;
@@ -24,17 +18,14 @@ use crate::each_pair::EachPair;
 use crate::each_sender::{EachSender, SendersRead};
 use crate::events::run_events;
 use crate::events_job::Events;
-use crate::filter::Filter;
-use crate::input_fault::InputFault;
+use crate::gather_on::gather_on;
+use crate::inputs::Inputs;
 use crate::job::Job;
 use crate::job_run::run_job;
-use crate::origins_job::Origins;
-use crate::origins_text::{OriginsText, origins_text};
-use crate::read_senders::Captured;
+use crate::origins_run::tell_origins;
 use crate::run_fault::{RunFault, Side};
 use crate::says::Says;
 use crate::statuses::status_of_all;
-use crate::told_origins::ToldOrigins;
 use crate::told_pairs::ToldPairs;
 use crate::told_senders::ToldSenders;
 use crate::trouble::Trouble;
@@ -42,35 +33,40 @@ use crate::write::write_text;
 use std::alloc::Global;
 use std::io::Read;
 
-/// Does what is asked for: the first stream has FILE, and the other OTHER, or the pairs of `--each`.
-/// Where a dump is read, a stream may be a capture that has it. Keys of rows are found by this seed.
+/// Does what is asked for: the first inputs have FILE, and the others OTHER, or the pairs of
+/// `--each`; of `--origins` there are more of each. Where a dump is read, a stream may be a capture
+/// that has it. Keys of rows are found by this seed.
 ///
 /// # Errors
 ///
 /// Why nothing came of it; an option that is for captures alone where it was given for a dump.
-pub fn run_asked<R: Read + Drop, S: Read + Drop, W: ByteOut, T: Says>(
+pub fn run_asked<R: Read, W: ByteOut, T: Says>(
     alloc: Global,
     seed: u128,
     asked: &mut Asked,
-    reader: R,
-    other: S,
+    inputs: &mut Inputs<R>,
+    others: &mut Inputs<R>,
     writer: &mut W,
     says: &mut T,
 ) -> Result<Done, Trouble>
     requires { HasRoomToWrite (W.state writer.old) }
-    ensures done { IfOk result (Did asked.old seed (R.remaining reader) (S.remaining other)
+    ensures done { IfOk result (Did asked.old seed
+        (R.remaining inputs.old.first) (R.remaining others.old.first)
+        (map R.remaining inputs.old.more.items) (map R.remaining others.old.more.items)
         (output (W.state writer.old) (W.state writer.new))) }
-    ensures refused { IfErr result
-        (IsRefused asked.old (R.remaining reader) (S.remaining other)) }
-    ensures failed { IfErr result (Failed asked.old (R.remaining reader)
+    ensures refused { IfErr result (IsRefused asked.old
+        (R.remaining inputs.old.first) (R.remaining others.old.first)
+        (map R.remaining inputs.old.more.items) (map R.remaining others.old.more.items)) }
+    ensures failed { IfErr result (Failed asked.old (R.remaining inputs.old.first)
         (output (W.state writer.old) (W.state writer.new))) }
 {
+    let (reader, other) = (&mut inputs.first, &mut others.first);
     match asked {
         Asked::Job(job) => do_job(alloc, seed, job, reader, other, writer),
         Asked::Lone(lone) => do_job(alloc, seed, &mut lone.job, reader, other, writer),
         Asked::EachSender(each) => tell_senders(alloc, seed, each, reader, other, writer),
         Asked::EachPair(pairs) => tell_pairs(alloc, seed, pairs, reader, other, writer),
-        Asked::Origins(origins) => tell_origins(alloc, seed, origins, reader, other, writer),
+        Asked::Origins(origins) => tell_origins(alloc, seed, origins, inputs, others, writer),
         Asked::Events(events) => tell_events(alloc, events, reader, writer, says),
     }
 }
@@ -184,134 +180,6 @@ fn tell_pairs<R: Read + Drop, S: Read + Drop, W: ByteOut>(
     let done = done.of_pairs(pairs, &read, &other_read, senders.told, status)?;
     write_text(writer, &lines)?;
     Ok(done)
-}
-
-/// Reads captures, the first to its end before the other, and writes what their senders originate.
-fn tell_origins<R: Read + Drop, S: Read + Drop, W: ByteOut>(
-    alloc: Global,
-    seed: u128,
-    origins: &Origins,
-    reader: R,
-    other: S,
-    writer: &mut W,
-) -> Result<Done, Trouble>
-    requires { HasRoomToWrite (W.state writer.old) }
-    ensures done { IfOk result (WroteOrigins origins.now (R.remaining reader) (S.remaining other)
-        (output (W.state writer.old) (W.state writer.new))) }
-    ensures refused { IfErr result (IsOriginsRefused (R.remaining reader) (S.remaining other)) }
-{
-    let mut done = Done::new(alloc)?;
-    let mut told = ToldOrigins::new(alloc);
-    take_on(
-        alloc,
-        seed,
-        origins,
-        Side::First,
-        reader,
-        &mut told,
-        &mut done,
-    )?;
-    take_on(
-        alloc,
-        seed,
-        origins,
-        Side::Other,
-        other,
-        &mut told,
-        &mut done,
-    )?;
-    let ToldOrigins {
-        senders,
-        originated,
-    } = told;
-    let OriginsText { lines, status } = origins_text(alloc, origins, &originated.all)?;
-    let done = done.of_origins(senders.told, status);
-    write_text(writer, &lines)?;
-    Ok(done)
-}
-
-/// Takes what the senders in the capture on a side originate, if there is one.
-fn take_on<R: Read + Drop>(
-    alloc: Global,
-    seed: u128,
-    origins: &Origins,
-    side: Side,
-    reader: R,
-    told: &mut ToldOrigins,
-    done: &mut Done,
-) -> Result<(), Trouble>
-    ensures taken { OnOk result (TakesOn origins.now.filter side (capture_on side origins.now)
-        (R.remaining reader) told.old.originated.all.entries told.new.originated.all.entries) }
-    ensures refused { IfErr result (IsMisplacedIn (IsDump (R.remaining reader))) }
-{
-    match origins.on(side) {
-        Some(each) => {
-            let options = origins.moment_options(side);
-            let filter = &origins.filter;
-            take_capture(alloc, seed, each, filter, side, options, reader, told, done)
-        }
-        None => Ok(()),
-    }
-}
-
-/// Takes what the senders in a capture originate.
-fn take_capture<R: Read + Drop>(
-    alloc: Global,
-    seed: u128,
-    each: &EachSender,
-    filter: &Filter,
-    side: Side,
-    options: (&'static str, &'static str),
-    reader: R,
-    told: &mut ToldOrigins,
-    done: &mut Done,
-) -> Result<(), Trouble>
-    ensures taken { OnOk result (TakesOn filter.now side (Some each.now) (R.remaining reader)
-        told.old.originated.all.entries told.new.originated.all.entries) }
-    ensures refused { IfErr result (IsMisplacedIn (IsDump (R.remaining reader))) }
-{
-    let refusal = Trouble::Misplaced(side, "--origins");
-    let SendersRead { read, tables } = gather_on(
-        alloc, seed, each, side, options, refusal, reader,
-    )?;
-    done.add_capture(side, each, &read)?;
-    let captured = Captured {
-        side,
-        each,
-        read: &read,
-    };
-    told.take(alloc, filter, &captured, tables)
-}
-
-/// Reads the capture on a side, which is to have a sender that is asked for; these options have it
-/// read from a moment and up to one. A dump is refused so.
-fn gather_on<R: Read + Drop>(
-    alloc: Global,
-    seed: u128,
-    each: &EachSender,
-    side: Side,
-    options: (&'static str, &'static str),
-    refusal: Trouble,
-    reader: R,
-) -> Result<SendersRead, Trouble>
-    ensures made { IfOk result (GaveOn each.now (R.remaining reader)) }
-    ensures refused { IfErr result (λ trouble. (misplaced_told trouble ≡ None)
-        ⊎ ((trouble ≡ refusal) × IsDump (R.remaining reader))) }
-{
-    let begun = Begun::new(reader);
-    if let Begins::Dump = begun.begins() {
-        return Err(refusal);
-    }
-    match each.gather(alloc, seed, &mut begun.into_device()) {
-        Ok(read) => {
-            if read.tables.is_empty() {
-                let absent = InputFault::NoPackets(Absence::at(each.place));
-                return Err(Trouble::of_input(side, absent, options));
-            }
-            Ok(read)
-        }
-        Err(fault) => Err(Trouble::of_input(side, fault, options)),
-    }
 }
 
 /// Tells what changed in a capture, as it is read.

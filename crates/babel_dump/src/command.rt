@@ -87,6 +87,9 @@ fn arg<'a>(alloc: Global, row: &'a OptionRow) -> Result<Arg<'a>, AllocError> {
     for id in row.conflicts {
         arg = arg.conflicts_with(id)?;
     }
+    if let Some(id) = row.unless {
+        arg = arg.required_unless_present(id)?;
+    }
     match row.needs {
         Some(id) => arg.requires_arg(id),
         None => Ok(arg),
@@ -98,6 +101,7 @@ fn taking<'a>(arg: Arg<'a>, row: &'a OptionRow) -> Arg<'a> {
     match row.takes {
         Takes::Nothing => arg.long(row.id).action(ArgAction::SetTrue),
         Takes::Word(name) | Takes::Words(name) => with_value(arg, row.id, name),
+        Takes::Following(name) => with_value(arg, row.id, name).num_args(1..),
         Takes::Number(name, least, most) => {
             with_value(arg, row.id, name).value_parser(value_parser!(u32).range(least..=most))
         }

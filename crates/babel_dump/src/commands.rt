@@ -49,7 +49,8 @@ const AFTER_SHOW: &str = after_help!(
     "show --hold --from fe80::1 x.pcap | grep -v unreachable",
     "show --quiet --match 10.1.2.3 --from fe80::1 x.pcap",
     "show --summary --from fe80::1 x.pcap",
-    "show --until +30 --expiry 3.5 --from fe80::1 x.pcap";
+    "show --until +30 --expiry 3.5 --from fe80::1 x.pcap",
+    "show --origins x.pcap y.pcap";
     "0  done"
 );
 
@@ -104,7 +105,8 @@ const AFTER_DIFF: &str = after_help!(
     examples:
     "diff --from fe80::1 before.pcap now.pcap",
     "diff --stat --color auto --from fe80::1 before.pcap now.pcap",
-    "diff --until +30 --other-until +60 --from fe80::1 x.pcap x.pcap";
+    "diff --until +30 --other-until +60 --from fe80::1 x.pcap x.pcap",
+    "diff --origins before-*.pcap --and now-*.pcap";
     "0  no route differs",
     "1  at least one route differs"
 );

@@ -7,7 +7,6 @@ use crate::absence::Absence;
 use crate::asked::Asked;
 use crate::byte_out::FromWriter;
 use crate::capture_input::CaptureRead;
-use crate::capture_notes::CaptureNotes;
 use crate::each_pair::EachPair;
 use crate::each_sender::EachSender;
 use crate::events_job::Events;
@@ -16,15 +15,18 @@ use crate::hint::Hint;
 use crate::input_fault::InputFault;
 use crate::job::Job;
 use crate::job_run::Ran;
+use crate::key_text::Named;
 use crate::lone_sender::LoneSender;
-use crate::note::Note;
+use crate::note::{Note, SideNote};
 use crate::notes::Notes;
 use crate::other_sources::source_note;
 use crate::outcome::Reports;
 use crate::place_word::NamedOrigin;
+use crate::read_senders::Captured;
 use crate::run_fault::{RunFault, Side};
 use crate::says::Says;
 use crate::spelling::Spelling;
+use crate::told_capture::{ToldCapture, ToldCaptures};
 use crate::trouble::{Trouble, say_hint};
 use crate::write::write_text;
 use babel_capture::{Gathered, Origin};
@@ -48,6 +50,8 @@ pub struct Done {
     senders: Vec<ToldSender>,
     /// What there is to know of one of these.
     sender_notes: Notes,
+    /// The captures of `--origins`.
+    captures: ToldCaptures,
 }
 
 /// A sender in a capture that is told by itself.
@@ -129,6 +133,7 @@ impl Done {
             notes: Notes::new(alloc)?,
             senders: Vec::new(alloc),
             sender_notes: Notes::new(alloc)?,
+            captures: ToldCaptures::none(alloc),
         })
     }
 
@@ -211,7 +216,7 @@ impl Done {
             let absence = Absence::at(each.place);
             return Err(Trouble::from(InputFault::NoPackets(absence)));
         }
-        self.add_capture(Side::First, each, read)?;
+        Captured::on(Side::First, each, read).note(&mut self.notes)?;
         self.status = status;
         self.senders = senders;
         Ok(self)
@@ -230,37 +235,20 @@ impl Done {
         ensures status { IfOk result (λ done. done.status ≡ status) }
         ensures senders { IfOk result (λ done. done.senders ≡ senders) }
     {
-        self.add_capture(Side::First, &pairs.left, read)?;
-        self.add_capture(Side::Other, &pairs.right, other_read)?;
+        Captured::on(Side::First, &pairs.left, read).note(&mut self.notes)?;
+        Captured::on(Side::Other, &pairs.right, other_read).note(&mut self.notes)?;
         self.status = status;
         self.senders = senders;
         Ok(self)
     }
 
-    /// What came of `show --origins` or `diff --origins`, of these senders, with this status.
-    pub(crate) fn of_origins(mut self, senders: Vec<ToldSender>, status: u8) -> Done
+    /// What came of `show --origins` or `diff --origins`, of these captures, with this status.
+    pub(crate) fn of_origins(mut self, captures: ToldCaptures, status: u8) -> Done
         ensures { result.status ≡ status }
     {
         self.status = status;
-        self.senders = senders;
+        self.captures = captures;
         self
-    }
-
-    /// Adds what there is to know of a capture, of which each sender is told by itself.
-    pub(crate) fn add_capture(
-        &mut self,
-        side: Side,
-        each: &EachSender,
-        read: &CaptureRead,
-    ) -> Result<(), AllocError> {
-        let capture = CaptureNotes {
-            report: read.gathered.report(),
-            cut: read.cut,
-            are_apart: true,
-            expired_rows: 0,
-        };
-        self.notes
-            .add_capture(side, capture, each.interval(&read.gathered))
     }
 
     /// The exit status: the greatest of that of the run and those of the senders.
@@ -286,6 +274,7 @@ impl Done {
         if let Some(lone) = asked.lone_sender() {
             write_text(&mut FromWriter::new(&mut writer), &lone.note)?;
         }
+        write_text(&mut FromWriter::new(&mut writer), &self.captures.json)?;
         self.notes.write_json(&mut FromWriter::new(&mut writer))?;
         for sender in &self.senders {
             if let Ok(read) = sender.read {
@@ -306,14 +295,34 @@ pub fn say_done<S: Says>(says: &mut S, asked: &Asked, done: &mut Done) {
     if !asked.is_quiet() {
         say_notes(says, asked, done);
     }
+    let notes = &mut done.sender_notes;
     for sender in &done.senders {
-        say_sender(says, asked, sender, &mut done.sender_notes);
+        say_sender(says, asked, asked.named(), sender, notes);
+    }
+    for (place, capture) in done.captures.list.iter().enumerate() {
+        say_capture(says, asked, asked.named_capture(place), capture, notes);
+    }
+}
+
+/// Says what there is to know of a capture, which is named so, and of its senders.
+fn say_capture<S: Says>(
+    says: &mut S,
+    asked: &Asked,
+    file: Named<'_>,
+    capture: &ToldCapture,
+    notes: &mut Notes,
+) {
+    if asked.is_quiet() {
+        return;
+    }
+    say_listed(says, asked, file, capture.notes.list());
+    for sender in &capture.senders {
+        say_sender(says, asked, file, sender, notes);
     }
 }
 
 /// Says what there is to know of the inputs.
 fn say_notes<S: Says>(says: &mut S, asked: &Asked, done: &Done) {
-    let file = asked.named();
     if let Some(LoneSender { origin, name, .. }) = asked.lone_sender() {
         let (origin, name) = (*origin, name.as_slice());
         says.say(&format_args!("note: from {}", NamedOrigin { origin, name }));
@@ -321,15 +330,26 @@ fn say_notes<S: Says>(says: &mut S, asked: &Asked, done: &Done) {
     if let Some(report) = &done.shown {
         say_reasons(says, asked, Side::First, report);
     }
-    for note in done.notes.list() {
+    say_listed(says, asked, asked.named(), done.notes.list());
+}
+
+/// Says notes about an input, which is named so.
+fn say_listed<S: Says>(says: &mut S, asked: &Asked, file: Named<'_>, notes: &[SideNote]) {
+    for note in notes {
         says.say(&format_args!("{file}{note}"));
         say_note_hints(says, asked, note.side, &note.note);
     }
 }
 
-/// Says the notes of a sender, or why its dump is refused.
-fn say_sender<S: Says>(says: &mut S, asked: &Asked, told: &ToldSender, notes: &mut Notes) {
-    let (file, side) = (asked.named(), told.side);
+/// Says the notes of a sender in an input, which is named so, or why its dump is refused.
+fn say_sender<S: Says>(
+    says: &mut S,
+    asked: &Asked,
+    file: Named<'_>,
+    told: &ToldSender,
+    notes: &mut Notes,
+) {
+    let side = told.side;
     let sender = NamedOrigin {
         origin: told.origin,
         name: &told.name,

@@ -102,6 +102,11 @@ impl<'m, 'a> GivenWords<'m, 'a> {
         self.matches.get_str(id)
     }
 
+    /// Whether an option or an argument that may have several words has any.
+    pub fn has_words(&self, id: &str) -> bool {
+        !self.matches.get_strs(id).unwrap_or(&[]).is_empty()
+    }
+
     /// The address that a required option has.
     pub fn address(&mut self, id: &str) -> Addr {
         let word = self.word(id).unwrap_or("");
@@ -183,6 +188,15 @@ impl<'m, 'a> GivenWords<'m, 'a> {
                 DumpFile::StandardInput
             }
         }
+    }
+
+    /// The files that an option or an argument names, which may have several words.
+    pub fn files(&mut self, id: &str) -> Result<Vec<DumpFile>, AllocError> {
+        let mut files = Vec::new(self.alloc);
+        for name in self.matches.get_strs(id).unwrap_or(&[]) {
+            files.push(self.file_of(name)).map_err(AllocError::from)?;
+        }
+        Ok(files)
     }
 
     /// The mode that the words ask for.

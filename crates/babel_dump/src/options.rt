@@ -13,6 +13,8 @@ pub(crate) enum Takes {
     Word(&'static str),
     /// An option that may be given several times, with such a value.
     Words(&'static str),
+    /// An option that has all words after it, up to the next option, as such values.
+    Following(&'static str),
     /// An option that is given once at most, with a number from the first to the second of these.
     Number(&'static str, i64, i64),
     /// An option with one of these words, of which the last one given counts.
@@ -34,6 +36,8 @@ pub(crate) struct OptionRow {
     /// The commands that have it so.
     pub commands: &'static [&'static str],
     pub is_required: bool,
+    /// The option without which it is required, if it is not always.
+    pub unless: Option<&'static str>,
     /// The options that it is not given with.
     pub conflicts: &'static [&'static str],
     /// The option or the group that it is given with.
@@ -70,6 +74,7 @@ const FLAG: OptionRow = OptionRow {
     help: "",
     commands: &[],
     is_required: false,
+    unless: None,
     conflicts: &[],
     needs: None,
 };
@@ -232,6 +237,23 @@ const FILE: OptionRow = OptionRow {
     takes: Takes::File("FILE"),
     help: "The dump, or the capture that has it; standard input if omitted or -",
     commands: &["show", "lookup", "normalise", "pairs"],
+    ..FLAG
+};
+
+const OTHER: OptionRow = OptionRow {
+    id: "other",
+    takes: Takes::File("OTHER"),
+    help: "The other dump, or the capture that has it; - is standard input",
+    commands: &["compare"],
+    is_required: true,
+    ..FLAG
+};
+
+const MORE: OptionRow = OptionRow {
+    id: "more",
+    takes: Takes::Files("MORE"),
+    help: "With --origins: more captures, each read by itself",
+    commands: &["show"],
     ..FLAG
 };
 
@@ -487,7 +509,7 @@ pub(crate) static PRINTED: &[OptionRow] = &[
     OptionRow {
         id: "origins",
         help: "Print who originates what: for each destination, source and router-id the least \
-               metric over all senders in a capture, and how many announce it",
+               metric over all senders in the captures, and how many announce it",
         commands: &["show"],
         conflicts: &["from", "hold", "summary"],
         ..FLAG
@@ -498,6 +520,15 @@ pub(crate) static PRINTED: &[OptionRow] = &[
                router-id the least metric over all senders",
         commands: &["diff"],
         conflicts: &["from", "hold"],
+        ..FLAG
+    },
+    OptionRow {
+        id: "and",
+        takes: Takes::Following("FILE"),
+        help: "With --origins: the captures that are compared with all those before this option, \
+               each read by itself",
+        commands: &["diff"],
+        needs: Some("origins"),
         ..FLAG
     },
     OptionRow {
@@ -590,13 +621,21 @@ pub(crate) static ASKED: &[OptionRow] = &[
         is_required: true,
         ..FILE
     },
+    OTHER,
     OptionRow {
-        id: "other",
-        takes: Takes::File("OTHER"),
-        help: "The other dump, or the capture that has it; - is standard input",
-        commands: &OF_TWO,
-        is_required: true,
-        ..FILE
+        help: "The other dump, or the capture that has it; - is standard input; with --and one more \
+               capture that counts with FILE",
+        commands: &["diff"],
+        is_required: false,
+        unless: Some("and"),
+        ..OTHER
+    },
+    MORE,
+    OptionRow {
+        help: "With --and: more captures that count with FILE",
+        commands: &["diff"],
+        needs: Some("and"),
+        ..MORE
     },
     OptionRow {
         takes: Takes::File("CAPTURE"),

@@ -1,11 +1,11 @@
 //! What `show --origins` and `diff --origins` write.
 ghost use Rattle.std.specs.Prelude.{◌≡◌, ◌++◌, IfOk, OnOk, Some, filter, is_none, length};
 ghost use Rattle.std.specs.List.{flat_map};
-ghost use Rattle.babel_dump.specs.OriginText.{change_in, changed_in, changed_text};
+ghost use Rattle.babel_dump.specs.OriginText.{and_more, change_in, changed_in, changed_text};
 ghost use Rattle.babel_dump.specs.OriginText.{changes_of, differs, numbers_after, numbers_in};
 ghost use Rattle.babel_dump.specs.OriginText.{origin_changes, origin_head};
 ghost use Rattle.babel_dump.specs.OriginText.{origins_in, origins_status, shown_by, shown_in};
-ghost use Rattle.babel_dump.specs.Slices.{HasRoom};
+ghost use Rattle.babel_dump.specs.Slices.{HasRoom, TookRoom};
 
 use crate::diff::{push_stat, push_stat_json};
 use crate::differences::differences_status;
@@ -13,7 +13,7 @@ use crate::format::Format;
 use crate::key_text::push_file;
 use crate::originated::{Announced, OnSides, Origination};
 use crate::origins_job::Origins;
-use crate::push::push_octet;
+use crate::push::{push_decimal, push_octet, push_text};
 use crate::push_origin::{push_change, push_change_json, push_origin, push_origin_json};
 use std::alloc::{AllocError, Global};
 use std::collections::BTreeMap;
@@ -159,8 +159,9 @@ fn changed_text(
         return Ok(Vec::new(alloc));
     }
     let mut text = Vec::new(alloc);
-    push_head(&mut text, "--- ", origins.left.file.name())?;
-    push_head(&mut text, "+++ ", other_file)?;
+    let file = origins.left.file.name();
+    push_head(&mut text, "--- ", file, origins.more_left.len())?;
+    push_head(&mut text, "+++ ", other_file, origins.more_right.len())?;
     push_changes(&mut text, origins, list)?;
     push_numbers(&mut text, origins, count, list)?;
     Ok(text)
@@ -181,14 +182,29 @@ fn changed_json(
     Ok(text)
 }
 
-/// Appends the line that names a capture.
-fn push_head(text: &mut Vec<u8>, mark: &str, file: &str) -> Result<(), AllocError>
-    ensures { OnOk result (text.new.items ≡ text.old.items ++ origin_head mark.now file.now) }
+/// Appends the line that names the first capture on a side, and says how many more there are.
+fn push_head(text: &mut Vec<u8>, mark: &str, file: &str, more: usize) -> Result<(), AllocError>
+    ensures { OnOk result (text.new.items ≡ text.old.items ++ origin_head mark.now file.now more) }
 {
     text.extend_from_slice(mark.as_bytes())?;
     push_file(text, file.as_bytes())?;
-    text.push(b'\n')?;
+    text.reserve(ROOM)?;
+    push_more(text, more);
+    push_octet(text, b'\n');
     Ok(())
+}
+
+/// Appends how many more there are than the one that is named, if there are any.
+fn push_more(buffer: &mut Vec<u8>, more: usize)
+    requires { HasRoom buffer.old 30 }
+    ensures text { buffer.new.items ≡ buffer.old.items ++ and_more more }
+    ensures room { TookRoom buffer.old buffer.new 30 }
+{
+    if more > 0 {
+        push_text(buffer, " and ");
+        push_decimal(buffer, more);
+        push_text(buffer, " more");
+    }
 }
 
 /// Appends the lines of changes.

@@ -11,9 +11,11 @@ ghost use Rattle.babel_dump.specs.PairsMade.{heard_in};
 ghost use Rattle.babel_dump.specs.ToldPairs.{IsOwnRead};
 
 use crate::capture_input::CaptureRead;
+use crate::capture_notes::CaptureNotes;
 use crate::done::{DumpRead, ToldSender};
 use crate::each_sender::EachSender;
 use crate::input_fault::InputFault;
+use crate::notes::Notes;
 use crate::own_table::{OwnTable, read_own};
 use crate::run_fault::Side;
 use crate::sender_tables::SenderTable;
@@ -31,12 +33,28 @@ pub(crate) struct Captured<'a> {
     pub read: &'a CaptureRead,
 }
 
-impl Captured<'_> {
+impl<'a> Captured<'a> {
+    /// The capture on this side, of which this was read.
+    pub fn on(side: Side, each: &'a EachSender, read: &'a CaptureRead) -> Captured<'a> {
+        Captured { side, each, read }
+    }
+
     /// The name of the interface of a sender.
     pub fn name(&self, origin: &Origin) -> &[u8]
         ensures { result.now ≡ name_of self.now.read.now.gathered origin.now.place.interface }
     {
         self.read.gathered.name(origin.place.interface)
+    }
+
+    /// Adds what there is to know of it, whose senders are each told by themselves.
+    pub fn note(&self, notes: &mut Notes) -> Result<(), AllocError> {
+        let capture = CaptureNotes {
+            report: self.read.gathered.report(),
+            cut: self.read.cut,
+            are_apart: true,
+            expired_rows: 0,
+        };
+        notes.add_capture(self.side, capture, self.each.interval(&self.read.gathered))
     }
 }
 

@@ -16,17 +16,21 @@ use crate::input_fault::InputFault;
 use crate::originated::Originated;
 use crate::read_senders::{Captured, ReadSenders};
 use crate::sender_tables::SenderTable;
+use crate::told_capture::ToldCapture;
 use crate::trouble::Trouble;
 use babel_capture::Origin;
 use babel_table::Table;
-use std::alloc::Global;
+use std::alloc::{AllocError, Global};
 use std::collections::BTreeMap;
+use std::mem;
 
 /// What senders of which none is refused originate.
 #[derive(Drop)]
 pub(crate) struct ToldOrigins {
-    pub senders: ReadSenders,
+    senders: ReadSenders,
     pub originated: Originated,
+    /// The captures that have them.
+    pub captures: Vec<ToldCapture>,
 }
 
 impl ToldOrigins {
@@ -37,6 +41,7 @@ impl ToldOrigins {
         ToldOrigins {
             senders: ReadSenders::new(alloc),
             originated: Originated::new(alloc),
+            captures: Vec::new(alloc),
         }
     }
 
@@ -64,6 +69,17 @@ impl ToldOrigins {
             let table = self.own(alloc, captured, origin, table)?;
             self.originated.take(captured.side, filter, &table)?;
         }
+        Ok(())
+    }
+
+    /// Notes what there is to know of a capture whose senders were taken.
+    pub fn note(&mut self, alloc: Global, captured: &Captured<'_>) -> Result<(), Trouble>
+        ensures same { self.new.originated ≡ self.old.originated }
+        ensures placed { IfErr result (λ trouble. misplaced_told trouble ≡ None) }
+    {
+        let senders = mem::replace(&mut self.senders.told, Vec::new(alloc));
+        let capture = ToldCapture::new(alloc, captured, senders)?;
+        self.captures.push(capture).map_err(AllocError::from)?;
         Ok(())
     }
 

@@ -10,6 +10,7 @@ use crate::escaped::Escaped;
 use crate::hearing::Unheard;
 use crate::hint::Hint;
 use crate::input_fault::InputFault;
+use crate::inputs::Inputs;
 use crate::job::{DumpFile, Job};
 use crate::names_fault::NamesFault;
 use crate::pairs_fault::PairsFault;
@@ -204,17 +205,17 @@ impl Trouble {
     }
 
     /// The file that it is of, if it is of one file, and its line does not name that. Too many
-    /// differences are of both.
-    fn file<'a>(&self, asked: &'a Asked) -> Option<&'a DumpFile> {
+    /// differences are of both. Of `--origins` the capture at this place was read last.
+    fn file<'a>(&self, asked: &'a Asked, place: usize) -> Option<&'a DumpFile> {
         if self.status() == 5 || asked.named().0.is_some() {
             return None;
         }
         match self {
             Trouble::Fault(RunFault::Input(_, InputFault::Dump(Fault::TooManyPairs)))
                 if asked.compares() => None,
-            Trouble::Misplaced(side, _) => asked.capture(*side),
+            Trouble::Misplaced(..) | Trouble::Backwards { .. } => asked.capture(place),
             Trouble::Fault(RunFault::Input(side, _)) | Trouble::Sender { side, .. } => {
-                asked.input(*side)
+                asked.capture(place).or(asked.input(*side))
             }
             Trouble::NoSender(Side::Other) | Trouble::Fault(RunFault::Pairs(_)) => asked.other(),
             Trouble::Names(_) => asked.names(),
@@ -229,8 +230,8 @@ pub fn say_trouble<S: Says, R: Watched>(
     says: &mut S,
     asked: &Asked,
     trouble: &Trouble,
-    reader: &R,
-    other: &R,
+    inputs: &Inputs<R>,
+    others: &Inputs<R>,
     unwritten: Option<&io::Error>,
 ) -> u8
     ensures status { result ≡ trouble_status (option_copied unwritten.entry) trouble.now }
@@ -240,10 +241,12 @@ pub fn say_trouble<S: Says, R: Watched>(
         return say_unwritten(says, unwritten);
     }
     say_line(says, asked, trouble);
-    if let Some(DumpFile::Named(name)) = trouble.file(asked) {
+    let begun = inputs.begun.saturating_add(others.begun);
+    if let Some(DumpFile::Named(name)) = trouble.file(asked, begun.saturating_sub(1)) {
         let name = Escaped(name.as_str());
         says.say(&format_args!("hint: in {name}"));
     }
+    let (reader, other) = (inputs.last_read(), others.last_read());
     match trouble {
         Trouble::Fault(RunFault::Input(side, fault)) => {
             let reader = match side {

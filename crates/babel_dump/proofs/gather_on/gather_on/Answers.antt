@@ -1,6 +1,6 @@
 -- The capture was read.
 use Rattle.babel_dump.proofs.AskedRuns.{gave_so, keeps_left}
-use Rattle.babel_dump.proofs.asked_run.gather_on.Goals as goal
+use Rattle.babel_dump.proofs.gather_on.gather_on.Goals as goal
 
 pub returns-in-Ok-clause-made : goal.returns-in-Ok-clause-made
 returns-in-Ok-clause-made g c =
