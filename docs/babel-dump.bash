@@ -77,13 +77,13 @@ _babel_dump() {
 }
 
 # Printed by tools/options.py.
-_babel_dump_names="show lookup normalise key pairs compare diff senders links extract events help \
---help --version"
+_babel_dump_names="show lookup normalise key pairs compare diff senders links extract events \
+select help --help --version"
 
 # The options that a word follows.
-_babel_dump_valued="--from --other-from --interface --other-interface --since --until --expiry \
---ignore --to --src --max-routes --max-octets --other-since --other-until --within --match \
---source --id --body --and --color --names --each"
+_babel_dump_valued="--from --other-from --interface --at --other-interface --since --until \
+--expiry --ignore --to --src --cost --max-routes --max-octets --other-since --other-until --within \
+--match --source --id --body --and --color --names --each"
 
 # The options of a command.
 _babel_dump_options() {
@@ -119,6 +119,9 @@ _babel_dump_options() {
         events) echo --from --interface --since --until --expiry --ignore --to --src --requests \
             --strict --v4-via-v6 --accept-cut --max-routes --json --quiet --within --match \
             --source --id --names --short --help ;;
+        select) echo --at --interface --since --until --expiry --to --src --etx --cost --strict \
+            --v4-via-v6 --accept-cut --max-routes --json --quiet --within --match --source --short \
+            --help ;;
     esac
 }
 

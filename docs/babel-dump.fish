@@ -43,12 +43,12 @@ end
 # Printed by tools/options.py.
 # Whether a word follows an option.
 function __babel_dump_is_valued
-    contains -- $argv[1] --from --other-from --interface --other-interface --since --until \
-        --expiry --ignore --to --src --max-routes --max-octets --other-since --other-until \
+    contains -- $argv[1] --from --other-from --interface --at --other-interface --since --until \
+        --expiry --ignore --to --src --cost --max-routes --max-octets --other-since --other-until \
         --within --match --source --id --body --and --color --names --each
 end
 
-complete -c babel-dump -n 'not __fish_seen_subcommand_from show lookup normalise key pairs compare diff senders links extract events help' -f
+complete -c babel-dump -n 'not __fish_seen_subcommand_from show lookup normalise key pairs compare diff senders links extract events select help' -f
 complete -c babel-dump -n __fish_use_subcommand -l help -d 'Print help'
 complete -c babel-dump -n __fish_use_subcommand -l version -d 'Print the version'
 complete -c babel-dump -n __fish_use_subcommand -a show \
@@ -73,11 +73,13 @@ complete -c babel-dump -n __fish_use_subcommand -a extract \
     -d 'Write the dump of one sender of a capture (pcap, pcapng)'
 complete -c babel-dump -n __fish_use_subcommand -a events \
     -d 'Print what changed in a capture, and when'
+complete -c babel-dump -n __fish_use_subcommand -a select \
+    -d 'Print which routes a router uses, of those that its neighbours announce'
 complete -c babel-dump -n __fish_use_subcommand -a help \
     -d 'Print help'
-__babel_dump_option help -f -a 'show lookup normalise key pairs compare diff senders links extract events'
+__babel_dump_option help -f -a 'show lookup normalise key pairs compare diff senders links extract events select'
 
-__babel_dump_option 'show lookup normalise key pairs compare diff senders links extract events' -l help -d 'Print help'
+__babel_dump_option 'show lookup normalise key pairs compare diff senders links extract events select' -l help -d 'Print help'
 __babel_dump_option 'normalise extract' -l from -x -a '(__babel_dump_senders 1)' \
     -d 'The source address of the packets'
 __babel_dump_option 'pairs' -l from -x -a '(__babel_dump_senders 1)' \
@@ -98,17 +100,21 @@ __babel_dump_option 'compare diff' -l interface -x -a '(__babel_dump_places 1)' 
     -d 'The place in FILE, if it is a capture: the interface, with its link and VLANs, as senders lists it'
 __babel_dump_option 'links events' -l interface -x -a '(__babel_dump_places 1)' \
     -d 'The place in the capture: the interface, with its link and VLANs, as senders lists it'
+__babel_dump_option 'select' -l at -x \
+    -d 'An address of the router that selects'
+__babel_dump_option 'select' -l interface -x -a '(__babel_dump_places 1)' \
+    -d 'The place in the capture: the interface, with its link and VLANs, as senders lists it'
 __babel_dump_option 'compare diff' -l other-interface -x -a '(__babel_dump_places 2)' \
     -d 'The same for OTHER, if it is a capture'
 __babel_dump_option 'extract' -l hex \
     -d 'Write the octets as lower-case hexadecimal digits on one line'
 __babel_dump_option 'show lookup normalise key pairs compare diff' -l since -x \
     -d 'Skip what a capture has before TIME: a time with an offset, as 2026-11-25T13:30:22Z, seconds since 1970, as @1764077422.5, or seconds since the first record, as +90'
-__babel_dump_option 'senders links extract' -l since -x \
+__babel_dump_option 'senders links extract select' -l since -x \
     -d 'Skip what a capture has before TIME: a time with an offset, as 2026-11-25T13:30:22Z, seconds since 1970, as @1764077422.5, or seconds since the first record, as +90'
 __babel_dump_option 'events' -l since -x \
     -d 'Print what changed at TIME or later, having read what came before: a time with an offset, as 2026-11-25T13:30:22Z, seconds since 1970, as @1764077422.5, or seconds since the first record, as +90'
-__babel_dump_option 'show lookup normalise key pairs compare diff senders links extract events' -l until -x \
+__babel_dump_option 'show lookup normalise key pairs compare diff senders links extract events select' -l until -x \
     -d 'Skip what a capture has after TIME'
 __babel_dump_option 'show lookup normalise key pairs compare diff' -l expiry -x \
     -d 'Leave out what was not announced again within FACTOR times its Interval, at --until or else at the end of a capture'
@@ -116,6 +122,8 @@ __babel_dump_option 'events' -l expiry -x \
     -d 'Also report routes that expire, not announced again within FACTOR times their Interval'
 __babel_dump_option 'links' -l expiry -x \
     -d 'Leave out what an IHU said FACTOR times its Interval ago, at --until or else at the end'
+__babel_dump_option 'select' -l expiry -x \
+    -d 'What was not announced or said again within FACTOR times its Interval counts no more'
 __babel_dump_option 'show lookup normalise key pairs compare diff' -l hold \
     -d 'Keep a retracted route as unreachable, so that no less specific route takes its place'
 __babel_dump_option 'events' -l ignore -x -a '(__fish_append , next-hop router-id seqno metric)' \
@@ -124,25 +132,37 @@ __babel_dump_option 'events' -l to -x \
     -d 'Report changes of the answer for this destination, instead of route changes'
 __babel_dump_option 'events' -l src -x \
     -d 'The source of that answer, of the destination'\''s family'
+__babel_dump_option 'select' -l to -x \
+    -d 'Only the routes that decide what is used for this destination'
+__babel_dump_option 'select' -l src -x \
+    -d 'The source besides, of the destination'\''s family'
+__babel_dump_option 'select' -l etx \
+    -d 'Links cost what ETX says, as on radio, and not 2-out-of-3 (RFC 8966, appendix A.2)'
+__babel_dump_option 'select' -l cost -x \
+    -d 'State what the link to the sender ADDRESS costs, from 1 to 65535, which is infinite'
 __babel_dump_option 'events' -l requests \
     -d 'Also report the requests of each sender for routes'
 __babel_dump_option 'senders extract' -l strict \
     -d 'Reject a capture if any datagram is left out'
+__babel_dump_option 'select' -l strict \
+    -d 'Reject a capture if any datagram is left out, or a TLV of a sender that counts is ignored'
 __babel_dump_option 'events' -l strict \
     -d 'Stop with an error at the first ignored TLV or left-out datagram, or, at the end, if a sender has no Update'
-__babel_dump_option 'show lookup normalise key pairs compare diff events' -l v4-via-v6 \
+__babel_dump_option 'show lookup normalise key pairs compare diff events select' -l v4-via-v6 \
     -d 'Read IPv4 routes with an IPv6 next hop (address encoding 4, RFC 9229)'
 __babel_dump_option 'show lookup normalise key pairs compare diff' -l quiet \
     -d 'Suppress the notes on standard error, and, of show, what comes after the routes'
-__babel_dump_option 'show lookup normalise key pairs compare diff senders links extract events' -l accept-cut \
+__babel_dump_option 'show lookup normalise key pairs compare diff senders links extract events select' -l accept-cut \
     -d 'Read a truncated capture up to its last complete record'
 __babel_dump_option 'show lookup normalise key pairs compare diff' -l max-routes -x \
     -d 'How many routes, and how many canonical pairs or differences, there may be, at most 51746593'
 __babel_dump_option 'events' -l max-routes -x \
     -d 'How many routes there may be, of all senders together'
-__babel_dump_option 'events' -l json \
+__babel_dump_option 'select' -l max-routes -x \
+    -d 'How many routes there may be, of all senders that count, and entries of the source table together'
+__babel_dump_option 'events select' -l json \
     -d 'Print one JSON object per line'
-__babel_dump_option 'senders links extract events' -l quiet \
+__babel_dump_option 'senders links extract events select' -l quiet \
     -d 'Suppress the notes on standard error'
 __babel_dump_option 'show lookup normalise key pairs compare diff' -l max-octets -x \
     -d 'How many octets a dump may have, also one in a capture'
@@ -152,15 +172,15 @@ __babel_dump_option 'compare diff' -l other-since -x \
     -d 'The same for OTHER'
 __babel_dump_option 'compare diff' -l other-until -x \
     -d 'The same for OTHER'
-__babel_dump_option 'show pairs events' -l within -x \
+__babel_dump_option 'show pairs events select' -l within -x \
     -d 'Only destinations that are PREFIX or inside it'
 __babel_dump_option 'diff' -l within -x \
     -d 'With --origins: only destinations that are PREFIX or inside it'
-__babel_dump_option 'show pairs events' -l match -x \
+__babel_dump_option 'show pairs events select' -l match -x \
     -d 'Only destinations that contain PREFIX, which may be an address'
 __babel_dump_option 'diff' -l match -x \
     -d 'With --origins: only destinations that contain PREFIX, which may be an address'
-__babel_dump_option 'show pairs events' -l source -x \
+__babel_dump_option 'show pairs events select' -l source -x \
     -d 'Only sources that are exactly PREFIX'
 __babel_dump_option 'diff' -l source -x \
     -d 'With --origins: only sources that are exactly PREFIX'
@@ -198,7 +218,7 @@ __babel_dump_option 'show lookup key pairs compare diff senders links' -l json \
     -d 'Print one JSON object per line'
 __babel_dump_option 'show lookup pairs compare diff events' -l names -r \
     -d 'Print the names that the lines of FILE give addresses and router-ids, as '\''fe80::1 b1'\'', after senders, next hops and router-ids'
-__babel_dump_option 'show lookup pairs compare diff senders links events' -l short \
+__babel_dump_option 'show lookup pairs compare diff senders links events select' -l short \
     -d 'Write addresses as RFC 5952 does, fe80::1, and leave out a source prefix of length 0'
 __babel_dump_option 'compare' -l routes \
     -d 'Compare the routes, not the answers'

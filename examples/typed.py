@@ -244,6 +244,32 @@ class Link:
 
 
 @dataclass(frozen=True)
+class Distance:
+    """An entry of the source table of the router that selects."""
+
+    seqno: int
+    metric: int
+
+
+@dataclass(frozen=True)
+class Selected:
+    """Of select; a cost or a total of 65535 is infinite."""
+
+    sender: Address
+    interface: int
+    link: Optional[int]
+    vlans: List[int]
+    name: Optional[str]
+    destination: Prefix
+    source: Prefix
+    answer: Route
+    cost: int
+    total: int
+    state: Literal["own", "unheard", "unreachable", "unfeasible", "selected", "feasible"]
+    distance: Optional[Distance]
+
+
+@dataclass(frozen=True)
 class Event:
     """Of events; the name of the sender is of --names."""
 
@@ -360,7 +386,7 @@ class Note:
 
 KINDS = Row, Looked, Report, Summary, Counts, Same, Differ, Alone, Differences, Stat
 KINDS += Origination, OriginationDiffers
-KINDS += FileKey, SenderKey, Sender, Link, Event, Answered, Requested, Silent, Returned
+KINDS += FileKey, SenderKey, Sender, Link, Selected, Event, Answered, Requested, Silent, Returned
 
 # What a note has besides.
 NOTES = {
@@ -380,6 +406,8 @@ NOTES = {
     "routes-differ": {"routes": int},
     "source": {"source": Address},
     "not-followed": {"packet": int},
+    "feasibility": {"address": Address, "announced": int, "keys": int},
+    "ties": {"keys": int},
 }
 ORIGIN = {
     "sender": Address,

@@ -574,7 +574,7 @@ def check(tally, _long):
         folder = pathlib.Path(folder)
         transcript.link(program, folder)
         transcript.link_examples(folder)
-        names = "program", "worked", "time", "hold", "events", "links", "words", "names"
+        names = "program", "worked", "time", "hold", "events", "links", "select", "words", "names"
         for name in names:
             transcript.play(TOP / f"tests/{name}.txt", folder, tally)
         transcript.put(dict(large_dumps()), folder)

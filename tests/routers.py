@@ -1,5 +1,6 @@
 """The dumps of examples/routers: the neighbours' tables, the canonical dumps, the golden files; the
-tables of a failure drill; the costs of links; and the routes of random tables."""
+tables of a failure drill; the costs of links, and what two routers selected; and the routes of random
+tables."""
 
 import concurrent.futures
 import ipaddress
@@ -13,6 +14,7 @@ import tempfile
 
 import golden
 import routes
+import selection
 import transcript
 from checks import TOP, built_program
 
@@ -98,13 +100,14 @@ def check_canonical(program, folder, tally):
             tally.check(f"the canonical dump of {' '.join([name, *hold])}", "\n".join(lines))
 
 
-def check(tally, _long):
+def check(tally, long):
     program = built_program()
     with tempfile.TemporaryDirectory() as folder:
         folder = pathlib.Path(folder)
         check_tables(program, tally)
         check_drill(program, tally)
         check_links(program, tally)
+        selection.check(program, tally, long)
         check_canonical(program, folder, tally)
         routes.check(program, folder, tally)
         transcript.link(program, folder)

@@ -7,6 +7,7 @@ use Rattle.babel_capture.specs.Counts.{Made}
 use Rattle.babel_dump.specs.CaptureGiven.{made_in}
 use Rattle.babel_dump.specs.Device.{InputState}
 use Rattle.babel_dump.specs.EventsCause.{EventsCause}
+use Rattle.babel_dump.specs.EventsStart.{StartsEvents}
 use Rattle.babel_dump.specs.EventsRun.{TellsEvents}
 use Rattle.babel_dump.specs.Fed.{AreWhole}
 use Rattle.babel_dump.specs.PairsMade.{heard_in}
@@ -174,19 +175,21 @@ not_told (Ok done) = tt
 not_told (Err trouble) = tt
 
 pub failed_so : (events : Events) (stream : Option (List ℕ)) (old new given : InputState) (writer : Output) (trouble : Trouble) → old ≡ given → given.left ≡ stream
-    → EventsCause events old new writer trouble → FailedEvents events stream writer trouble
-failed_so events stream old new given writer trouble is left cause = record {
+    → EventsCause events old new writer trouble → StartsEvents events old new writer → FailedEvents events stream writer trouble
+failed_so events stream old new given writer trouble is left cause start = record {
   reader = record { old = old; new = new };
   keeps = keeps_left stream old.left stream (ap (λ (s : InputState). s.left) is ∙ left) (keeps_itself stream);
   cause = cause;
+  start = start;
 }
 
--- before anything was read or written, and after both
-pub no_memory : (events : Events) (stream : Option (List ℕ)) (old given : InputState) (writer : Output) (trouble : Trouble) → old ≡ given → given.left ≡ stream
-    → trouble ≡ troubles.Fault (run_faults.Input sides.First (input_faults.Dump faults.Memory)) → FailedEvents events stream writer trouble
-no_memory events stream old given writer trouble is left memory = failed_so events stream old old given writer trouble is left (subst (EventsCause events old old writer) (sym memory) refl)
+-- memory ran out
+pub no_memory : (events : Events) (stream : Option (List ℕ)) (old new given : InputState) (writer : Output) (trouble : Trouble) → old ≡ given → given.left ≡ stream
+    → trouble ≡ troubles.Fault (run_faults.Input sides.First (input_faults.Dump faults.Memory)) → StartsEvents events old new writer → FailedEvents events stream writer trouble
+no_memory events stream old new given writer trouble is left memory start = failed_so events stream old new given writer trouble is left (subst (EventsCause events old new writer) (sym memory) refl) start
 
 -- where the fault that is told is this one
 pub failed_with : (events : Events) (stream : Option (List ℕ)) (old new given : InputState) (writer : Output) (error trouble : Trouble) → old ≡ given → given.left ≡ stream → trouble ≡ error
-    → EventsCause events old new writer error → FailedEvents events stream writer trouble
-failed_with events stream old new given writer error trouble is left same cause = failed_so events stream old new given writer trouble is left (subst (EventsCause events old new writer) (sym same) cause)
+    → EventsCause events old new writer error → StartsEvents events old new writer → FailedEvents events stream writer trouble
+failed_with events stream old new given writer error trouble is left same cause start =
+    failed_so events stream old new given writer trouble is left (subst (EventsCause events old new writer) (sym same) cause) start

@@ -175,7 +175,7 @@ is_whole events fed told followed cut is read accepted = record {
 
 -- ---- a record that is refused
 
-begins_more : (events : Events) (octets : List ℕ) (progress : Progress) (pending : List ℕ) (made : List Made) → progress.gathering.wanted ≡ followed_by events
+pub begins_more : (events : Events) (octets : List ℕ) (progress : Progress) (pending : List ℕ) (made : List Made) → progress.gathering.wanted ≡ followed_by events
     → (now : HasTaken (followed_extent events) progress pending octets) → now.leads.gathered.made ≡ made → BeginsWith (reading_by events) (followed_by events) octets made
 begins_more events octets progress pending made wanted now is = record {
   blocks = now.leads.blocks;
@@ -186,7 +186,7 @@ begins_more events octets progress pending made wanted now is = record {
       (subst (λ (w : Wanted). AreMade w (sightings_of now.leads.blocks) now.leads.gathered.made) wanted now.leads.gathered.taken.are_made);
 }
 
-begins_behind : (events : Events) (octets : List ℕ) (wanted : Wanted) (made : List Made) → wanted ≡ followed_by events → StopsBehind (followed_extent events) wanted octets made
+pub begins_behind : (events : Events) (octets : List ℕ) (wanted : Wanted) (made : List Made) → wanted ≡ followed_by events → StopsBehind (followed_extent events) wanted octets made
     → BeginsWith (reading_by events) (followed_by events) octets made
 begins_behind events octets wanted made is behind = record {
   blocks = behind.blocks;
@@ -205,7 +205,7 @@ module _ (events : Events) (fed piece : List ℕ) (told : List (Telling Speaker)
       let follows = took old.follower [] (follows_none old.follower) in
       let made = is.read.leads.gathered.made in
       let was = subst (λ (e : Events). HasHeardFollowed e made told old.follower) (sym is.events_are) is.has_heard in
-      let has = subst (λ (e : Events). HasStopped e (made ++ more) stop) is.events_are (follows.2 stop stopped is.sound made told was) in
+      let has = subst (λ (e : Events). HasStopped e (made ++ more) stop (told ++ follower.told.items)) is.events_are (follows.2 stop stopped is.sound made told was) in
       record { made = made ++ more; begins = begins; front = has.front; one = has.one; back = has.back; are = has.are; refused = has.refused not_memory }
 
   pub record_in_piece : {T E : Type 0} (result : Result T E)

@@ -44,7 +44,7 @@ module _ (events : Events) where
           by true again = ap (λ (t : List ℕ). line (with_name one) ++ t) again
           by false again = again
 
-  lines_both : (a b : List (Telling Speaker)) (s t : List ℕ) → AreLines events a s → AreLines events b t → AreLines events (a ++ b) (s ++ t)
+  pub lines_both : (a b : List (Telling Speaker)) (s t : List ℕ) → AreLines events a s → AreLines events b t → AreLines events (a ++ b) (s ++ t)
   lines_both a b s t one two = record {
     named = one.named ++ two.named;
     are = map-append (λ (x : List ℕ × Telling Speaker). x.1) one.named two.named ∙ ap (λ (l : List (Telling Speaker)). l ++ map (λ (x : List ℕ × Telling Speaker). x.1) two.named) one.are

@@ -17,7 +17,7 @@ use Rattle.babel_timeline.specs.Telling.{AreAnswers, AskedFor, IsTold, Tells, Te
 use Rattle.babel_timeline.proofs.AccountLaws.{begins}
 use Rattle.babel_timeline.proofs.AnswerLaws.{no_answers}
 use Rattle.babel_timeline.proofs.MakingLaws.{none_said}
-use Rattle.babel_timeline.proofs.TellingLaws.{ends_tell, expired_account, none_expire, tells_then}
+use Rattle.babel_timeline.proofs.TellingLaws.{ends_tell, expired_account, none_expire}
 use Rattle.babel_dump.specs.EventsRun.{AreInOrder, AreSaid, AreTold, AreUpTo, HaveTold, IsSaid, Says, asked_by}
 use Rattle.babel_dump.specs.Speakers.{speaker_cmp, speaker_exact}
 use Rattle.babel_dump.proofs.SpeakerLaws.{speaker_total}

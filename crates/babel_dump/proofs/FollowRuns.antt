@@ -17,7 +17,7 @@ use Rattle.babel_dump.proofs.EventLineLaws.{wrote_both}
 
 -- ---- lines
 
-lines_none : (events : Events) → AreLines events [] []
+pub lines_none : (events : Events) → AreLines events [] []
 lines_none events = record { named = []; are = refl; text_is = refl }
 
 wrote_none : (events : Events) (w : OutputState) → WroteLines events [] (output w w)

@@ -17,6 +17,7 @@ use Rattle.babel_capture.specs.Tallies.{origin_cmp}
 use Rattle.babel_capture.specs.contracts.tallies.OriginOrd.TheImpl.{ghosts}
 use Rattle.babel_capture.proofs.Entries.{insert-longer, insert-new}
 use Rattle.babel_capture.proofs.TallyLaws.{origin_order}
+use Rattle.babel_dump.specs.EventsRun.{since_in}
 use Rattle.babel_dump.specs.Followed.{HasHeard, HasHeardFollowed, HearsOthers, HearsTold, KnowsOthers}
 use Rattle.babel_dump.specs.FollowedSenders.{FewAreFollowed, Senders, followed, followed_after, followed_of, follows, is_followed, sender_of, senders_followed, with_followed, with_sender}
 use Rattle.babel_dump.specs.declared.events_job.Events.{Events}
@@ -112,16 +113,17 @@ pub heard_followed : (events : Events) (told front : Record) (made : List Made) 
     → IsTold (if follows then one else record one { what = passed }) front
     → mid.senders.senders.entries ≡ with_followed (senders_followed made) (sender_of one.what) → new.senders ≡ mid.senders
     → mid.hearing ≡ old.hearing → mid.told ≡ old.told → HearsTold events front mid new
-    → HasHeard events (followed made) (before ++ old.told.items) old.hearing → mid.other_sources ≡ old.other_sources → HearsOthers events front mid.other_sources new.other_sources
+    → HasHeard events (followed made) (before ++ old.told.items) old.hearing → mid.other_sources ≡ old.other_sources → HearsOthers events front new.hearing.since.moment mid.other_sources new.other_sources
     → KnowsOthers events (followed made) old.other_sources → HasHeardFollowed events (made ++ one ∷ []) before new
 heard_followed events told front made one before old mid new follows is is_told senders same hearing same_told hears was same_others hears_others others =
     let taken = followed_of (senders_followed made) one in
     let here : IsTold taken front = subst (λ (b : Bool). IsTold (if b then one else record one { what = passed }) front) is is_told in
     let still : HasHeard events (followed made) (before ++ mid.told.items) mid.hearing =
     subst (λ (h : Hearing). HasHeard events (followed made) (before ++ mid.told.items) h) (sym hearing)
-    (subst (λ t. HasHeard events (followed made) (before ++ t.items) old.hearing) (sym same_told) was) in (
+    (subst (λ t. HasHeard events (followed made) (before ++ t.items) old.hearing) (sym same_told) was) in
+    let heard = hears (followed made) taken before here still in (
       ap (λ s. s.senders.entries) same ∙ senders ∙ sym (senders-push made one),
-      subst (λ (m : List Made). HasHeard events m (before ++ new.told.items) new.hearing) (sym (followed-push made one)) (hears (followed made) taken before here still),
+      subst (λ (m : List Made). HasHeard events m (before ++ new.told.items) new.hearing) (sym (followed-push made one)) heard,
       subst (λ (m : List Made). KnowsOthers events m new.other_sources) (sym (followed-push made one))
-          (hears_others (followed made) taken here (subst (KnowsOthers events (followed made)) (sym same_others) others)),
+          (hears_others (followed made) taken here (heard.awaits.moment ∙ ap (since_in events.since) heard.are_made) (subst (KnowsOthers events (followed made)) (sym same_others) others)),
     )

@@ -19,9 +19,10 @@ use Rattle.babel_timeline.specs.Rows.{Rows}
 use Rattle.babel_timeline.specs.Telling.{AskedFor, of_rows}
 use Rattle.babel_timeline.specs.declared.teller.Teller.{Teller}
 use Rattle.babel_timeline.specs.declared.telling.Telling.{Telling}
-use Rattle.babel_dump.specs.EventsCause.{IsPartOf, IsRefused, RefusesAlone, RefusesHeard, RefusesPart, octets_in, start_of, without_pair}
+use Rattle.babel_dump.specs.EventsCause.{IsPartOf, IsRefused, RefusesAlone, RefusesHeard, RefusesPart, octets_in, start_of}
+use Rattle.babel_dump.specs.EventsRun.{without_pair}
 use Rattle.babel_dump.specs.EventsRun.{HaveTold, asked_by, speaker_at, told_in}
-use Rattle.babel_dump.specs.Followed.{Follows, HasHeard, HasHeardFollowed, HasHeardOthers, HasStopped, IsHeardOf, KnowsOthers, RefusesOthers, RefusesFront, RefusesPacketRead, RefusesSaid, RefusesTeller, RefusesTold, RefusesUnheard, RefusesUsually, Stops, StopsFollowed, Suits, octets_before, trouble_of}
+use Rattle.babel_dump.specs.Followed.{Follows, HasHeard, HasHeardFollowed, HasHeardOthers, HasStopped, IsHeardOf, KnowsOthers, RefusesOthers, RefusesFront, RefusesPacketRead, RefusesSaid, RefusesTeller, RefusesTold, RefusesUnheard, RefusesUsually, Stops, StopsFollowed, Suits, TellsBehind, octets_before, trouble_of}
 use Rattle.babel_dump.specs.FollowedSenders.{followed, followed_of, is_followed, sender_of, senders_followed}
 use Rattle.babel_dump.specs.Speakers.{speaker_cmp}
 use Rattle.babel_dump.specs.StrictPackets.{IsFirstOf, IsReadTo, fault_of}
@@ -39,6 +40,7 @@ use Rattle.babel_dump.specs.declared.stop.Stop.{Stop}
 use Rattle.babel_dump.specs.declared.stop.Stop.TheVariants as stops
 use Rattle.babel_dump.specs.declared.unread_tlv.UnreadTlv.{UnreadTlv}
 use Rattle.babel_dump.proofs.FollowedLaws.{followed-push}
+use Rattle.babel_dump.proofs.StartLaws.{tells_heard}
 use Rattle.babel_dump.proofs.UnreadTlvs.{front_of_packet}
 
 -- ---- what a teller refuses
@@ -318,14 +320,19 @@ follows_still start now made one follows some = (
         back = has.back ++ taken ∷ [];
         are = one_more before made one ∙ ap (λ (l : List Made). l ++ taken ∷ []) has.are ∙ append_assoc has.front (has.one ∷ has.back) (taken ∷ []);
         refused = has.refused;
+        first = has.first;
+        tells = has.tells;
+        besides = has.besides;
+        written_is = has.written_is;
+        kept = has.kept;
       },
 )
 
 -- for the next no more is
-pub follows_stopped : (start old : Follower) (made : List Made) (one : Made) (told : Record) → IsTold one told → Follows start old made → old.fault ≡ None → (why : Stop)
-    → StopsFollowed old.events.now told old why → (stop : Stop) → Some why ≡ Some stop → (before : List Made) (written : List (Telling Speaker))
-    → HasHeardFollowed start.events.now before written start → HasStopped start.events.now (before ++ (made ++ one ∷ [])) stop
-follows_stopped start old made one told is follows none why stops stop stopped before written heard =
+pub follows_stopped : (start old new : Follower) (made : List Made) (one : Made) (told : Record) → IsTold one told → Follows start old made → old.fault ≡ None
+    → (why : Stop) → TellsBehind old.told.items new.told.items why → StopsFollowed old.events.now told old why → (stop : Stop) → Some why ≡ Some stop → (before : List Made) (written : List (Telling Speaker))
+    → HasHeardFollowed start.events.now before written start → HasStopped start.events.now (before ++ (made ++ one ∷ [])) stop (written ++ new.told.items)
+follows_stopped start old new made one told is follows none why behind stops stop stopped before written heard =
     let was = subst (λ (e : Events). HasHeardFollowed e (before ++ made) written old) (sym follows.0) ((follows.1 none).1 before written heard) in
     let taken = followed_of (senders_followed (before ++ made)) one in
     record {
@@ -337,4 +344,9 @@ follows_stopped start old made one told is follows none why stops stop stopped b
           let same : why ≡ stop = cc in
           subst (λ (e : Events). IsRefused e (followed (before ++ made)) taken (trouble_of stop)) follows.0
           (subst (StopsFollowed old.events.now told old) same stops (before ++ made) one written is was not_memory);
+      first = written ++ old.told.items;
+      tells = tells_heard start.events.now (followed (before ++ made)) (written ++ old.told.items) old.hearing ((follows.1 none).1 before written heard).1;
+      besides = behind.0;
+      written_is = ap (λ (t : List (Telling Speaker)). written ++ t) behind.1 ∙ sym (append_assoc written old.told.items behind.0);
+      kept = λ memory. behind.2 (let same : why ≡ stop = cc in same ∙ memory);
     }

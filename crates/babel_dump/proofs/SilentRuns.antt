@@ -12,7 +12,6 @@ use Rattle.babel_capture.specs.Findings.{octets_found, origin_found}
 use Rattle.babel_capture.specs.Times.{time_of}
 use Rattle.babel_table.specs.Moments.{Stamp}
 use Rattle.babel_timeline.specs.declared.teller.Teller.{Teller}
-use Rattle.babel_timeline.specs.Silence.{Watching}
 use Rattle.babel_timeline.specs.Rows.{Rows}
 use Rattle.babel_timeline.specs.SilencesTold.{EachCounts, IsWatched, IsWatchedWhole, TellsCounts, TellsSilences, hellos_heard, watches}
 use Rattle.babel_timeline.specs.SilencesTold.{LeavesRows as LeftRows}

@@ -53,6 +53,15 @@ since_more asked made one = ap (since_at asked) (first_more made one) ∙ by ask
     by (Some moment) None = refl
     by (Some moment) (Some time) = refl
 
+-- once it is known it stays
+pub since_known : (asked : Option Moment) (made : List Made) (one : Made) (time : ℕ) → first_time made ≡ Some time → since_in asked (made ++ one ∷ []) ≡ since_in asked made
+since_known asked made one time first =
+    since_more asked made one ∙ ap (λ (t : Option ℕ). option_or (since_at asked t) (since_at asked (time_of one.came))) first ∙ known asked (time_of one.came) ∙ ap (since_at asked) (sym first)
+  where
+    known : (a : Option Moment) (t : Option ℕ) → option_or (since_at a (Some time)) (since_at a t) ≡ since_at a (Some time)
+    known None t = refl
+    known (Some m) t = refl
+
 untimed : (since : Option ℕ) → has_come since None ≡ false
 untimed None = refl
 untimed (Some moment) = refl
@@ -85,18 +94,9 @@ awaits_begun asked made one came is told kept quiet awaits = by (first_time made
     moment : option_or kept.moment (since_at asked came) ≡ now
     moment = ap (λ (m : Option ℕ). option_or m (since_at asked came)) awaits.moment ∙ ap (λ (t : Option ℕ). option_or (since_in asked made) (since_at asked t)) is ∙ sym (since_more asked made one)
 
-    known : (a : Option Moment) (time : ℕ) (t : Option ℕ) → option_or (since_at a (Some time)) (since_at a t) ≡ since_at a (Some time)
-    known None time t = refl
-    known (Some m) time t = refl
-
-    unknown : (a : Option Moment) → since_at a None ≡ None
-    unknown None = refl
-    unknown (Some m) = refl
-
     by : (t : Option ℕ) → first_time made ≡ t → Awaits now (have_come now made) told (record kept { moment = option_or kept.moment (since_at asked came) })
     by (Some time) first =
-        let same : now ≡ since_in asked made =
-        since_more asked made one ∙ ap (λ (t : Option ℕ). option_or (since_at asked t) (since_at asked (time_of one.came))) first ∙ known asked time (time_of one.came) ∙ ap (since_at asked) (sym first) in
+        let same : now ≡ since_in asked made = since_known asked made one time first in
         record {
           moment = moment;
           has_come = awaits.has_come ∙ ap (λ (s : Option ℕ). have_come s made) (sym same);

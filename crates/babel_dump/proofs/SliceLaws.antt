@@ -11,7 +11,7 @@ use Rattle.babel_dump.specs.Run.{Output, output}
 use Rattle.babel_dump.specs.Slices.{Broke, Took, WroteFront, WroteText}
 
 -- after a front, a prefix of more is one of both
-prefix_on : (a b c : OutputState) (front more : List ℕ) → Appends a.taken b.taken front → AppendsPrefix b.taken c.taken more
+pub prefix_on : (a b c : OutputState) (front more : List ℕ) → Appends a.taken b.taken front → AppendsPrefix b.taken c.taken more
     → AppendsPrefix a.taken c.taken (front ++ more)
 prefix_on a b c front more took prefix =
     (length front + prefix.0, rw (take-append-add front more prefix.0) (Appends-trans a.taken b.taken c.taken front _ took prefix.1))

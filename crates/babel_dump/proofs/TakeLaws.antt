@@ -16,7 +16,7 @@ use Rattle.babel_timeline.specs.declared.teller.Teller.{Teller}
 use Rattle.babel_timeline.specs.declared.telling.Telling.{Telling}
 use Rattle.babel_timeline.specs.Rows.{AllLast, Rows}
 use Rattle.babel_dump.specs.CaptureRun.{IsOutcomeOf}
-use Rattle.babel_dump.specs.EventsRun.{AreReadWhole, CountsRoutes, HaveTold, Opens, OpensBy, Step, TellsSilent, WroteLines, followed_by, followed_extent, have_come, heard_status, last_time, made_in, moment_read, since_in, told_from, told_in, unlost, written_in}
+use Rattle.babel_dump.specs.EventsRun.{AreReadWhole, CountsRoutes, HaveTold, NotesSome, Opens, OpensBy, Step, TellsSilent, WroteLines, followed_by, followed_extent, have_come, heard_status, last_time, made_in, moment_read, since_in, told_from, told_in, unlost, written_in}
 use Rattle.babel_dump.specs.Followed.{Ends, EndsAt, EndsBy, Follows, HasHeard, HasHeardFollowed, IsFollowed, KnowsOthers, Suits, TellsFrom, unlost_by}
 use Rattle.babel_dump.specs.FollowedSenders.{followed, senders_followed, with_packets}
 use Rattle.babel_dump.specs.HeardSenders.{heard_of, heard_told}
@@ -32,6 +32,7 @@ use Rattle.babel_dump.specs.declared.follower.Follower.{Follower}
 use Rattle.babel_dump.specs.declared.hearing.Hearing.{Hearing}
 use Rattle.babel_dump.proofs.EventsRuns.{told_so, told_until}
 use Rattle.babel_dump.proofs.HeardLaws.{heard_senders}
+use Rattle.babel_dump.proofs.HeardOthers.{notes_until}
 use Rattle.babel_dump.proofs.HeardRecords.{unlost_is}
 use Rattle.babel_dump.proofs.SilentRuns.{counts_none, counts_so, silent_until}
 use Rattle.babel_dump.proofs.FollowLaws.{same_made}
@@ -171,6 +172,13 @@ ended_by_then events made told (Some moment) old new ends was = record {
     from : TellsFrom since (have_come since (made_in was.steps)) (Some moment) (told_in was.steps) ends.ended new.follower.hearing.since ends.printed
     from = ends.from since (have_come since (made_in was.steps)) (told_in was.steps) was.awaits
 
+-- the moment from which on it is told stays
+still_since : (events : Events) (made : List Made) (told : Tellings) (moment : Option ℕ) (old new : Followed) → EndsAt events moment old new
+    → (was : HasHeard events made (told ++ old.follower.told.items) old.follower.hearing) → new.follower.hearing.since.moment ≡ since_in events.since (made_in was.steps)
+still_since events made told None old new same was = ap (λ (f : Follower). f.hearing.since.moment) same ∙ was.awaits.moment
+still_since events made told (Some moment) old new ends was =
+    (ends.from (since_in events.since (made_in was.steps)) (have_come (since_in events.since (made_in was.steps)) (made_in was.steps)) (told_in was.steps) was.awaits).awaits.moment
+
 -- the moment is none where a record has no time
 when_timed : (untimed : Bool) (moment : Option ℕ) → untimed ≡ false → (if untimed then None else moment) ≡ moment
 when_timed true moment timed = absurd (let bad : true ≡ false = timed in cc)
@@ -183,8 +191,10 @@ pub ending : (events : Events) (fed : List ℕ) (told : Tellings) (writer : Outp
     → status ≡ heard_status answer.senders.items → IsOutcomeOf answer.outcome status old.capture.progress.gathering.report cut
     → map heard_told answer.senders.items ≡ map (heard_of old) (with_packets old.follower.senders.senders.entries)
     → (events.strict ≡ true → AreReadWhole old.capture.progress.gathering.report answer.senders.items)
+    → ((made : List Made) → new.follower.hearing.since.moment ≡ since_in events.since made → KnowsOthers events made old.follower.other_sources
+    → NotesSome events (moment_of old.capture) made answer.other_sources)
     → Ends events fed told writer answer
-ending events fed told writer old new status cut answer is read accepted ends wrote status_is outcome_is senders whole =
+ending events fed told writer old new status cut answer is read accepted ends wrote status_is outcome_is senders whole notes =
     by (same_made extent fed old.capture.progress old.capture.pending _ cut refl is.read given)
   where
     extent : Extent
@@ -243,6 +253,10 @@ ending events fed told writer old new status cut answer is read accepted ends wr
             heard = heard.1;
             outcome_is = subst (λ (s : ℕ). IsOutcomeOf answer.outcome s gathering.report cut) status_is outcome_is;
             whole = whole;
+            others = notes_until events (made_in was.steps) moment answer.other_sources untimed
+                (subst (λ (m : Option ℕ). NotesSome events m (made_in was.steps) answer.other_sources) (same_moment blocks)
+                (notes (made_in was.steps) (still_since events (followed is.read.leads.gathered.made) told (moment_of old.capture) old new ends was)
+                (subst (λ (m : List Made). KnowsOthers events m old.follower.other_sources) (sym was.are_made) is.has_heard.2)));
           };
           wrote = wrote;
         }

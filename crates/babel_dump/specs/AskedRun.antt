@@ -4,14 +4,17 @@ use Rattle.std.specs.Io.KnownBytes.{Appends, Keeps}
 use Rattle.std.specs.List.{AllByRecursion, Any, flat_map}
 use Rattle.std.specs.Map.{keys_of}
 use Rattle.babel_dump.specs.Begun.{BeginsSo}
-use Rattle.babel_dump.specs.CaptureGiven.{made_in}
+use Rattle.babel_dump.specs.CaptureGiven.{CaptureInput, made_in}
 use Rattle.babel_dump.specs.EventsCause.{EventsCause}
 use Rattle.babel_dump.specs.EventsRun.{TellsEvents}
+use Rattle.babel_dump.specs.EventsStart.{StartsEvents}
 use Rattle.babel_dump.specs.Files.{reading_of}
 use Rattle.babel_dump.specs.Given.{Reads}
 use Rattle.babel_dump.specs.JobRun.{SaysBy}
 use Rattle.babel_dump.specs.Originated.{AreOriginated}
 use Rattle.babel_dump.specs.OriginText.{origins_in, origins_status}
+use Rattle.babel_dump.specs.SelectHeard.{GaveSelecting}
+use Rattle.babel_dump.specs.SelectTold.{TellsSelection}
 use Rattle.babel_dump.specs.ToldOrigins.{AreAllRead, OwnRoutes, rows_of_all}
 use Rattle.babel_dump.specs.ToldPairs.{ArePairsTold, Heard}
 use Rattle.babel_dump.specs.ToldSenders.{AreTexts}
@@ -37,6 +40,8 @@ use Rattle.babel_dump.specs.declared.run_fault.Side.TheVariants as sides
 use Rattle.babel_dump.specs.declared.each_pair.EachPair.{EachPair}
 use Rattle.babel_dump.specs.declared.each_sender.EachSender.{EachSender}
 use Rattle.babel_dump.specs.declared.each_sender.SendersRead.{SendersRead}
+use Rattle.babel_dump.specs.declared.select_job.Select.{Select}
+use Rattle.babel_dump.specs.declared.selection_read.SelectionRead.{SelectionRead}
 use Rattle.babel_dump.specs.declared.trouble.Trouble.{Trouble}
 use Rattle.babel_dump.specs.declared.trouble.Trouble.TheVariants as troubles
 
@@ -165,6 +170,27 @@ pub record WroteOrigins (origins : Origins) (streams others : List (Option (List
   pub wrote : Appends writer.old.taken writer.new.taken (origins_in origins all)
   pub status : done.status ≡ origins_status origins all
 
+-- what is known of the capture of which this was read for a router that selects
+abbrev pub heard_selecting : {select : Select} {reader : CaptureInput} → (read : SelectionRead)
+    → GaveSelecting select reader read → Heard
+heard_selecting read gave = record {
+  made = made_in gave.gave.given;
+  moment = read.senders.read.moment;
+  gathering = read.senders.read.gathered;
+}
+
+-- What a router selects, of what its neighbours announce in a capture, was written.
+pub record WroteSelection (select : Select) (stream : Option (List ℕ)) (writer : Output)
+    (done : Done) : Type 0 where
+  pub reader : Reads
+  pub keeps : Keeps stream reader.old.left
+  pub read : SelectionRead
+  pub gave : GaveSelecting select (each_from select.each reader.old reader.new) read
+  pub text : List ℕ
+  pub tells : TellsSelection select (heard_selecting read gave)
+      (keys_of read.senders.tables.entries) text done.status
+  pub wrote : Appends writer.old.taken writer.new.taken text
+
 -- what changed in a capture was told
 pub record ToldEvents (events : Events) (stream : Option (List ℕ)) (writer : Output)
     (done : Done) : Type 0 where
@@ -184,6 +210,7 @@ Did (askeds.EachPair pairs) seed stream other more other_more = WrotePairs pairs
 Did (askeds.Origins origins) seed stream other more other_more =
     WroteOrigins origins (stream ∷ more) (other ∷ other_more)
 Did (askeds.Events events) seed stream other more other_more = ToldEvents events stream
+Did (askeds.Select select) seed stream other more other_more = WroteSelection select stream
 
 -- the option that is told as misplaced
 abbrev pub misplaced_told : Trouble → Option (List ℕ)
@@ -218,14 +245,17 @@ IsRefused (askeds.Job job) stream other more other_more = IsJobRefused job strea
 IsRefused (askeds.Lone lone) stream other more other_more = IsJobRefused lone.job stream other
 IsRefused (askeds.Origins origins) stream other more other_more =
     IsOriginsRefused (stream ∷ more) (other ∷ other_more)
+IsRefused (askeds.Select select) stream other more other_more =
+    λ trouble. misplaced_told trouble ≡ None
 IsRefused asked stream other more other_more = λ trouble. Unit {0}
 
--- what changed in a capture was not told to its end, for this cause
+-- what changed in a capture was not told to its end, for this cause: only its start was
 pub record FailedEvents (events : Events) (stream : Option (List ℕ)) (writer : Output)
     (trouble : Trouble) : Type 0 where
   pub reader : Reads
   pub keeps : Keeps stream reader.old.left
   pub cause : EventsCause events reader.old reader.new writer trouble
+  pub start : StartsEvents events reader.old reader.new writer
 
 -- why what was asked for was not done: of `events`
 abbrev pub Failed : Asked → (stream : Option (List ℕ)) → Output → Trouble → Type 0

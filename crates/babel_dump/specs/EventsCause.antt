@@ -30,7 +30,7 @@ use Rattle.babel_dump.specs.CaptureGiven.{BeginsWith, CaptureInput, GaveCapture,
 use Rattle.babel_dump.specs.CaptureGiven.{IsFaultOfCapture, capture_from, made_in}
 use Rattle.babel_dump.specs.Device.{Gave, InputState}
 use Rattle.babel_dump.specs.EventsRun.{HaveTold, IsHeardSender, IsReportOf, asked_by, followed_by}
-use Rattle.babel_dump.specs.EventsRun.{followed_extent, packets_heard, speaker_at}
+use Rattle.babel_dump.specs.EventsRun.{followed_extent, packets_heard, speaker_at, without_pair}
 use Rattle.babel_dump.specs.FollowedSenders.{followed, senders_followed, with_packets}
 use Rattle.babel_dump.specs.LeftOut.{first_left_out}
 use Rattle.babel_dump.specs.Run.{Output}
@@ -124,10 +124,6 @@ RefusesAlone start at packet fault =
     ⊎ PacketFault at packet fault
     ⊎ ((body : List ℕ) × BeginsPacket packet body
     × RefusesTlvIn start (tlvs_of (at + 4) body) fault)
-
--- what is asked for, but for addresses
-abbrev pub without_pair : Events → Events
-without_pair events = record events { pair = None }
 
 -- The packet of a sender is refused: as it is heard; or by itself where it is read strictly; or
 -- where all routes count, since there may be some for other sources than that of the answer.

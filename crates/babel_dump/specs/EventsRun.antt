@@ -1,10 +1,11 @@
 -- What `events` tells of a capture, and what it promises: this project's own. Who does not use the
 -- command needs none of this page.
-use Rattle.std.specs.Prelude.{ℕ, ◌≡◌, ◌+◌, ◌≤◌, ◌^◌, Bool, true, false, not, ◌&&◌, ◌||◌, List, []}
+use Rattle.std.specs.Prelude.{ℕ, ◌≡◌, ◌↔◌, ◌+◌, ◌≤◌, ◌^◌, Bool, true, false, not, ◌&&◌, ◌||◌, List, []}
 use Rattle.std.specs.Prelude.{◌∷◌, ◌++◌}
 use Rattle.std.specs.Prelude.{Option, None, Some, IfSome, is_none, length, map, nat_le}
 use Rattle.std.specs.Prelude.{fold, if◌then◌else◌}
 use Rattle.std.specs.BTreeMap.{is_at}
+use Rattle.std.specs.BTreeSet.{BTreeSet, contains}
 use Rattle.std.specs.Io.KnownBytes.{Appends}
 use Rattle.std.specs.List.{AllByRecursion, filter, flat_map, list_any}
 use Rattle.std.specs.List.Sorted.{IsStrictlySortedBy}
@@ -34,14 +35,16 @@ use Rattle.babel_table.specs.Counts.{Counts as Report}
 use Rattle.babel_table.specs.Moments.{Stamp, told_from as said_from}
 use Rattle.babel_timeline.specs.declared.best_match.BestMatch.{BestMatch}
 use Rattle.babel_timeline.specs.declared.change.Change.{Change}
+use Rattle.babel_timeline.specs.declared.subject.Subject.{Subject}
 use Rattle.babel_timeline.specs.declared.telling.Telling.{Telling}
 use Rattle.babel_timeline.specs.declared.telling.Telling.TheVariants as tellings
 use Rattle.babel_timeline.specs.Accounts.{IsAccount, Said}
 use Rattle.babel_timeline.specs.RequestsTold.{requests_told, unicast}
-use Rattle.babel_timeline.specs.Rows.{AllLast, Rows}
+use Rattle.babel_timeline.specs.Rows.{AllLast, Rows, subject_cmp}
 use Rattle.babel_timeline.specs.Silence.{row_count}
 use Rattle.babel_timeline.specs.SilencesTold.{EachCounts, TellsWhoIsSilent, hellos_heard, watches}
 use Rattle.babel_timeline.specs.Telling.{AreAnswers, AreLastSaid, AskedFor, answered, of_rows, said_of}
+use Rattle.babel_dump.specs.AnySource.{IsSourceSpecific}
 use Rattle.babel_dump.specs.CaptureRun.{IsOutcomeOf}
 use Rattle.babel_dump.specs.Device.{GaveOctets, InputState}
 use Rattle.babel_dump.specs.EventText.{event_in, speaker_of}
@@ -58,6 +61,7 @@ use Rattle.babel_dump.specs.declared.addr_pair.AddrPair.{AddrPair}
 use Rattle.babel_dump.specs.declared.events_job.Events.{Events}
 use Rattle.babel_dump.specs.declared.events_outcome.EventsOutcome.{EventsOutcome}
 use Rattle.babel_dump.specs.declared.events_outcome.HeardSender.{HeardSender}
+use Rattle.babel_dump.specs.declared.other_sources.OtherSources.{OtherSources}
 use Rattle.babel_dump.specs.declared.speaker.Speaker.{Speaker}
 use Rattle.babel_dump.specs.Speakers.{speaker_cmp}
 
@@ -395,6 +399,56 @@ pub record WroteLines (events : Events) (told : List (Telling Speaker)) (writer 
   pub lines : AreLines events told text
   pub wrote : Appends writer.old.taken writer.new.taken text
 
+-- ---- routes for other sources than that of an answer
+
+-- what is asked for, but for addresses
+abbrev pub without_pair : Events → Events
+without_pair events = record events { pair = None }
+
+-- what is told, where that is a change of the subject
+abbrev pub change_of : Subject Speaker → Telling Speaker → Option (Change Speaker)
+change_of subject (tellings.Change told) =
+    if is_at (subject_cmp speaker_cmp subject) told.subject then Some told else None
+change_of subject (tellings.Answer time sender answer before) = None
+change_of subject (tellings.Request time sender to request) = None
+change_of subject (tellings.Silent time sender since routes) = None
+change_of subject (tellings.Returns time sender) = None
+
+-- the last change that was told of a subject
+abbrev pub last_change : List (Telling Speaker) → Subject Speaker → Option (Change Speaker)
+last_change told subject = fold (λ last one. option_or (change_of subject one) last) None told
+
+-- something was held just before the moment, or since: the last change is of the moment or later, or
+-- leaves something held
+abbrev pub was_held : Option ℕ → Option (Change Speaker) → Bool
+was_held since None = false
+was_held since (Some told) = is_from since told.time || is_some (held_after told.kind)
+
+-- the subjects are those for the destination, and not for every source, of which something was held
+-- then, by what was told
+abbrev pub AreOthers : (dst : Address) → (since : Option ℕ) → List (Telling Speaker)
+    → BTreeSet (Subject Speaker) → Type 0
+AreOthers dst since told held = (subject : Subject Speaker)
+    → (contains (subject_cmp speaker_cmp) held subject ≡ true)
+    ↔ (IsSourceSpecific dst subject.key × (was_held since (last_change told subject) ≡ true))
+
+-- Where answers are for any source: of these records, as all routes are told that they say, up to the
+-- moment, those are kept that are for other sources, and were held just before the moment that is
+-- asked for, or since.
+pub record NotesOthers (events : Events) (until : Option ℕ) (made : List Made)
+    (others : OtherSources) : Type 0 where
+  pub is_any : events.is_any_source ≡ true
+  pub of : events.pair ≡ Some others.pair
+  pub told : List (Telling Speaker)
+  pub rows : Rows Speaker
+  pub have_told : HaveTold (without_pair events) until made told rows
+  pub are : AreOthers others.pair.dst (since_in events.since made) told others.held
+
+-- the same, if there are some; and where answers are for any source there are
+abbrev pub NotesSome : Events → Option ℕ → List Made → Option OtherSources → Type 0
+NotesSome events until made None = events.is_any_source ≡ true → events.pair ≡ None
+NotesSome events until made (Some others) = NotesOthers events until made others
+
 -- the moment up to which the capture was read: the last of the window, or the latest time read
 abbrev pub moment_read : Events → List BlockAt → Gathering → Option ℕ
 moment_read events blocks gathering =
@@ -447,6 +501,8 @@ pub record TellsCapture (events : Events) (octets : List ℕ) (written : List (T
   pub heard : AllByRecursion (IsHeardSender events (made_in steps) gathering) answer.senders.items
   pub outcome_is : IsOutcomeOf answer.outcome (heard_status answer.senders.items) gathering.report cut
   pub whole : events.strict ≡ true → AreReadWhole gathering.report answer.senders.items
+  pub others : NotesSome events (moment_read events is_read.is_read.blocks gathering)
+      (made_in steps) answer.other_sources
 
 -- A run of `events` that ends well: the reader gave a capture, all that it had, and the writer took
 -- the lines of what it tells.

@@ -19,7 +19,7 @@ use Rattle.babel_tlv.specs.Framing.{TlvAt, packet_octets}
 use Rattle.babel_tlv.specs.declared.fault.Fault.{Fault}
 use Rattle.babel_tlv.specs.declared.fault.Fault.TheVariants as faults
 use Rattle.babel_timeline.specs.Hearing.{CountsPacket, octets_heard, report_of}
-use Rattle.babel_timeline.specs.Rows.{AllLast, Rows}
+use Rattle.babel_timeline.specs.Rows.{AllLast}
 use Rattle.babel_timeline.specs.SilencesTold.{IsWatchedWhole, TellsCounts, TellsSilences}
 use Rattle.babel_timeline.specs.SilencesTold.{hellos_heard, watches}
 use Rattle.babel_timeline.specs.Telling.{Tells, TellsEnds, answered, of_rows}
@@ -29,15 +29,17 @@ use Rattle.babel_timeline.specs.declared.teller.Teller.{Teller}
 use Rattle.babel_timeline.specs.declared.telling.Telling.{Telling}
 use Rattle.babel_dump.specs.Device.{GaveOctets, InputState}
 use Rattle.babel_dump.specs.EventText.{event_in, speaker_of}
-use Rattle.babel_dump.specs.EventsCause.{IsRefused, RefusesAlone, RefusesPart, start_of, without_pair}
-use Rattle.babel_dump.specs.EventsRun.{AreInOrder, CountsRoutes, HaveTold, HaveToldSo, IsReportOf}
-use Rattle.babel_dump.specs.EventsRun.{IsSaid, Step, TellsSilent, hellos_made, last_time}
+use Rattle.babel_dump.specs.EventsCause.{IsRefused, RefusesAlone, RefusesPart, start_of}
+use Rattle.babel_dump.specs.EventsRun.{without_pair}
+use Rattle.babel_dump.specs.EventsRun.{AreInOrder, CountsRoutes, TellsSilent, hellos_made, last_time}
+use Rattle.babel_dump.specs.EventsRun.{AreOthers, HaveTold, HaveToldSo, IsReportOf, IsSaid, Step}
 use Rattle.babel_dump.specs.EventsRun.{TellsCapture, WroteLines, asked_by, followed_by}
 use Rattle.babel_dump.specs.EventsRun.{followed_extent, is_lost, keeps_told, made_in, packets_heard}
 use Rattle.babel_dump.specs.EventsRun.{Opens, OpensRightly, first_time, has_come, have_come}
 use Rattle.babel_dump.specs.EventsRun.{since_at, since_in, speaker_at, told_early, told_from}
 use Rattle.babel_dump.specs.EventsRun.{told_in}
 use Rattle.babel_dump.specs.EventsRun.{written_in}
+use Rattle.babel_dump.specs.EventsStart.{TellsRecords}
 use Rattle.babel_dump.specs.FollowedSenders.{followed, followed_of, senders_followed}
 use Rattle.babel_dump.specs.Run.{Output}
 use Rattle.babel_dump.specs.Speakers.{speaker_cmp}
@@ -161,19 +163,25 @@ HearsTold events told old new =
 pub record HasHeardOthers (events : Events) (made : List Made) (others : OtherSources) : Type 0
   where
     pub is_any : events.is_any_source ≡ true
+    pub of : events.pair ≡ Some others.pair
     pub suits : Suits (without_pair events) others.teller
     pub told : List (Telling Speaker)
     pub have_told : HaveTold (without_pair events) None made told others.teller.timeline.rows
     pub heard : (speaker : Speaker)
         → IsHeardOf (without_pair events) made others.teller.heard.entries speaker
+    pub quiet : first_time made ≡ None → told ≡ []
+    pub are : AreOthers others.pair.dst (since_in events.since made) told others.held
 
--- the same, if they are heard
+-- the same, if they are heard; and where answers are for any source they are
 abbrev pub KnowsOthers : Events → List Made → Option OtherSources → Type 0
-KnowsOthers events made others = IfSome others (HasHeardOthers events made)
+KnowsOthers events made None = events.is_any_source ≡ true → events.pair ≡ None
+KnowsOthers events made (Some others) = HasHeardOthers events made others
 
--- now also of this record
-abbrev pub HearsOthers : Events → Record → (old new : Option OtherSources) → Type 0
-HearsOthers events told old new = (made : List Made) (one : Made) → IsTold one told
+-- now also of this record, by which the moment is this one that is asked for
+abbrev pub HearsOthers : Events → Record → (since : Option ℕ) → (old new : Option OtherSources)
+    → Type 0
+HearsOthers events told since old new = (made : List Made) (one : Made) → IsTold one told
+    → since ≡ since_in events.since (made ++ one ∷ [])
     → KnowsOthers events made old → KnowsOthers events (made ++ one ∷ []) new
 
 -- of these records those of senders that are followed were heard, and this is to be written of what
@@ -314,14 +322,25 @@ StopsFollowed events told old stop =
     → HasHeardFollowed events made before old → stop ≢ stops.Unheard unheard.Memory
     → IsRefused events (followed made) (followed_of (senders_followed made) one) (trouble_of stop)
 
--- of these records, as far as their senders are followed, those before one were heard, for which no
--- more is, unless memory ran out
-pub record HasStopped (events : Events) (made : List Made) (stop : Stop) : Type 0 where
+-- Of these records, as far as their senders are followed, those before one were heard, for which no
+-- more is, unless memory ran out. This is what they told, and then perhaps something of the one.
+pub record HasStopped (events : Events) (made : List Made) (stop : Stop)
+    (written : List (Telling Speaker)) : Type 0 where
   pub front : List Made
   pub one : Made
   pub back : List Made
   pub are : followed made ≡ front ++ one ∷ back
   pub refused : stop ≢ stops.Unheard unheard.Memory → IsRefused events front one (trouble_of stop)
+  pub first : List (Telling Speaker)
+  pub tells : TellsRecords events front first
+  pub besides : List (Telling Speaker)
+  pub written_is : written ≡ first ++ besides
+  pub kept : stop ≡ stops.Unheard unheard.Memory → besides ≡ []
+
+-- no more is heard: behind what was told before there may be something, unless memory ran out
+abbrev pub TellsBehind : (old new : List (Telling Speaker)) → Stop → Type 0
+TellsBehind old new stop = (more : List (Telling Speaker)) × (new ≡ old ++ more)
+    × (stop ≡ stops.Unheard unheard.Memory → more ≡ [])
 
 -- these records made the second of the first: of what they told this is to be written besides
 -- or it has stopped at one of them
@@ -334,7 +353,7 @@ Follows start now made =
     × ((stop : Stop) → now.fault ≡ Some stop → start.fault ≡ None
     → (before : List Made) (written : List (Telling Speaker))
     → HasHeardFollowed start.events.now before written start
-    → HasStopped start.events.now (before ++ made) stop)
+    → HasStopped start.events.now (before ++ made) stop (written ++ now.told.items))
 
 -- of what is told now, that of senders that are not lost
 abbrev pub unlost_by : BTreeSet Speaker → List (Telling Speaker) → List (Telling Speaker)

@@ -35,6 +35,8 @@ note_name notes.NoUpdates = codes "no-updates"
 note_name notes.NoIhus = codes "no-ihus"
 note_name (notes.RoutesDiffer routes) = codes "routes-differ"
 note_name (notes.Source spelling source) = codes "source"
+note_name (notes.Feasibility spelling address announced keys) = codes "feasibility"
+note_name (notes.Ties keys) = codes "ties"
 
 -- `,"NAME":N`
 abbrev pub number_member : (name : List ℕ) → ℕ → List ℕ
@@ -58,6 +60,11 @@ left_out_members note =
     (counted_objects left_out_name (left_out_for note.report) (told_reasons note.are_apart))
     ++ codes "]"
 
+-- `,"address":"ADDRESS"`
+abbrev pub address_member : Spelling → Address → List ℕ
+address_member spelling address =
+    codes ",\"address\":\"" ++ address_text spelling address ++ codes "\""
+
 -- `,"source":"ADDRESS"`
 abbrev pub source_member : Spelling → Address → List ℕ
 source_member spelling source =
@@ -78,6 +85,10 @@ note_members (notes.ShortSpan span interval) =
 note_members (notes.Expired routes) = number_member (codes "routes") routes
 note_members (notes.RoutesDiffer routes) = number_member (codes "routes") routes
 note_members (notes.Source spelling source) = source_member spelling source
+note_members (notes.Feasibility spelling address announced keys) =
+    address_member spelling address ++ number_member (codes "announced") announced
+    ++ number_member (codes "keys") keys
+note_members (notes.Ties keys) = number_member (codes "keys") keys
 note_members notes.Cooked = []
 note_members notes.NoUpdates = []
 note_members notes.NoIhus = []

@@ -37,6 +37,16 @@ impl Absence {
         self.sender.is_some() || self.place.is_some()
     }
 
+    /// That of the packets of a sender, at a place if one is named, between the same moments.
+    pub(crate) fn of_sender(&self, sender: Addr, place: Option<Place>) -> Absence {
+        Absence {
+            sender: Some(sender),
+            place,
+            first: None,
+            ..*self
+        }
+    }
+
     /// That of the packets that are wanted of this capture, which was read in this window.
     pub(crate) fn of(capture: &Capture, window: &Window) -> Absence {
         let gathered = capture.gathered();

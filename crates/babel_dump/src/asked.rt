@@ -10,6 +10,7 @@ use crate::lone_sender::{Lone, LoneSender};
 use crate::origins_job::Origins;
 use crate::reading::capture_limit;
 use crate::run_fault::Side;
+use crate::select_job::Select;
 use crate::spelling::Spelling;
 use crate::trouble::Trouble;
 use babel_table::Limits;
@@ -32,6 +33,8 @@ pub enum Asked {
     Origins(Origins),
     /// `events`: what changed in a capture, and when.
     Events(Events),
+    /// `select`: which routes a router uses, of those that its neighbours announce.
+    Select(Select),
 }
 
 impl Asked {
@@ -43,6 +46,7 @@ impl Asked {
             Asked::EachPair(pairs) => &pairs.left.file,
             Asked::Origins(origins) => &origins.left.file,
             Asked::Events(events) => &events.file,
+            Asked::Select(select) => &select.each.file,
         }
     }
 
@@ -56,7 +60,7 @@ impl Asked {
                 Some(right) => Some(&right.file),
                 None => None,
             },
-            Asked::Lone(_) | Asked::Events(_) => None,
+            Asked::Lone(_) | Asked::Events(_) | Asked::Select(_) => None,
         }
     }
 
@@ -109,7 +113,7 @@ impl Asked {
             Asked::Job(job) => matches!(job.work, Work::Two { .. }),
             Asked::EachPair(_) => true,
             Asked::Origins(origins) => origins.right.is_some(),
-            Asked::EachSender(_) | Asked::Lone(_) | Asked::Events(_) => false,
+            Asked::EachSender(_) | Asked::Lone(_) | Asked::Events(_) | Asked::Select(_) => false,
         }
     }
 
@@ -117,7 +121,9 @@ impl Asked {
     pub(crate) fn names_sender(&self) -> bool {
         match self {
             Asked::Job(_) | Asked::Lone(_) => true,
-            Asked::EachSender(_) | Asked::EachPair(_) | Asked::Origins(_) => false,
+            Asked::EachSender(_) | Asked::EachPair(_) | Asked::Origins(_) | Asked::Select(_) => {
+                false
+            }
             Asked::Events(events) => events.sender.is_some(),
         }
     }
@@ -138,6 +144,7 @@ impl Asked {
             Asked::EachPair(pairs) => pairs.left.quiet,
             Asked::Origins(origins) => origins.left.quiet,
             Asked::Events(events) => events.quiet,
+            Asked::Select(select) => select.each.quiet,
         }
     }
 
@@ -171,6 +178,7 @@ impl Asked {
             Asked::EachPair(pairs) => &mut pairs.left.format,
             Asked::Origins(origins) => &mut origins.left.format,
             Asked::Events(events) => &mut events.format,
+            Asked::Select(select) => &mut select.each.format,
         };
         match format {
             Format::Text(style) | Format::Json(style) => match &mut style.names {
@@ -191,6 +199,7 @@ impl Asked {
             Asked::EachPair(pairs) => &pairs.left.format,
             Asked::Origins(origins) => &origins.left.format,
             Asked::Events(events) => &events.format,
+            Asked::Select(select) => &select.each.format,
         }
     }
 
@@ -205,6 +214,7 @@ impl Asked {
             Asked::EachPair(pairs) => Some(pairs.left.limits),
             Asked::Origins(origins) => Some(origins.left.limits),
             Asked::Events(events) => Some(events.limits),
+            Asked::Select(select) => Some(select.each.limits),
         }
     }
 

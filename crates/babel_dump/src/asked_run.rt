@@ -1,17 +1,20 @@
 //! Does what is asked for, over streams: whether one is a capture is seen by its first octets.
-ghost use Rattle.std.specs.Prelude.{IfErr, IfOk, IfSome, map};
+ghost use Rattle.std.specs.Prelude.{◌≡◌, IfErr, IfOk, IfSome, None, map};
 ghost use Rattle.std.specs.Io.KnownBytes.{Keeps};
 ghost use Rattle.babel_dump.specs.Begun.{BeginsSo};
-ghost use Rattle.babel_dump.specs.Device.{HasRoomToWrite};
+ghost use Rattle.babel_dump.specs.Device.{HasRoomToCount, HasRoomToWrite};
+ghost use Rattle.babel_dump.specs.EachSender.{each_from};
+ghost use Rattle.babel_dump.specs.SelectHeard.{GaveSelecting};
 ghost use Rattle.babel_dump.specs.Run.{output};
 ghost use Rattle.babel_dump.specs.AskedRun.{Did, DidJob, Failed, FailedEvents, IsJobRefused};
-ghost use Rattle.babel_dump.specs.AskedRun.{IsRefused, ToldEvents, WrotePairs, WroteSenders};
+ghost use Rattle.babel_dump.specs.AskedRun.{IsRefused, ToldEvents, WrotePairs};
+ghost use Rattle.babel_dump.specs.AskedRun.{WroteSelection, WroteSenders, misplaced_told};
 ghost use Rattle.babel_dump.specs.Files.{reading_of};
 ghost use Rattle.babel_dump.specs.declared.run_fault.Side.TheVariants as sides;
 
 use crate::asked::Asked;
 use crate::begun::{Begins, Begun, Whole};
-use crate::byte_in::FromReader;
+use crate::byte_in::{ByteIn, FromReader};
 use crate::byte_out::ByteOut;
 use crate::done::Done;
 use crate::each_pair::EachPair;
@@ -25,6 +28,9 @@ use crate::job_run::run_job;
 use crate::origins_run::tell_origins;
 use crate::run_fault::{RunFault, Side};
 use crate::says::Says;
+use crate::select::Selection;
+use crate::select_job::Select;
+use crate::selection_read::SelectionRead;
 use crate::statuses::status_of_all;
 use crate::told_pairs::ToldPairs;
 use crate::told_senders::ToldSenders;
@@ -68,6 +74,7 @@ pub fn run_asked<R: Read, W: ByteOut, T: Says>(
         Asked::EachPair(pairs) => tell_pairs(alloc, seed, pairs, reader, other, writer),
         Asked::Origins(origins) => tell_origins(alloc, seed, origins, inputs, others, writer),
         Asked::Events(events) => tell_events(alloc, events, reader, writer, says),
+        Asked::Select(select) => tell_selection(alloc, seed, select, reader, writer),
     }
 }
 
@@ -199,4 +206,49 @@ fn tell_events<R: Read + Drop, W: ByteOut, T: Says>(
     let done = Done::new(alloc)?;
     let answer = run_events(alloc, events, &mut FromReader::new(reader), writer, says)?;
     Ok(done.of_events(events, answer)?)
+}
+
+/// Reads a capture, and writes which routes a router in it uses.
+fn tell_selection<R: Read + Drop, W: ByteOut>(
+    alloc: Global,
+    seed: u128,
+    select: &Select,
+    reader: R,
+    writer: &mut W,
+) -> Result<Done, Trouble>
+    requires { HasRoomToWrite (W.state writer.old) }
+    ensures done { IfOk result (WroteSelection select.now (R.remaining reader)
+        (output (W.state writer.old) (W.state writer.new))) }
+    ensures refused { IfErr result (λ trouble. misplaced_told trouble ≡ None) }
+{
+    let read = read_selection(alloc, seed, select, &mut FromReader::new(reader))?;
+    let done = Done::new(alloc)?;
+    let Selection {
+        lines,
+        status,
+        counts,
+        senders,
+        read,
+    } = Selection::of(alloc, select, read)?;
+    let done = done.of_select(select, &read, senders, status, &counts)?;
+    write_text(writer, &lines)?;
+    Ok(done)
+}
+
+/// Reads a capture for a router in it that selects.
+fn read_selection<R: ByteIn>(
+    alloc: Global,
+    seed: u128,
+    select: &Select,
+    reader: &mut R,
+) -> Result<SelectionRead, Trouble>
+    requires { HasRoomToCount (R.state reader.old) }
+    ensures gave { IfOk result (GaveSelecting select.now
+        (each_from select.now.each (R.state reader.old) (R.state reader.new))) }
+    ensures refused { IfErr result (λ trouble. misplaced_told trouble ≡ None) }
+{
+    match SelectionRead::of(alloc, seed, select, reader) {
+        Ok(read) => Ok(read),
+        Err(fault) => Err(Trouble::of_input(Side::First, fault, ("--since", "--until"))),
+    }
 }

@@ -1,3 +1,4 @@
+use crate::capture_input::CaptureRead;
 use babel_capture::Report;
 
 /// What the notes after the output say of a capture.
@@ -12,4 +13,16 @@ pub struct CaptureNotes {
     /// How many rows of the dump's table were not announced again in time, if none was left out
     /// for that.
     pub expired_rows: usize,
+}
+
+impl CaptureNotes {
+    /// What they say of a capture that was read, of which each sender is told by itself.
+    pub(crate) fn apart(read: &CaptureRead) -> CaptureNotes {
+        CaptureNotes {
+            report: read.gathered.report(),
+            cut: read.cut,
+            are_apart: true,
+            expired_rows: 0,
+        }
+    }
 }

@@ -153,8 +153,22 @@ const AFTER_EVENTS: &str = after_help!(
     "1  there are no Babel packets"
 );
 
+const AFTER_SELECT: &str = after_help!(
+    refused: "a capture";
+    "A row for each route that another sender announces at a place where the router ADDRESS sends: \
+     its metric, what the link to the sender costs by both IHUs, and their sum, the total. What is \
+     feasible follows from the router's own Updates, and what it announces itself is what it uses. \
+     Its filters, hysteresis and own costs are not on the link. Each packet has to have a time.\n",
+    examples:
+    "select --at fe80::1 x.pcap",
+    "select --at fe80::1 --to 10.1.2.3 --until 2026-11-25T13:30:22Z x.pcap",
+    "select --at fe80::1 --cost fe80::2=96 --json x.pcap";
+    "0  done; with --to, a route is used",
+    "1  with --to: no route is used"
+);
+
 /// The commands, by the options that they have in common.
-pub(crate) const ALL: [&str; 11] = [
+pub(crate) const ALL: [&str; 12] = [
     "show",
     "lookup",
     "normalise",
@@ -166,6 +180,7 @@ pub(crate) const ALL: [&str; 11] = [
     "links",
     "extract",
     "events",
+    "select",
 ];
 
 /// Those that read dumps.
@@ -182,11 +197,13 @@ pub(crate) const OF_DUMPS: [&str; 7] = [
 /// Those that read two dumps.
 pub(crate) const OF_TWO: [&str; 2] = ["compare", "diff"];
 
-/// Those that take filters.
+/// Those that take filters, of routes and of keys alone.
 pub(crate) const FILTERED: [&str; 3] = ["show", "pairs", "events"];
 
+pub(crate) const FILTERED_KEYS: [&str; 4] = ["show", "pairs", "events", "select"];
+
 /// Those that read captures alone; and without limits on routes.
-pub(crate) const OF_CAPTURES: [&str; 4] = ["senders", "links", "extract", "events"];
+pub(crate) const OF_CAPTURES: [&str; 5] = ["senders", "links", "extract", "events", "select"];
 
 pub(crate) const OF_OCTETS: [&str; 3] = ["senders", "links", "extract"];
 
@@ -290,6 +307,12 @@ pub(crate) static COMMANDS: &[CommandRow] = &[
         name: "events",
         about: "Print what changed in a capture, and when",
         after_help: AFTER_EVENTS,
+        groups: &[],
+    },
+    CommandRow {
+        name: "select",
+        about: "Print which routes a router uses, of those that its neighbours announce",
+        after_help: AFTER_SELECT,
         groups: &[],
     },
 ];

@@ -7,6 +7,7 @@ use crate::absence::Absence;
 use crate::asked::Asked;
 use crate::byte_out::FromWriter;
 use crate::capture_input::CaptureRead;
+use crate::capture_notes::CaptureNotes;
 use crate::each_pair::EachPair;
 use crate::each_sender::EachSender;
 use crate::events_job::Events;
@@ -23,13 +24,17 @@ use crate::other_sources::source_note;
 use crate::outcome::Reports;
 use crate::place_word::NamedOrigin;
 use crate::read_senders::Captured;
+use crate::router_places::{at_several, greatest_interval};
 use crate::run_fault::{RunFault, Side};
 use crate::says::Says;
+use crate::select_job::Select;
 use crate::spelling::Spelling;
 use crate::told_capture::{ToldCapture, ToldCaptures};
+use crate::told_routes::KeyCounts;
 use crate::trouble::{Trouble, say_hint};
 use crate::write::write_text;
 use babel_capture::{Gathered, Origin};
+use babel_prefix::Addr;
 use babel_table::Report;
 use babel_tlv::Reason;
 use std::alloc::{AllocError, Global};
@@ -52,6 +57,10 @@ pub struct Done {
     sender_notes: Notes,
     /// The captures of `--origins`.
     captures: ToldCaptures,
+    /// What there is to know after all else.
+    last_notes: Notes,
+    /// The address of the router that selects which sends at several places, if one does.
+    several: Option<Addr>,
 }
 
 /// A sender in a capture that is told by itself.
@@ -134,6 +143,8 @@ impl Done {
             senders: Vec::new(alloc),
             sender_notes: Notes::new(alloc)?,
             captures: ToldCaptures::none(alloc),
+            last_notes: Notes::new(alloc)?,
+            several: None,
         })
     }
 
@@ -251,6 +262,27 @@ impl Done {
         self
     }
 
+    /// What came of `select`, of these senders, of which so many keys are told.
+    pub(crate) fn of_select(
+        mut self,
+        select: &Select,
+        read: &CaptureRead,
+        senders: Vec<ToldSender>,
+        status: u8,
+        counts: &KeyCounts,
+    ) -> Result<Done, AllocError>
+        ensures { IfOk result (λ done. done.status ≡ status) }
+    {
+        let interval = greatest_interval(select, &read.gathered);
+        self.notes
+            .add_capture(Side::First, CaptureNotes::apart(read), interval)?;
+        self.last_notes.add_counts(select, counts)?;
+        self.several = at_several(select, &read.gathered);
+        self.status = status;
+        self.senders = senders;
+        Ok(self)
+    }
+
     /// The exit status: the greatest of that of the run and those of the senders.
     pub fn status(&self) -> u8
         ensures { result ≡ done_status self.now }
@@ -283,7 +315,8 @@ impl Done {
                 notes.write_json_of(&mut FromWriter::new(&mut writer), spelling, sender)?;
             }
         }
-        Ok(())
+        self.last_notes
+            .write_json(&mut FromWriter::new(&mut writer))
     }
 }
 
@@ -302,6 +335,9 @@ pub fn say_done<S: Says>(says: &mut S, asked: &Asked, done: &mut Done) {
     for (place, capture) in done.captures.list.iter().enumerate() {
         say_capture(says, asked, asked.named_capture(place), capture, notes);
     }
+    if !asked.is_quiet() {
+        say_last(says, done);
+    }
 }
 
 /// Says what there is to know of a capture, which is named so, and of its senders.
@@ -318,6 +354,18 @@ fn say_capture<S: Says>(
     say_listed(says, asked, file, capture.notes.list());
     for sender in &capture.senders {
         say_sender(says, asked, file, sender, notes);
+    }
+}
+
+/// Says what there is to know after all else.
+fn say_last<S: Says>(says: &mut S, done: &Done) {
+    for note in done.last_notes.list() {
+        says.say(note);
+    }
+    if let Some(address) = done.several {
+        says.say(&format_args!(
+            "hint: {address} is at several places, and may be two routers: --interface names one"
+        ));
     }
 }
 

@@ -119,7 +119,7 @@ impl EachSender {
     }
 
     /// How the capture is read. Of what lacks something each sender is refused by itself.
-    fn capture_reading(&self) -> CaptureReading
+    pub(crate) fn capture_reading(&self) -> CaptureReading
         ensures { result ≡ capture_read_by self.now }
     {
         CaptureReading {

@@ -1,22 +1,28 @@
 //! `events`: what the senders in a capture announce, change and retract, and what expires, told as
 //! the capture is read.
 ghost use Rattle.std.specs.Prelude.{◌≡◌, ◌+◌, ◌-◌, ◌++◌, ◌^◌, ◌<◌, ◌≤◌, ℕ, List, []};
-ghost use Rattle.std.specs.Prelude.{◌∷◌, None, IfErr, IfOk, OnOk, false, if◌then◌else◌, map};
+ghost use Rattle.std.specs.Prelude.{◌∷◌, None, IfErr, IfOk, OnErr, OnOk, false, if◌then◌else◌};
+ghost use Rattle.std.specs.Prelude.{map};
 ghost use Rattle.std.specs.Prelude.{true, vec_capacity};
 ghost use Rattle.std.specs.List.{flat_map};
 ghost use Rattle.babel_capture.specs.Capture.{HasRead, IsReadToCut, moment_read};
+ghost use Rattle.babel_capture.specs.Counts.{Made};
 ghost use Rattle.babel_timeline.specs.declared.telling.Telling.{Telling as TellingSaid};
 ghost use Rattle.babel_dump.specs.Device.{HasRoomToCount, HasRoomToWrite};
 ghost use Rattle.babel_dump.specs.EventsCause.{EventsCause, Fails, HasNobody, HasUnread};
 ghost use Rattle.babel_dump.specs.EventsCause.{IsBackwards, IsTooLate, IsUnreadIn, RefusesOctets};
 ghost use Rattle.babel_dump.specs.EventsCause.{RefusesPiece, RefusesWhole, TellsFault, nameless};
-ghost use Rattle.babel_dump.specs.EventsRun.{AreReadWhole, TellsEvents, WroteLines, heard_status};
+ghost use Rattle.babel_dump.specs.EventsRun.{AreReadWhole, NotesSome, TellsEvents, WroteLines};
+ghost use Rattle.babel_dump.specs.EventsRun.{heard_status, since_in};
+ghost use Rattle.babel_dump.specs.EventsStart.{StartsEvents, WroteBehind, WroteSome};
+ghost use Rattle.babel_dump.specs.EventsStart.{WroteStart};
 ghost use Rattle.babel_dump.specs.Followed.{Ends, EndsAt, Goes, HasFollowed, IsFollowed};
-ghost use Rattle.babel_dump.specs.Followed.{Suits, named_event};
+ghost use Rattle.babel_dump.specs.Followed.{KnowsOthers, Suits, named_event};
 ghost use Rattle.babel_dump.specs.FollowedSenders.{with_packets};
 ghost use Rattle.babel_dump.specs.HeardSenders.{heard_of, heard_told};
 ghost use Rattle.babel_dump.specs.Run.{output};
 ghost use Rattle.babel_dump.specs.Slices.{WroteFront};
+ghost use Rattle.babel_dump.specs.declared.events_job.Events.{Events as EventsSaid};
 ghost use Rattle.babel_dump.specs.declared.input_fault.InputFault.TheVariants as input_faults;
 ghost use Rattle.babel_dump.specs.declared.run_fault.Side.TheVariants as sides;
 ghost use Rattle.babel_dump.specs.declared.speaker.Speaker.{Speaker as SpeakerSaid};
@@ -77,6 +83,8 @@ pub fn run_events<R: ByteIn, W: ByteOut, S: Says>(
     requires writer { HasRoomToWrite (W.state writer.old) }
     ensures tells { IfOk result (λ answer. TellsEvents events.now (R.state reader.old)
         (R.state reader.new) (output (W.state writer.old) (W.state writer.new)) answer) }
+    ensures start { OnErr result (StartsEvents events.now (R.state reader.old)
+        (R.state reader.new) (output (W.state writer.old) (W.state writer.new))) }
     ensures cause { IfErr result (EventsCause events.now (R.state reader.old)
         (R.state reader.new) (output (W.state writer.old) (W.state writer.new))) }
 {
@@ -132,6 +140,8 @@ impl<'a> Followed<'a> {
         requires room { 2048 ≤ vec_capacity self.old.buffer }
         ensures tells { IfOk result (λ answer. TellsEvents events.now (R.state reader.old)
             (R.state reader.new) (output (W.state writer.old) (W.state writer.new)) answer) }
+        ensures start { OnErr result (WroteStart events.now (R.state reader.old)
+            (R.state reader.new) (output (W.state writer.old) (W.state writer.new))) }
         ensures cause { IfErr result (EventsCause events.now (R.state reader.old)
             (R.state reader.new) (output (W.state writer.old) (W.state writer.new))) }
     {
@@ -162,6 +172,8 @@ impl<'a> Followed<'a> {
             ≤ (W.state writer.old).flushes + 2 ^ 62 + 24) }
         ensures followed { OnOk result (HasFollowed events.now (R.state reader.old)
             (R.state reader.new) (output (W.state writer.old) (W.state writer.new)) self.new) }
+        ensures start { OnErr result (WroteStart events.now (R.state reader.old)
+            (R.state reader.new) (output (W.state writer.old) (W.state writer.new))) }
         ensures cause { IfErr result (EventsCause events.now (R.state reader.old)
             (R.state reader.new) (output (W.state writer.old) (W.state writer.new))) }
     {
@@ -202,6 +214,9 @@ impl<'a> Followed<'a> {
         ensures followed { OnOk result ((fed : List ℕ) (told : List (TellingSaid SpeakerSaid))
             → IsFollowed events.now fed told self.old → Goes events.now (fed ++ piece.now) told
             (output (W.state writer.old) (W.state writer.new)) self.new) }
+        ensures start { OnErr result ((fed : List ℕ) (told : List (TellingSaid SpeakerSaid))
+            → IsFollowed events.now fed told self.old → WroteBehind events.now (fed ++ piece.now)
+            told (output (W.state writer.old) (W.state writer.new))) }
         ensures cause { IfErr result (λ trouble. (fed : List ℕ)
             (told : List (TellingSaid SpeakerSaid)) → IsFollowed events.now fed told self.old
             → Fails events.now (RefusesPiece events.now (fed ++ piece.now)) ⊥ ⊥
@@ -260,6 +275,8 @@ impl<'a> Followed<'a> {
             ≡ (W.state writer.old).flushes + 1) }
         ensures lines { OnOk result (WroteLines events.now self.old.follower.told.items
             (output (W.state writer.old) (W.state writer.new))) }
+        ensures some { OnErr result (WroteSome events.now self.old.follower.told.items
+            (output (W.state writer.old) (W.state writer.new))) }
         ensures cause { IfErr result (Fails events.now (λ _. ⊥) ⊥ ⊥
             ((W.state writer.old).failures < (W.state writer.new).failures) (λ _. ⊥)) }
     {
@@ -288,6 +305,9 @@ impl<'a> Followed<'a> {
         ensures ends { IfOk result (λ answer. (fed : List ℕ) (told : List (TellingSaid SpeakerSaid))
             → IsFollowed events.now fed told self.old → Ends events.now fed told
             (output (W.state writer.old) (W.state writer.new)) answer) }
+        ensures start { OnErr result ((fed : List ℕ) (told : List (TellingSaid SpeakerSaid))
+            → IsFollowed events.now fed told self.old → WroteBehind events.now fed told
+            (output (W.state writer.old) (W.state writer.new))) }
         ensures cause { IfErr result (λ trouble. (fed : List ℕ)
             (told : List (TellingSaid SpeakerSaid)) → IsFollowed events.now fed told self.old
             → Fails events.now (RefusesWhole events.now fed) (HasNobody events.now fed) ⊥
@@ -316,10 +336,14 @@ impl<'a> Followed<'a> {
 
     /// Where the answers are for any source, the routes for others, up to the moment that the
     /// capture was read to.
-    fn other_sources(&mut self) -> Result<Option<OtherSources>, AllocError> {
-        if let Some(moment) = self.capture.moment() {
-            self.follower.expire_others(moment)?;
-        }
+    fn other_sources(&mut self) -> Result<Option<OtherSources>, AllocError>
+        ensures { IfOk result (λ others. (events : EventsSaid) (made : List Made)
+            → self.old.follower.hearing.since.moment ≡ since_in events.since made
+            → KnowsOthers events made self.old.follower.other_sources
+            → NotesSome events (moment_read self.old.capture) made others) }
+    {
+        let moment = self.capture.moment();
+        self.follower.expire_others(moment)?;
         Ok(self.follower.other_sources.take())
     }
 
@@ -383,6 +407,7 @@ impl<'a> Followed<'a> {
     fn expire(&mut self, events: &Events) -> Result<(), AllocError>
         ensures same { (self.new.capture ≡ self.old.capture)
             × (self.new.buffer ≡ self.old.buffer) }
+        ensures others { self.new.follower.other_sources ≡ self.old.follower.other_sources }
         ensures ends { Suits events.now self.old.follower.hearing.teller → OnOk result
             (EndsAt events.now (moment_read self.old.capture) self.old self.new) }
     {

@@ -6,11 +6,20 @@ use babel_prefix::{Prefix, parse_addr};
 
 /// The filter that a command's words ask for.
 pub(crate) fn filter(given: &mut GivenWords<'_, '_>) -> Filter {
+    let filter = keys_filter(given);
+    Filter {
+        router_id: router_id(given),
+        ..filter
+    }
+}
+
+/// The filter of keys that a command's words ask for.
+pub(crate) fn keys_filter(given: &mut GivenWords<'_, '_>) -> Filter {
     Filter {
         within: prefix(given, "within"),
         matching: prefix(given, "match"),
         source: prefix(given, "source"),
-        router_id: router_id(given),
+        router_id: None,
     }
 }
 

@@ -1,17 +1,22 @@
 //! What the records of a capture tell, heard as they are read.
-ghost use Rattle.std.specs.Prelude.{◌≡◌, ◌+◌, ◌^◌, ◌<◌, ◌≤◌, [], IfErr, IfOk, IsErr, None};
+ghost use Rattle.std.specs.Prelude.{◌≡◌, ◌+◌, ◌++◌, ◌⊎◌, ◌^◌, ◌<◌, ◌≤◌, List, [], IfErr, IfOk, IsErr};
+ghost use Rattle.std.specs.Prelude.{None};
 ghost use Rattle.std.specs.Prelude.{OnOk, Some, drop, false, length, take, true};
 ghost use Rattle.babel_capture.specs.Counts.{Made};
 ghost use Rattle.babel_capture.specs.Sinking.{IsTold, left_said, packet_said};
 ghost use Rattle.babel_tlv.specs.Framing.{framed};
+ghost use Rattle.babel_dump.specs.EventsRun.{NotesSome, since_in};
 ghost use Rattle.babel_dump.specs.Followed.{HasHeard, HearsFollowed, HearsFront, HearsTold};
+ghost use Rattle.babel_dump.specs.Followed.{TellsBehind};
 ghost use Rattle.babel_dump.specs.Followed.{HearsOthers, IsWholeTold, KnowsOthers, RefusesFront};
 ghost use Rattle.babel_dump.specs.Followed.{RefusesOthers, RefusesTold, RefusesUnheard};
 ghost use Rattle.babel_dump.specs.Followed.{RefusesUsually, Stops, StopsFollowed, Suits, trouble_of};
 ghost use Rattle.babel_dump.specs.FollowedSenders.{is_followed, with_followed};
 ghost use Rattle.babel_dump.specs.FollowedSenders.{sender_of as sender_found};
+ghost use Rattle.babel_dump.specs.declared.events_job.Events.{Events as EventsSaid};
 ghost use Rattle.babel_dump.specs.declared.hearing.Unheard.TheVariants as unheard;
 ghost use Rattle.babel_dump.specs.declared.stop.Stop.{Stop as StopSaid};
+ghost use Rattle.babel_dump.specs.declared.stop.Stop.TheVariants as stops;
 
 use crate::events_job::Events;
 use crate::followed_senders::{FollowedSenders, sender_of};
@@ -28,6 +33,7 @@ use babel_capture::{BabelPacket, Gathered, Origin, Reason, Record, Said, Sink};
 use babel_timeline::Telling;
 use babel_tlv::Start;
 use std::alloc::{AllocError, Global};
+use std::mem::replace;
 
 /// Hears the records of a capture one after another, up to the first that has a fault.
 #[derive(Drop)]
@@ -81,6 +87,32 @@ impl<'a> Follower<'a> {
         }
     }
 
+    /// Hears a record as `follow` does. What was told before it stays, and if memory runs out nothing
+    /// is told besides.
+    fn follow_on(&mut self, told: &Record<'_>) -> Result<(), Stop>
+        ensures same { (self.new.events.now ≡ self.old.events.now)
+            × (self.new.fault ≡ self.old.fault) }
+        ensures behind { IfErr result
+            (TellsBehind self.old.told.items self.new.told.items) }
+        ensures heard { OnOk result
+            (HearsFollowed self.old.events.now told.now self.old self.new) }
+        ensures stops { IfErr result (StopsFollowed self.old.events.now told.now self.old) }
+    {
+        let mut before = replace(&mut self.told, Vec::new(self.alloc));
+        match self.follow(told) {
+            Ok(()) => {
+                let put = put_behind(&mut before, &self.told);
+                self.told = before;
+                put
+            }
+            Err(stop) => {
+                let stopped = put_refused(&mut before, &self.told, stop);
+                self.told = before;
+                Err(stopped)
+            }
+        }
+    }
+
     /// Hears a record; of a sender that is not followed no more than that it came.
     fn follow(&mut self, told: &Record<'_>) -> Result<(), Stop>
         ensures same { (self.new.events.now ≡ self.old.events.now)
@@ -129,7 +161,7 @@ impl<'a> Follower<'a> {
         ensures heard { OnOk result
             (HearsTold self.old.events.now told.now self.old self.new) }
         ensures others { OnOk result (HearsOthers self.old.events.now told.now
-            self.old.other_sources self.new.other_sources) }
+            self.new.hearing.since.moment self.old.other_sources self.new.other_sources) }
         ensures stops { IfErr result (Stops self.old.events.now told.now self.old self.new) }
     {
         self.hear(told)?;
@@ -142,7 +174,7 @@ impl<'a> Follower<'a> {
             × (self.new.told ≡ self.old.told) × (self.new.fault ≡ self.old.fault) }
         ensures senders { self.new.senders ≡ self.old.senders }
         ensures others { OnOk result (HearsOthers self.old.events.now told.now
-            self.old.other_sources self.new.other_sources) }
+            self.old.hearing.since.moment self.old.other_sources self.new.other_sources) }
         ensures refused { IfErr result
             (RefusesOthers self.old.events.now told.now self.old.other_sources) }
     {
@@ -152,13 +184,20 @@ impl<'a> Follower<'a> {
         }
     }
 
-    /// Takes what has expired by this moment of the routes for other sources.
-    pub(crate) fn expire_others(&mut self, until: u128) -> Result<(), AllocError>
+    /// Takes what has expired by this moment, if there is one, of the routes for other sources.
+    pub(crate) fn expire_others(&mut self, until: Option<u128>) -> Result<(), AllocError>
         ensures same { (self.new.events ≡ self.old.events)
             × (self.new.hearing ≡ self.old.hearing) × (self.new.told ≡ self.old.told)
             × (self.new.fault ≡ self.old.fault) }
         ensures senders { self.new.senders ≡ self.old.senders }
+        ensures others { OnOk result ((events : EventsSaid) (made : List Made)
+            → self.old.hearing.since.moment ≡ since_in events.since made
+            → KnowsOthers events made self.old.other_sources
+            → NotesSome events until made self.new.other_sources) }
     {
+        let Some(until) = until else {
+            return Ok(());
+        };
         match &mut self.other_sources {
             Some(others) => others.expire(until, self.hearing.since()),
             None => Ok(()),
@@ -328,6 +367,33 @@ impl<'a> Follower<'a> {
     }
 }
 
+/// Puts what a record told behind what was told before it.
+fn put_behind(before: &mut Vec<Telling<Speaker>>, told: &[Telling<Speaker>]) -> Result<(), Stop>
+    ensures ok { OnOk result (before.new.items ≡ before.old.items ++ told.now) }
+    ensures behind { IfErr result (TellsBehind before.old.items before.new.items) }
+    ensures memory { IfErr result (λ stop. stop ≡ stops.Unheard unheard.Memory) }
+{
+    match before.extend_from_slice(told) {
+        Ok(()) => Ok(()),
+        Err(_) => Err(Stop::Unheard(Unheard::Memory)),
+    }
+}
+
+/// Puts what a record told for which no more is heard behind what was told before it, unless memory
+/// ran out, or does then.
+fn put_refused(before: &mut Vec<Telling<Speaker>>, told: &[Telling<Speaker>], stop: Stop) -> Stop
+    ensures behind { TellsBehind before.old.items before.new.items result }
+    ensures why { (result ≡ stops.Unheard unheard.Memory) ⊎ (result ≡ stop) }
+{
+    if stop.is_memory() {
+        return stop;
+    }
+    match before.extend_from_slice(told) {
+        Ok(()) => stop,
+        Err(_) => Stop::Unheard(Unheard::Memory),
+    }
+}
+
 /// No routes, where answers are for any source.
 fn other_sources(alloc: Global, events: &Events) -> Option<OtherSources>
     ensures { KnowsOthers events.now [] result }
@@ -361,7 +427,7 @@ impl Sink for Follower<'_> {
 
     fn take(&mut self, told: &Record<'_>) {
         if self.fault.is_none() {
-            if let Err(fault) = self.follow(told) {
+            if let Err(fault) = self.follow_on(told) {
                 self.fault = Some(fault);
             }
         }

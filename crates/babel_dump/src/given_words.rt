@@ -6,7 +6,8 @@ use crate::job::{DumpFile, Form, Refusal};
 use crate::limits::{TooFew, asked_limits};
 use crate::names::Names;
 use crate::options::{ASKED, KEPT, OptionRow, PRINTED, READ, SENT};
-use crate::place_word::parse_place;
+use crate::place_word::{parse_number, parse_place};
+use crate::select_job::StatedCost;
 use crate::spelling::Spelling;
 use crate::style::Style;
 use babel_capture::Place;
@@ -118,6 +119,31 @@ impl<'m, 'a> GivenWords<'m, 'a> {
     pub fn given_address(&mut self, id: &str) -> Option<Addr> {
         let _word = self.word(id)?;
         Some(self.address(id))
+    }
+
+    /// The addresses that an option has, which may be given several times.
+    pub fn addresses(&mut self, id: &str) -> Result<Vec<Addr>, AllocError> {
+        let mut addresses = Vec::new(self.alloc);
+        for word in self.matches.get_strs(id).unwrap_or(&[]) {
+            let addr = self.value(parse_addr(word), word, "an address", id, address_form(word));
+            if let Some(addr) = addr {
+                addresses.push(addr)?;
+            }
+        }
+        Ok(addresses)
+    }
+
+    /// What `--cost` states of links, in the order of the words.
+    pub fn costs(&mut self) -> Result<Vec<StatedCost>, AllocError> {
+        let takes = "the address of a sender and the cost of its link, from 1 to 65535, as \
+                     fe80::1=96";
+        let mut costs = Vec::new(self.alloc);
+        for word in self.matches.get_strs("cost").unwrap_or(&[]) {
+            if let Some(cost) = self.value(parse_cost(word), word, "a cost", "cost", takes) {
+                costs.push(cost)?;
+            }
+        }
+        Ok(costs)
     }
 
     /// The place that an option names, where there is one.
@@ -247,6 +273,17 @@ impl<'m, 'a> GivenWords<'m, 'a> {
         let file = self.file_of(word);
         Some(Names::of(self.alloc, file))
     }
+}
+
+/// The cost that a word states of the link to a sender; `None` for any other word.
+fn parse_cost(word: &str) -> Option<StatedCost> {
+    let (sender, cost) = word.split_once('=')?;
+    let sender = parse_addr(sender)?;
+    let cost: u16 = parse_number(cost)?;
+    if cost == 0 {
+        return None;
+    }
+    Some(StatedCost { sender, cost })
 }
 
 /// What an option takes in place of a word that is no address.

@@ -115,7 +115,9 @@ impl Hearing {
     }
 
     /// From which moment on it is told.
-    pub(crate) fn since(&self) -> &Since {
+    pub(crate) fn since(&self) -> &Since
+        ensures { result.now ≡ self.now.since }
+    {
         &self.since
     }
 

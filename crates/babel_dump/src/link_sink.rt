@@ -65,7 +65,7 @@ impl Sink for LinkSink {
 }
 
 /// A time in nanoseconds since the start of 1970; 0 where there is none.
-fn nanoseconds(time: Option<Time>) -> u128
+pub(crate) fn nanoseconds(time: Option<Time>) -> u128
     ensures time { result ≡ unwrap_or time 0 }
     ensures small { result < 2 ^ 96 }
 {

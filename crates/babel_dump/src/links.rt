@@ -100,7 +100,7 @@ pub(crate) struct Judged {
 
 impl Judged {
     /// What an IHU says then, if there is one that counts.
-    fn rxcost(&self, said: &Option<IhuSaid>) -> Option<u16>
+    pub(crate) fn rxcost(&self, said: &Option<IhuSaid>) -> Option<u16>
         ensures { result ≡ option_and_then (rxcost_at self.now.factor self.now.moment) said.now }
     {
         match said {

@@ -31,7 +31,10 @@ pub enum Note {
     NotFollowed(u64),
     /// What was read of a capture spans so many hundredths of a second, which is less than the
     /// greatest Interval of an Update that announces.
-    ShortSpan { span: u64, interval: u16 },
+    ShortSpan {
+        span: u64,
+        interval: u16,
+    },
     /// So many rows of a table were not announced again within 3.5 times their Interval, and are in
     /// it all the same.
     Expired(u64),
@@ -44,6 +47,16 @@ pub enum Note {
     /// A lookup was for this source, which is written so, and routes to its destination are
     /// source-specific.
     Source(Spelling, Addr),
+    /// The router with this address, which is written so, announced so many of these keys, by which
+    /// it is told what is feasible.
+    Feasibility {
+        spelling: Spelling,
+        address: Addr,
+        announced: u64,
+        keys: u64,
+    },
+    /// So many keys have several routes of the least metric.
+    Ties(u64),
 }
 
 impl fmt::Display for Note {
@@ -83,6 +96,17 @@ impl fmt::Display for Note {
             Note::RoutesDiffer(routes) => write_routes_differ(f, *routes),
             Note::Source(Spelling::Long, source) => write_source(f, source),
             Note::Source(Spelling::Short, source) => write_source(f, &Short(*source)),
+            Note::Feasibility {
+                spelling,
+                address,
+                announced,
+                keys,
+            } => match spelling {
+                Spelling::Long => write_feasibility(f, address, *announced, *keys),
+                Spelling::Short => write_feasibility(f, &Short(*address), *announced, *keys),
+            },
+            Note::Ties(1) => f.write_str("1 key has several routes of the least total"),
+            Note::Ties(keys) => write!(f, "{keys} keys have several routes of the least total"),
         }
     }
 }
@@ -152,6 +176,20 @@ fn write_source<A: fmt::Display, W: fmt::Write>(
     write!(
         f,
         "the answer is for the source {source}; routes to it are source-specific"
+    )
+}
+
+/// Writes of how many keys it is known what is feasible.
+fn write_feasibility<A: fmt::Display, W: fmt::Write>(
+    f: &mut fmt::Formatter<W>,
+    address: &A,
+    announced: u64,
+    keys: u64,
+) -> fmt::Result {
+    let of = if keys == 1 { "key" } else { "keys" };
+    write!(
+        f,
+        "{address} announced {announced} of {keys} {of}: the others count as feasible"
     )
 }
 

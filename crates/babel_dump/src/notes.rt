@@ -27,9 +27,11 @@ use crate::other_sources::source_note;
 use crate::outcome::Reports;
 use crate::push_note::push_note_json;
 use crate::run_fault::{RunFault, Side};
+use crate::select_job::Select;
 use crate::sender_notes::write_sender_notes;
 use crate::slice_buffer::LONGEST_LINE;
 use crate::spelling::Spelling;
+use crate::told_routes::KeyCounts;
 use crate::write::{WriteFailed, write_all, write_text};
 use babel_capture::{Report as CaptureReport, Timing};
 use babel_table::Report;
@@ -136,6 +138,25 @@ impl Notes {
     {
         self.list.clear();
         self.add_all(side, &about_sender(&read))
+    }
+
+    /// Adds of how many keys it is known what is feasible, where that is not all, and of how many
+    /// several routes are selected.
+    pub(crate) fn add_counts(
+        &mut self,
+        select: &Select,
+        counts: &KeyCounts,
+    ) -> Result<(), AllocError> {
+        let KeyCounts {
+            ties,
+            keys,
+            announced,
+        } = *counts;
+        let feasibility = feasibility(select, announced, keys);
+        self.add_all(
+            Side::First,
+            &[feasibility, above(ties, 0, Note::Ties(ties))],
+        )
     }
 
     /// Adds a note, if there is one.
@@ -273,6 +294,21 @@ fn about_capture(capture: CaptureNotes, interval: Option<u16>) -> [Option<Note>;
         backwards(&report.timing()),
         short_span(&report.timing(), interval),
     ]
+}
+
+/// That the router that selects announced so many of these keys, if that is not all of them.
+fn feasibility(select: &Select, announced: u64, keys: u64) -> Option<Note> {
+    if announced == keys {
+        return None;
+    }
+    let address = *select.routers.first()?;
+    let spelling = select.each.format.spelling();
+    Some(Note::Feasibility {
+        spelling,
+        address,
+        announced,
+        keys,
+    })
 }
 
 /// The note, if so many are more than these.

@@ -1,7 +1,7 @@
 //! The options and arguments of the commands, a row for each.
 
 use crate::commands::{
-    ALL, AT_PLACE, FILTERED, OF_CAPTURES, OF_DUMPS, OF_OCTETS, OF_SENDER, OF_TWO,
+    ALL, AT_PLACE, FILTERED, FILTERED_KEYS, OF_CAPTURES, OF_DUMPS, OF_OCTETS, OF_SENDER, OF_TWO,
 };
 
 /// What stands on the command line.
@@ -208,7 +208,7 @@ const WITHIN: OptionRow = OptionRow {
     id: "within",
     takes: Takes::Word("PREFIX"),
     help: "Only destinations that are PREFIX or inside it",
-    commands: &FILTERED,
+    commands: &FILTERED_KEYS,
     ..FLAG
 };
 
@@ -229,6 +229,7 @@ const ID: OptionRow = OptionRow {
     takes: Takes::Word("ROUTERID"),
     help: "Only routes with this router-id: 16 hexadecimal digits, or with colons as babeld \
            writes it",
+    commands: &FILTERED,
     ..WITHIN
 };
 
@@ -309,6 +310,20 @@ pub(crate) static SENT: &[OptionRow] = &[
         ..INTERFACE
     },
     OptionRow {
+        id: "at",
+        takes: Takes::Words("ADDRESS"),
+        help: "An address of the router that selects; once for each of its links",
+        commands: &["select"],
+        is_required: true,
+        ..FLAG
+    },
+    OptionRow {
+        help: "The place in the capture: the interface, with its link and VLANs, as senders lists \
+               it; if omitted, each at which the router sends",
+        commands: &["select"],
+        ..INTERFACE
+    },
+    OptionRow {
         id: "other-interface",
         help: "The same for OTHER, if it is a capture",
         commands: &OF_TWO,
@@ -324,7 +339,7 @@ pub(crate) static READ: &[OptionRow] = &[
     },
     SINCE,
     OptionRow {
-        commands: &OF_OCTETS,
+        commands: &["senders", "links", "extract", "select"],
         ..SINCE
     },
     OptionRow {
@@ -346,6 +361,12 @@ pub(crate) static READ: &[OptionRow] = &[
         help: "Leave out what an IHU said FACTOR times its Interval ago, at --until or else at the \
                end; 3.5 in RFC 8966, appendix B [default: 3.5]",
         commands: &["links"],
+        ..EXPIRY
+    },
+    OptionRow {
+        help: "What was not announced or said again within FACTOR times its Interval counts no more \
+               [default: 3.5, as in RFC 8966, appendix B, and BIRD; 6 in babeld 1.12]",
+        commands: &["select"],
         ..EXPIRY
     },
     OptionRow {
@@ -371,6 +392,31 @@ pub(crate) static READ: &[OptionRow] = &[
         ..SRC
     },
     OptionRow {
+        help: "Only the routes that decide what is used for this destination",
+        commands: &["select"],
+        ..TO
+    },
+    OptionRow {
+        help: "The source besides, of the destination's family [default: 0.0.0.0 or ::]",
+        commands: &["select"],
+        needs: Some("to"),
+        ..SRC
+    },
+    OptionRow {
+        id: "etx",
+        help: "Links cost what ETX says, as on radio, and not 2-out-of-3 (RFC 8966, appendix A.2)",
+        commands: &["select"],
+        ..FLAG
+    },
+    OptionRow {
+        id: "cost",
+        takes: Takes::Words("ADDRESS=COST"),
+        help: "State what the link to the sender ADDRESS costs, from 1 to 65535, which is infinite; \
+               may be repeated",
+        commands: &["select"],
+        ..FLAG
+    },
+    OptionRow {
         id: "requests",
         help: "Also report the requests of each sender for routes",
         commands: &["events"],
@@ -379,6 +425,12 @@ pub(crate) static READ: &[OptionRow] = &[
     OptionRow {
         help: "Reject a capture if any datagram is left out",
         commands: &["senders", "extract"],
+        ..STRICT
+    },
+    OptionRow {
+        help: "Reject a capture if any datagram is left out, or a TLV of a sender that counts is \
+               ignored",
+        commands: &["select"],
         ..STRICT
     },
     OptionRow {
@@ -399,6 +451,7 @@ pub(crate) static READ: &[OptionRow] = &[
             "compare",
             "diff",
             "events",
+            "select",
         ],
         ..FLAG
     },
@@ -416,7 +469,13 @@ pub(crate) static READ: &[OptionRow] = &[
         ..MAX_ROUTES
     },
     OptionRow {
-        commands: &["events"],
+        help: "How many routes there may be, of all senders that count, and entries of the source \
+               table together [default: 262144]",
+        commands: &["select"],
+        ..MAX_ROUTES
+    },
+    OptionRow {
+        commands: &["events", "select"],
         ..JSON
     },
     OptionRow {
@@ -558,7 +617,7 @@ pub(crate) static PRINTED: &[OptionRow] = &[
         help: "Write addresses as RFC 5952 does, fe80::1, and leave out a source prefix of length \
                0",
         commands: &[
-            "show", "lookup", "pairs", "compare", "diff", "senders", "links", "events",
+            "show", "lookup", "pairs", "compare", "diff", "senders", "links", "events", "select",
         ],
         ..FLAG
     },

@@ -1,9 +1,15 @@
 //! Routes for other sources than that of an answer.
-ghost use Rattle.std.specs.Prelude.{◌≡◌, ◌∷◌, ◌++◌, IfErr, List, OnOk, [], true};
+ghost use Rattle.std.specs.Prelude.{◌≡◌, ◌∷◌, ◌++◌, Any, IfErr, List, OnOk, Some, [], true};
+ghost use Rattle.std.specs.Option.{SomeIff};
 ghost use Rattle.babel_capture.specs.Counts.{Made};
 ghost use Rattle.babel_capture.specs.Sinking.{IsTold};
-ghost use Rattle.babel_dump.specs.EventsCause.{without_pair};
+ghost use Rattle.babel_timeline.specs.declared.telling.Telling.TheVariants as tellings;
+ghost use Rattle.babel_timeline.specs.declared.telling.Telling.{Telling as TellingSaid};
+ghost use Rattle.babel_dump.specs.EventsRun.{AreOthers, NotesOthers, since_in, was_held};
+ghost use Rattle.babel_dump.specs.EventsRun.{without_pair};
 ghost use Rattle.babel_dump.specs.Followed.{HasHeardOthers, RefusesUnheard, Suits};
+ghost use Rattle.babel_dump.specs.declared.events_job.Events.{Events as EventsSaid};
+ghost use Rattle.babel_dump.specs.declared.speaker.Speaker.{Speaker as SpeakerSaid};
 
 use crate::addr_pair::AddrPair;
 use crate::any_source::is_source_specific;
@@ -41,17 +47,28 @@ fn keep_change(
     change: &Change<Speaker>,
     since: &Since,
     held: &mut BTreeSet<Subject<Speaker>>,
-) -> Result<(), AllocError> {
+) -> Result<(), AllocError>
+    ensures { OnOk result ((told : List (TellingSaid SpeakerSaid))
+        → AreOthers dst.now since.now.moment told held.old → AreOthers dst.now since.now.moment
+        (told ++ tellings.Change change.now ∷ []) held.new) }
+{
     let subject = change.subject;
     if !is_source_specific(subject.key, dst) {
         return Ok(());
     }
-    if since.is_from(change.time) || held_after(change.kind).is_some() {
+    if was_held(change, since) {
         held.insert(subject)?;
     } else {
         held.remove(&subject);
     }
     Ok(())
+}
+
+/// Whether something was held just before the moment, or since, where this change is the last.
+fn was_held(change: &Change<Speaker>, since: &Since) -> bool
+    ensures { result ≡ was_held since.now.moment (Some change.now) }
+{
+    since.is_from(change.time) || held_after(change.kind).is_some()
 }
 
 /// Takes the changes that were told.
@@ -60,13 +77,35 @@ fn keep_changes(
     told: &[Telling<Speaker>],
     since: &Since,
     held: &mut BTreeSet<Subject<Speaker>>,
-) -> Result<(), AllocError> {
+) -> Result<(), AllocError>
+    ensures { OnOk result ((earlier : List (TellingSaid SpeakerSaid))
+        → AreOthers dst.now since.now.moment earlier held.old
+        → AreOthers dst.now since.now.moment (earlier ++ told.now) held.new) }
+{
     for telling in told {
-        if let Telling::Change(change) = telling {
-            keep_change(dst, change, since, held)?;
-        }
+        keep_telling(dst, telling, since, held)?;
     }
     Ok(())
+}
+
+/// Takes what was told, if it is a change.
+fn keep_telling(
+    dst: &Addr,
+    telling: &Telling<Speaker>,
+    since: &Since,
+    held: &mut BTreeSet<Subject<Speaker>>,
+) -> Result<(), AllocError>
+    ensures { OnOk result ((told : List (TellingSaid SpeakerSaid))
+        → AreOthers dst.now since.now.moment told held.old
+        → AreOthers dst.now since.now.moment (told ++ telling.now ∷ []) held.new) }
+{
+    match telling {
+        Telling::Change(change) => keep_change(dst, change, since, held),
+        Telling::Answer { .. } => Ok(()),
+        Telling::Request { .. } => Ok(()),
+        Telling::Silent { .. } => Ok(()),
+        Telling::Returns { .. } => Ok(()),
+    }
 }
 
 /// The note of a sender that has routes for other sources than that of its answers, if they are for
@@ -85,7 +124,8 @@ pub(crate) fn source_note(
 impl OtherSources {
     /// Nothing was heard.
     pub(crate) fn new(alloc: Global, events: &Events, pair: AddrPair) -> OtherSources
-        requires { events.now.is_any_source ≡ true }
+        requires any { events.now.is_any_source ≡ true }
+        requires of { events.now.pair ≡ Some pair }
         ensures { HasHeardOthers events.now [] result }
     {
         let limit = events.limits.entries();
@@ -105,6 +145,7 @@ impl OtherSources {
         since: &Since,
     ) -> Result<(), Unheard>
         ensures heard { OnOk result ((made : List Made) (one : Made) → IsTold one said.now
+            → since.now.moment ≡ since_in events.now.since (made ++ one ∷ [])
             → HasHeardOthers events.now made self.old
             → HasHeardOthers events.now (made ++ one ∷ []) self.new) }
         ensures refused { Suits (without_pair events.now) self.old.teller → IfErr result
@@ -117,7 +158,11 @@ impl OtherSources {
     }
 
     /// Takes what has expired by this moment.
-    pub(crate) fn expire(&mut self, until: u128, since: &Since) -> Result<(), AllocError> {
+    pub(crate) fn expire(&mut self, until: u128, since: &Since) -> Result<(), AllocError>
+        ensures { OnOk result ((events : EventsSaid) (made : List Made)
+            → since.now.moment ≡ since_in events.since made → HasHeardOthers events made self.old
+            → NotesOthers events (Some until) made self.new) }
+    {
         self.told.clear();
         self.teller.expire(until, &mut self.told)?;
         self.keep(since)
@@ -125,14 +170,21 @@ impl OtherSources {
 
     /// Takes the changes that were told last.
     fn keep(&mut self, since: &Since) -> Result<(), AllocError>
-        ensures { self.new.teller ≡ self.old.teller }
+        ensures same { (self.new.teller ≡ self.old.teller) × (self.new.pair ≡ self.old.pair) }
+        ensures held { OnOk result ((earlier : List (TellingSaid SpeakerSaid))
+            → AreOthers self.old.pair.dst since.now.moment earlier self.old.held
+            → AreOthers self.old.pair.dst since.now.moment (earlier ++ self.old.told.items)
+            self.new.held) }
     {
         let (dst, told) = (self.pair.dst, &self.told);
         keep_changes(&dst, told, since, &mut self.held)
     }
 
     /// The source of the answer, if the sender has other routes.
-    fn source_for(&self, sender: Speaker) -> Option<Addr> {
+    fn source_for(&self, sender: Speaker) -> Option<Addr>
+        ensures { SomeIff result (Any (λ subject. subject.sender ≡ sender) self.now.held.keys)
+            self.now.pair.src }
+    {
         for subject in self.held.iter() {
             if subject.sender == sender {
                 return Some(self.pair.src);

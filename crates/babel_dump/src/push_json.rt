@@ -77,7 +77,7 @@ fn push_route_json(buffer: &mut Vec<u8>, spelling: Spelling, row: Option<(Key, H
 }
 
 /// Appends what is answered for a destination and a source, under a view: the front of an object.
-fn push_answered<A: Shown>(
+pub(crate) fn push_answered<A: Shown>(
     buffer: &mut Vec<u8>,
     style: &Style,
     view: View,

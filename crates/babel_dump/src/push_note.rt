@@ -1,7 +1,7 @@
 //! Notes as JSON (RFC 8259), appended to a buffer that has room for them.
 ghost use Rattle.std.specs.Prelude.{◌≡◌, ◌+◌, ◌≤◌, ◌++◌, length};
-ghost use Rattle.babel_dump.specs.NoteJson.{ignored_members, left_out_members, note_json};
-ghost use Rattle.babel_dump.specs.NoteJson.{note_front, note_members, note_name, note_rest};
+ghost use Rattle.babel_dump.specs.NoteJson.{address_member, ignored_members, left_out_members};
+ghost use Rattle.babel_dump.specs.NoteJson.{note_front, note_json, note_members, note_name, note_rest};
 ghost use Rattle.babel_dump.specs.NoteJson.{number_member, seconds_member, side_member};
 ghost use Rattle.babel_dump.specs.NoteJson.{source_member};
 ghost use Rattle.babel_dump.specs.Slices.{HasRoom, TookRoom};
@@ -78,6 +78,8 @@ fn name(note: &Note) -> &'static str
         Note::NoIhus => "no-ihus",
         Note::RoutesDiffer(_) => "routes-differ",
         Note::Source(_, _) => "source",
+        Note::Feasibility { .. } => "feasibility",
+        Note::Ties(_) => "ties",
     }
 }
 
@@ -116,6 +118,17 @@ fn push_members(buffer: &mut Vec<u8>, note: &Note)
             push_member(buffer, "routes", *routes);
         }
         Note::Source(spelling, source) => push_source(buffer, *spelling, *source),
+        Note::Feasibility {
+            spelling,
+            address,
+            announced,
+            keys,
+        } => {
+            push_address(buffer, *spelling, *address);
+            push_member(buffer, "announced", *announced);
+            push_member(buffer, "keys", *keys);
+        }
+        Note::Ties(keys) => push_member(buffer, "keys", *keys),
         Note::Cooked | Note::NoUpdates | Note::NoIhus => {}
     }
 }
@@ -149,6 +162,17 @@ fn push_source(buffer: &mut Vec<u8>, spelling: Spelling, source: Addr)
 {
     push_text(buffer, r#","source":""#);
     push_addr(buffer, spelling, source);
+    push_text(buffer, "\"");
+}
+
+/// Appends the address of the router that selects: a member of an object.
+fn push_address(buffer: &mut Vec<u8>, spelling: Spelling, address: Addr)
+    requires { HasRoom buffer.old 52 }
+    ensures text { buffer.new.items ≡ buffer.old.items ++ address_member spelling address }
+    ensures room { TookRoom buffer.old buffer.new 52 }
+{
+    push_text(buffer, r#","address":""#);
+    push_addr(buffer, spelling, address);
     push_text(buffer, "\"");
 }
 

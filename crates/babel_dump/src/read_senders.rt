@@ -48,13 +48,8 @@ impl<'a> Captured<'a> {
 
     /// Adds what there is to know of it, whose senders are each told by themselves.
     pub fn note(&self, notes: &mut Notes) -> Result<(), AllocError> {
-        let capture = CaptureNotes {
-            report: self.read.gathered.report(),
-            cut: self.read.cut,
-            are_apart: true,
-            expired_rows: 0,
-        };
-        notes.add_capture(self.side, capture, self.each.interval(&self.read.gathered))
+        let interval = self.each.interval(&self.read.gathered);
+        notes.add_capture(self.side, CaptureNotes::apart(self.read), interval)
     }
 }
 
@@ -102,7 +97,7 @@ impl ReadSenders {
                     expired_rows,
                 },
             ) => {
-                self.count(captured.each, &table)?;
+                self.count(captured.each, table.rows().len())?;
                 let report = *table.report();
                 let read = Ok(DumpRead {
                     report,
@@ -118,11 +113,11 @@ impl ReadSenders {
         }
     }
 
-    /// Counts the rows of a table.
-    fn count(&mut self, each: &EachSender, table: &Table) -> Result<(), Trouble>
+    /// Counts so many rows more.
+    pub(crate) fn count(&mut self, each: &EachSender, rows: usize) -> Result<(), Trouble>
         ensures { IfErr result (λ trouble. misplaced_told trouble ≡ None) }
     {
-        match each.rows_with(self.rows, table.rows().len()) {
+        match each.rows_with(self.rows, rows) {
             Some(rows) => {
                 self.rows = rows;
                 Ok(())

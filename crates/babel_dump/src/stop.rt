@@ -1,3 +1,7 @@
+ghost use Rattle.std.specs.Prelude.{◌≡◌, ◌↔◌, IsTrue};
+ghost use Rattle.babel_dump.specs.declared.hearing.Unheard.TheVariants as unheard;
+ghost use Rattle.babel_dump.specs.declared.stop.Stop.TheVariants as stops;
+
 use crate::hearing::Unheard;
 use crate::ignored::IgnoredTlv;
 use crate::left_out::LeftOutDatagram;
@@ -17,6 +21,20 @@ pub(crate) enum Stop {
     },
     /// A datagram was left out, and the capture is read strictly.
     LeftOut(LeftOutDatagram),
+}
+
+impl Stop {
+    /// Whether memory ran out.
+    pub(crate) fn is_memory(&self) -> bool
+        ensures { IsTrue result ↔ (self.now ≡ stops.Unheard unheard.Memory) }
+    {
+        match self {
+            Stop::Unheard(Unheard::Memory) => true,
+            Stop::Unheard(Unheard::Sender { .. }) => false,
+            Stop::Ignored { .. } => false,
+            Stop::LeftOut(_) => false,
+        }
+    }
 }
 
 impl From<Unheard> for Stop {

@@ -108,7 +108,7 @@ impl ToldOrigins {
 }
 
 /// That a sender is refused.
-fn refused(
+pub(crate) fn refused(
     alloc: Global,
     captured: &Captured<'_>,
     origin: Origin,

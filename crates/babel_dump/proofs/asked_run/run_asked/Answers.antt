@@ -28,3 +28,6 @@ returns-in-EachSender-clause-failed g c = failed_as c.args.asked.now (askeds.Eac
 
 pub returns-in-Events-clause-failed : goal.returns-in-Events-clause-failed
 returns-in-Events-clause-failed g c = failed_as c.args.asked.now (askeds.Events c.in-Events.events) _ _ _ c.in-Events.is c.tell_events.ensures.failed
+
+pub returns-in-Select-clause-done : goal.returns-in-Select-clause-done
+returns-in-Select-clause-done g c = did_as c.args.asked.now (askeds.Select c.in-Select.select) _ _ _ _ _ _ _ c.in-Select.is c.tell_selection.ensures.done

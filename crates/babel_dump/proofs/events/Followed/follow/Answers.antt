@@ -3,6 +3,8 @@ use Rattle.std.proofs.Common.{rules, arith, refl, ◌∙◌}
 use Rattle.babel_dump.specs.Run.{output}
 use Rattle.babel_dump.proofs.EventCauses.{at_piece, at_read, err_exit}
 use Rattle.babel_dump.proofs.FollowRuns.{followed_more, followed_none, followed_whole, followed_within}
+use Rattle.babel_dump.proofs.StartLaws.{on_err_so}
+use Rattle.babel_dump.proofs.StartRuns.{start_at_piece, start_at_read}
 use Rattle.babel_dump.proofs.events.Followed.follow.Goals as goal
 
 pub reads-init : goal.reads-init
@@ -50,3 +52,14 @@ returns-in_err-take-in-Ok-clause-cause g c =
 
 pub returns-in-Err-clause-cause : goal.returns-in-Err-clause-cause
 returns-in-Err-clause-cause g c = at_read c.args.events.now (g.R.ByteIn.state c.args.reader.now) _ (output (g.W.ByteOut.state c.args.writer.now) (g.W.ByteOut.state c.reads.writer)) _ c.from.ensures (search rules)
+
+pub returns-in_err-take-in-Ok-clause-start : goal.returns-in_err-take-in-Ok-clause-start
+returns-in_err-take-in-Ok-clause-start g c =
+    on_err_so c.from_residual.result
+    (start_at_piece c.args.events.now (g.R.ByteIn.state c.args.reader.now) (g.R.ByteIn.state c.reads.reader) _ (g.W.ByteOut.state c.args.writer.now) (g.W.ByteOut.state c.reads.writer) (g.W.ByteOut.state c.take.new.writer) c.reads.counter c.reads.self _ c.reads.invariant.followed
+    c.in-Ok.ensures.octets.0 c.in_err-take-in-Ok.ensures.start)
+
+pub returns-in-Err-clause-start : goal.returns-in-Err-clause-start
+returns-in-Err-clause-start g c =
+    start_at_read c.args.events.now (g.R.ByteIn.state c.args.reader.now) (g.R.ByteIn.state c.reads.reader) _ (output (g.W.ByteOut.state c.args.writer.now) (g.W.ByteOut.state c.reads.writer)) c.reads.counter c.reads.self c.reads.invariant.followed c.in-Err.ensures.octets
+    c.reads.invariant.told

@@ -2,7 +2,10 @@ use Rattle.std.proofs.Common.{◌<◌, ◌++◌, ap, subst, sym, ◌∙◌}
 use Rattle.babel_dump.specs.EventsRun.{WroteLines}
 use Rattle.babel_dump.specs.Run.{output}
 use Rattle.babel_dump.proofs.EventCauses.{err_exit, fails_so, of_backwards, of_fault, of_stop, piece_refused, record_in_piece, too_late}
+use Rattle.babel_dump.proofs.StartLaws.{on_err_so}
+use Rattle.babel_dump.proofs.StartRuns.{start_before, start_in_piece, wrote_nothing, wrote_some}
 use Rattle.babel_dump.proofs.TakeLaws.{followed_on}
+use Rattle.babel_dump.specs.EventsStart.{WroteSome}
 use Rattle.babel_dump.specs.EventsCause.{RefusesOctets, RefusesPiece}
 use Rattle.babel_dump.specs.declared.input_fault.InputFault.TheVariants as input_faults
 use Rattle.babel_dump.proofs.events.Followed.take.Goals as goal
@@ -42,3 +45,29 @@ returns-in_err-fault-clause-cause g c =
 pub returns-in-Err-clause-cause : goal.returns-in-Err-clause-cause
 returns-in-Err-clause-cause g c fed told is =
     of_fault c.args.events.now (RefusesPiece c.args.events.now (fed ++ c.args.piece.now)) ⊥ ⊥ ((g.W.ByteOut.state c.args.writer.now).failures < (g.W.ByteOut.state c.write.new.writer).failures) (RefusesOctets c.args.events.now (fed ++ c.args.piece.now)) (input_faults.Capture c.in-Err.fault) c.of_capture.result c.of_capture.ensures (λ not_memory. piece_refused _ fed c.args.piece.now told c.args.self.now _ _ is c.feed-fed.ensures.fed c.feed-fed.ensures.same c.in-Err.ensures.err not_memory)
+
+pub returns-in_err-in_order-clause-start : goal.returns-in_err-in_order-clause-start
+returns-in_err-in_order-clause-start g c =
+    on_err_so c.from_residual.result (λ fed told is. start_before c.args.events.now fed c.args.piece.now told c.args.self.now is _ c.requires.told (wrote_nothing c.args.events.now (g.W.ByteOut.state c.args.writer.now)))
+
+pub returns-in_err-write-clause-start : goal.returns-in_err-write-clause-start
+returns-in_err-write-clause-start g c =
+    let writer = output (g.W.ByteOut.state c.args.writer.now) (g.W.ByteOut.state c.write.new.writer) in
+    on_err_so c.from_residual-in_err-write.result (λ fed told is.
+    start_in_piece c.args.events.now fed c.args.piece.now told c.args.self.now is c.feed-fed.new.sink writer (subst (λ t. WroteSome c.args.events.now t.items writer) c.say.ensures.same.2 c.in_err-write.ensures.some)
+    c.feed-fed.new.self c.feed-fed.result c.feed-fed.ensures.sunk (c.feed-fed.ensures.stopped is.no_fault) c.feed-fed.ensures.same.1)
+
+pub returns-in_err-fault-clause-start : goal.returns-in_err-fault-clause-start
+returns-in_err-fault-clause-start g c =
+    let writer = output (g.W.ByteOut.state c.args.writer.now) (g.W.ByteOut.state c.write.new.writer) in
+    on_err_so c.from_residual-in_err-fault.result (λ fed told is.
+    start_in_piece c.args.events.now fed c.args.piece.now told c.args.self.now is c.feed-fed.new.sink writer
+    (wrote_some c.args.events.now c.feed-fed.new.sink.told.items writer (subst (λ t. WroteLines c.args.events.now t.items writer) c.say.ensures.same.2 c.in_ok-write.ensures.lines))
+    c.feed-fed.new.self c.feed-fed.result c.feed-fed.ensures.sunk (c.feed-fed.ensures.stopped is.no_fault) c.feed-fed.ensures.same.1)
+
+pub returns-in-Err-clause-start : goal.returns-in-Err-clause-start
+returns-in-Err-clause-start g c fed told is =
+    let writer = output (g.W.ByteOut.state c.args.writer.now) (g.W.ByteOut.state c.write.new.writer) in
+    start_in_piece c.args.events.now fed c.args.piece.now told c.args.self.now is c.feed-fed.new.sink writer
+    (wrote_some c.args.events.now c.feed-fed.new.sink.told.items writer (subst (λ t. WroteLines c.args.events.now t.items writer) c.say.ensures.same.2 c.in_ok-write.ensures.lines))
+    c.feed-fed.new.self c.feed-fed.result c.feed-fed.ensures.sunk (c.feed-fed.ensures.stopped is.no_fault) c.feed-fed.ensures.same.1

@@ -26,7 +26,7 @@ returns-then-branch-clause-heard c =
     (sym c.if-branch.true ∙ follows.0 ∙ ap (λ (s : Senders). is_followed s (sender_of one.what)) was.0) is
     (follows.1 ∙ ap (λ (s : Senders). with_followed s (sender_of one.what)) was.0) c.hear_all.ensures.senders same.1 same.2
     (subst (λ (e : Events). HearsTold e told mid new) same.0 both.0) was.1 c.follows.ensures.others
-    (subst (λ (e : Events). HearsOthers e told mid.other_sources new.other_sources) same.0 both.1) was.2) (both_ok _ _ c.hear_all.result c.hear_all.ensures.heard c.hear_all.ensures.others)
+    (subst (λ (e : Events). HearsOthers e told new.hearing.since.moment mid.other_sources new.other_sources) same.0 both.1) was.2) (both_ok _ _ c.hear_all.result c.hear_all.ensures.heard c.hear_all.ensures.others)
 
 pub returns-clause-heard : goal.returns-clause-heard
 returns-clause-heard c =
@@ -42,7 +42,7 @@ returns-clause-heard c =
     (sym c.if-branch.false ∙ follows.0 ∙ ap (λ (s : Senders). is_followed s (sender_of one.what)) was.0) (told_nothing told one is)
     (follows.1 ∙ ap (λ (s : Senders). with_followed s (sender_of one.what)) was.0) c.hear_all-2.ensures.senders same.1 same.2
     (subst (λ (e : Events). HearsTold e front mid new) same.0 both.0) was.1 c.follows.ensures.others
-    (subst (λ (e : Events). HearsOthers e front mid.other_sources new.other_sources) same.0 both.1) was.2) (both_ok _ _ c.hear_all-2.result c.hear_all-2.ensures.heard c.hear_all-2.ensures.others)
+    (subst (λ (e : Events). HearsOthers e front new.hearing.since.moment mid.other_sources new.other_sources) same.0 both.1) was.2) (both_ok _ _ c.hear_all-2.result c.hear_all-2.ensures.heard c.hear_all-2.ensures.others)
 
 pub returns-in_err-follows-clause-stops : goal.returns-in_err-follows-clause-stops
 returns-in_err-follows-clause-stops c =

@@ -1,6 +1,7 @@
 use Rattle.std.proofs.Common.{subst, sym}
 use Rattle.babel_dump.specs.Followed.{HearsOthers, RefusesOthers, Stops}
 use Rattle.babel_dump.specs.declared.events_job.Events.{Events}
+use Rattle.babel_dump.specs.declared.hearing.Hearing.{Hearing}
 use Rattle.babel_dump.proofs.EventCauses.{err_exit}
 use Rattle.babel_dump.proofs.RefusedRecords.{stops_by, stops_others}
 -- The routes for other sources have no say in what is told.
@@ -16,8 +17,9 @@ returns-clause-others c =
     let old = c.args.self.now in
     let mid = c.hear.new.self in
     let new = c.hear_others.new.self in
-    subst (λ (e : Events). HearsOthers e c.args.told.now old.other_sources new.other_sources) c.hear.ensures.same.0
-    (subst (λ others. HearsOthers mid.events.now c.args.told.now others new.other_sources) c.hear.ensures.others c.in_ok-hear_others.ensures.others)
+    subst (λ (e : Events). HearsOthers e c.args.told.now new.hearing.since.moment old.other_sources new.other_sources) c.hear.ensures.same.0
+    (subst (λ (h : Hearing). HearsOthers mid.events.now c.args.told.now h.since.moment old.other_sources new.other_sources) (sym c.hear_others.ensures.same.1)
+    (subst (λ others. HearsOthers mid.events.now c.args.told.now mid.hearing.since.moment others new.other_sources) c.hear.ensures.others c.in_ok-hear_others.ensures.others))
 
 pub returns-in_err-hear-clause-stops : goal.returns-in_err-hear-clause-stops
 returns-in_err-hear-clause-stops c =

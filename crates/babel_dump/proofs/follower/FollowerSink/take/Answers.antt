@@ -10,9 +10,9 @@ use Rattle.babel_dump.proofs.follower.FollowerSink.take.Goals as goal
 pub returns-in_default : goal.returns-in_default
 returns-in_default c start made one told follows =
     let old = c.args.self.now in
-    let new = c.follow.new.self in
+    let new = c.follow_on.new.self in
     let none : old.fault ≡ None = search rules in
-    let same = c.follow.ensures.same in (
+    let same = c.follow_on.ensures.same in (
       same.0 ∙ follows.0,
       λ sound.
           let begun = follows.1 (sym same.1 ∙ sound) in (
@@ -28,11 +28,12 @@ returns-in_default c start made one told follows =
 pub returns-in-Err : goal.returns-in-Err
 returns-in-Err c start made one told follows =
     let old = c.args.self.now in
+    let new = c.follow_on.new.self in
     let none : old.fault ≡ None = search rules in
-    let same = c.follow.ensures.same in (
+    let same = c.follow_on.ensures.same in (
       same.0 ∙ follows.0,
       λ sound. absurd (let bad : None ≡ Some c.in-Err.fault = sym sound in cc),
-      λ stop stopped begun. follows_stopped start old made one c.args.told.now told follows none c.in-Err.fault c.in-Err.ensures.stops stop stopped,
+      λ stop stopped begun. follows_stopped start old new made one c.args.told.now told follows none c.in-Err.fault c.in-Err.ensures.behind c.in-Err.ensures.stops stop stopped,
     )
 
 pub returns-else-is_none : goal.returns-else-is_none
