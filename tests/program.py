@@ -252,7 +252,7 @@ def check_options(program, tally):
     expect(tally, "the commands", set(names), {*options.COMMANDS, "help"})
     manual = options.MANUAL.read_text().replace("\\-", "-")
     for command in options.COMMANDS:
-        option = r"^  (?:-\w, |    )(--[a-z0-9-]+)(?: <(\w+)>(?:\.\.\.)?)?(?=$|  )"
+        option = r"^  (?:-\w, |    )(--[a-z0-9-]+)(?: <([\w=]+)>(?:\.\.\.)?)?(?=$|  )"
         shown = re.compile(option, re.MULTILINE)
         rows = [row for row in options.rows_of(command) if not row.is_argument]
         wanted = [(f"--{row.id}", row.takes[0] if row.takes else "") for row in rows]
@@ -346,8 +346,10 @@ def example_captures():
     network = TOP / "examples/network"
     both = [(ROUTERS / "babeld-basic-a", "fe80::1"), (ROUTERS / "frr-basic", "fe80::2")]
     yield "x.pcap", [*both, (network / "north-after", "fe80::1")]
-    yield "before.pcap", [(network / "north-before", "fe80::1")]
-    yield "now.pcap", [(network / "north-after", "fe80::1")]
+    yield "y.pcap", both
+    for place in "", "-1", "-2":
+        yield f"before{place}.pcap", [(network / "north-before", "fe80::1")]
+        yield f"now{place}.pcap", [(network / "north-after", "fe80::1")]
 
 
 # A tcpdump that records what the file recorded.pcap has, until `timeout` stops it.
@@ -445,7 +447,7 @@ def lines_read(lines):
 
 def check_typed(tally):
     """The reader of examples/ reads each whole line of JSON of the transcripts, of each kind, and
-    has the members and the notes that OUTPUT has."""
+    has the members and the notes that OUTPUT and SELECTION have."""
     kinds = set()
     for file in sorted((TOP / "tests").glob("*.txt")):
         found = lines_read(re.findall(r'^\{".*\}$', file.read_text(), re.MULTILINE))
@@ -456,10 +458,12 @@ def check_typed(tally):
     expect(tally, "the kinds of lines in transcripts", kinds, {*typed.KINDS, typed.Note, typed.Told})
     text = (TOP / "docs/OUTPUT.md").read_text()
     section = text.partition("\n## JSON\n")[2].partition("\n## ")[0]
+    selection = (TOP / "docs/SELECTION.md").read_text()
+    section += selection.partition("\nWith `--json`")[2].partition("\n\n")[0]
     objects = *typed.KINDS, typed.Route, typed.Counted, typed.Family
     members = {field.name for each in objects for field in dataclasses.fields(each)}
     expect(tally, "the members in OUTPUT", {*re.findall(r"`(\w+)`:", section)}, members)
-    notes = re.findall(r'`(\{"note":[^`]*\})`', text)
+    notes = re.findall(r'`(\{"note":[^`]*\})`', text + selection)
     filled = [re.sub(r":[MN]\b", ":0", note).replace("COUNTS", "[]") for note in notes]
     found = lines_read(note.replace("ADDRESS", "::") for note in filled)
     expect(tally, "the notes in OUTPUT", {each.note for each in found}, {*typed.NOTES})

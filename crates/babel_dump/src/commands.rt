@@ -161,7 +161,7 @@ const AFTER_SELECT: &str = after_help!(
      Its filters, hysteresis and own costs are not on the link. Each packet has to have a time.\n",
     examples:
     "select --at fe80::1 x.pcap",
-    "select --at fe80::1 --to 10.1.2.3 --until 2026-11-25T13:30:22Z x.pcap",
+    "select --at fe80::1 --to 10.1.2.3 --until +60 x.pcap",
     "select --at fe80::1 --cost fe80::2=96 --json x.pcap";
     "0  done; with --to, a route is used",
     "1  with --to: no route is used"
