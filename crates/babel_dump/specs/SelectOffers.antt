@@ -1,8 +1,8 @@
 -- The routes that senders announce at a moment, as a router has them that selects: RFC 8966, 3.2.6.
 -- Which senders these are is this project's own.
-use Rattle.std.specs.Prelude.{◌≡◌, ℕ, Bool, ◌&&◌, min, if◌then◌else◌, List, ◌++◌, fold, map}
+use Rattle.std.specs.Prelude.{ℕ, Bool, min, if◌then◌else◌, List, fold}
 use Rattle.std.specs.Prelude.{Option, None, Some, true}
-use Rattle.std.specs.List.{AllByRecursion, filter, filter_map, flat_map, list_any}
+use Rattle.std.specs.List.{filter, filter_map, list_any}
 use Rattle.std.specs.Option.{is_some, option_and_then, unwrap_or}
 use Rattle.std.specs.Ordering.{is_eq}
 use Rattle.babel_prefix.specs.Address.{Address}
@@ -11,8 +11,6 @@ use Rattle.babel_capture.specs.Tallies.{Senders, tally_of}
 use Rattle.babel_capture.specs.declared.place.Place.{Place}
 use Rattle.babel_capture.specs.declared.tallies.Origin.{Origin}
 use Rattle.babel_tlv.specs.Pair.{Pair}
-use Rattle.babel_tlv.specs.Route.{RouteKey}
-use Rattle.babel_tlv.specs.declared.held.Held.{Held}
 use Rattle.babel_tlv.specs.declared.held.Held.TheVariants as helds
 use Rattle.babel_selection.specs.Links.{infinite, last_ihu, link_cost, rxcost_at}
 use Rattle.babel_selection.specs.Offers.{offer_of, own_offer}

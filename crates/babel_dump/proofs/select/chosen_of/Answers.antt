@@ -7,7 +7,6 @@ use Rattle.std.specs.List.Sorted.{IsPermutation, IsSorted}
 use Rattle.std.specs.declared.cmp.Ordering.{Ordering}
 use Rattle.babel_selection.specs.Offers.{chosen_rows, offer_cmp}
 use Rattle.babel_selection.specs.declared.offer.Offer.{Offer}
-use Rattle.babel_dump.specs.contracts.speaker.SpeakerOrd.TheImpl.{ghosts}
 use Rattle.babel_dump.specs.declared.speaker.Speaker.{Speaker}
 use Rattle.babel_dump.proofs.SpeakerLaws.{speaker_order}
 use Rattle.babel_dump.proofs.select.chosen_of.Goals as goal

@@ -1,5 +1,5 @@
 -- What the router's own packet announces is what its record does.
-use Rattle.std.proofs.Common.{ap, sym, ◌∙◌, refl, rules}
+use Rattle.std.proofs.Common.{ap, sym, ◌∙◌, refl}
 use Rattle.std.specs.Option.{unwrap_or}
 use Rattle.std.proofs.lemmas.Result.{on_ok_weaker}
 use Rattle.babel_capture.specs.Sinking.{packet_said}

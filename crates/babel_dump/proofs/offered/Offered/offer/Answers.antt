@@ -1,9 +1,4 @@
 -- Row by row.
-use Rattle.std.proofs.Common.{◌≡◌, ◌++◌, ◌∷◌, [], List, ap, sym, append_assoc, append-nil, ◌∙◌, rules}
-use Rattle.std.specs.List.{filter_map}
-use Rattle.babel_table.specs.Left.{rows_left}
-use Rattle.babel_tlv.specs.Pair.{Pair}
-use Rattle.babel_dump.specs.SelectKept.{list_of}
 use Rattle.babel_dump.specs.SelectOffers.{offered}
 use Rattle.babel_dump.proofs.SelectOffers.{offers_next}
 use Rattle.babel_dump.proofs.offered.Offered.offer.Goals as goal

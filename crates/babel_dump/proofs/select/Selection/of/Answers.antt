@@ -1,5 +1,5 @@
 -- What is told is by what was read.
-use Rattle.std.proofs.Common.{refl, sym, ◌∙◌, ap, ◌≡◌, List, ℕ, Option, flat_map, rules}
+use Rattle.std.proofs.Common.{refl, ◌∙◌, ap, ◌≡◌, List, flat_map, rules}
 use Rattle.std.specs.Map.{keys_of}
 use Rattle.std.specs.Option.{unwrap_or}
 use Rattle.babel_selection.specs.declared.offers.ChosenRoute.{ChosenRoute}

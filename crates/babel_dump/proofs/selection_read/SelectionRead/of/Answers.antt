@@ -1,5 +1,5 @@
 -- All that was read is of the packets that the sink took, and each fault has its cause.
-use Rattle.std.proofs.Common.{refl, rules, sym, ◌∙◌, ◌≡◌, false, true}
+use Rattle.std.proofs.Common.{refl, rules, ◌≡◌, false, true}
 use Rattle.std.proofs.lemmas.Result.{err_from_is_err_and}
 use Rattle.babel_capture.specs.Blocks.{sightings_of}
 use Rattle.babel_dump.specs.CaptureGiven.{made_in}
