@@ -1,6 +1,6 @@
 -- What is seen of a frame is in the frame, layer by layer.
-use Rattle.std.proofs.Common.{◌≡◌, ℕ, zero, suc, ◌+◌, ◌-◌, ◌<◌, ◌≤◌, Bool, true, false, List, [], ◌∷◌, ◌++◌, length, take, drop, refl, sym, ap, ◌∙◌, append_assoc, arith, nat_lt, nat_le, slice_index}
-use Rattle.std.proofs.Common.{not, ◌&&◌, ◌||◌, ◌==◌, if◌then◌else◌}
+use Rattle.std.proofs.Common.{◌≡◌, ℕ, zero, suc, ◌+◌, ◌-◌, ◌<◌, ◌^◌, ◌≤◌, Bool, true, false, List, [], ◌∷◌, ◌++◌, length, take, drop, refl, sym, ap, ◌∙◌, append_assoc, arith, nat_lt, nat_le, slice_index}
+use Rattle.std.proofs.Common.{not, ◌&&◌, ◌||◌, ◌==◌, if◌then◌else◌, Option, None}
 use Rattle.std.proofs.lemmas.List.{drop-take, length-drop, length-take, length-take-le, take-append-drop}
 use Rattle.std.proofs.lemmas.Bool.{cond_both}
 use Rattle.std.proofs.lemmas.Bool.Decides.{nat_tests}
@@ -14,12 +14,14 @@ use Rattle.babel_capture.specs.declared.link.Link.TheVariants as links
 use Rattle.babel_capture.specs.declared.place.Place.{Place}
 use Rattle.babel_capture.specs.Ethernet.{Payload, in_vlans, is_tag, past_tag, past_tags, ip_sight, tag_number, typed_sight}
 use Rattle.babel_capture.specs.Frame.{cooked2_sight, header_sight, leads_to_ip, on_link, raw_sight, family_sight, protocol_family, is_ipv6_family, frame_sight}
-use Rattle.babel_capture.specs.Headers.{NextHeader, has_len, header_len, is_first_fragment, is_unkept, has_more_fragments as more, past_header, past_headers, telling_len}
-use Rattle.babel_capture.specs.Ipv4.{ipv4_sight, ipv4_carried_sight, ipv4_header_sight, ipv4_header_len, total_len, ipv4_ends, has_more_fragments, carries_udp, is_later_fragment}
-use Rattle.babel_capture.specs.Ipv6.{ipv6_sight, ipv6_carried_sight, ipv6_ends, payload_len, first_header, upper_sight}
+use Rattle.babel_capture.specs.Headers.{NextHeader, has_len, header_len, is_atomic, is_unkept, past_header, past_headers, telling_len}
+use Rattle.babel_capture.specs.declared.fragment.UdpPlace.{UdpPlace}
+use Rattle.babel_capture.specs.IpFragments.{IpFragment, first_sight, fragment_sight, is_taken, taken, udp_place_in}
+use Rattle.babel_capture.specs.Ipv4.{ipv4_sight, ipv4_carried, ipv4_carried_sight, ipv4_fragment, ipv4_header_len, is_fragment, total_len, ipv4_ends, carries_udp}
+use Rattle.babel_capture.specs.Ipv6.{ipv6_sight, ipv6_carried_sight, ipv6_fragment, ipv6_fragment_sight, ipv6_ends, payload_len, first_header, upper_sight}
 use Rattle.babel_capture.specs.Octets.{network_number, ip_version}
 use Rattle.babel_capture.specs.Place.{no_vlans, place_on, with_vlan}
-use Rattle.babel_capture.specs.Sight.{Sight, Carried, other, too_short, datagram, other_port, not_link_local, lacking, carries}
+use Rattle.babel_capture.specs.Sight.{Sight, Carried, other, too_short, fragmented, datagram, other_port, not_link_local, lacking, carries}
 use Rattle.babel_capture.specs.Udp.{udp_sight, babel_sight, len_sight, unkept_sight, udp_len, source_port, destination_port, is_babel, is_of_routers, may_send}
 use Rattle.babel_capture.proofs.OctetLaws.{number-kept}
 
@@ -93,6 +95,7 @@ module _ (octets : List ℕ) (all : ℕ) (of : List ℕ) (of_all : ℕ) (part : 
   pub Backs-part : (sight : Sight) → Backs octets all sight → Backs of of_all sight
   Backs-part other backs = tt
   Backs-part too_short backs = tt
+  Backs-part (fragmented fragment) (stands, fits) = (StandIn-in fragment.octets octets of stands part.inside, fits)
   Backs-part (datagram place ends carried) backs = carried-part ends.sender carried backs
 
 -- ---- choices
@@ -157,29 +160,25 @@ len_backed place ends octets all routers may =
     (take len octets, payload_backed ends octets routers may (room len 8 header) (room (length octets) len there), StandIn-take len octets)))) in
     unless octets all (nat_lt all 6) other told tt (λ fits. unless_snapped octets all 6 place ends fitting (room all 6 fits) (λ _. fitting_backed))
 
-module _ (place : Place) (ends : Ends) (is_fragment : Bool) (octets : List ℕ) (all : ℕ) where
+module _ (place : Place) (ends : Ends) (octets : List ℕ) (all : ℕ) where
   abbrev Port : Sight
   Port = datagram place ends other_port
 
   abbrev NotLocal : Sight
   NotLocal = datagram place ends not_link_local
 
-  abbrev Part : Sight
-  Part = datagram place ends (lacking lacks.Fragment)
-
   -- if IP says no more than its frame had
-  babel_backed : Backs octets all (babel_sight place ends is_fragment false octets all)
+  babel_backed : Backs octets all (babel_sight place ends false octets all)
   babel_backed =
       let len : Sight = len_sight place ends octets all in
-      let joined : Sight = if is_fragment then Part else len in
-      let local : Sight = if not (may_send ends.sender) then NotLocal else joined in
+      let local : Sight = if not (may_send ends.sender) then NotLocal else len in
       unless octets all (not (is_of_routers octets)) Port local tt (λ routers.
-      unless octets all (not (may_send ends.sender)) NotLocal joined tt (λ may. either octets all is_fragment Part len tt (len_backed place ends octets all routers may)))
+      unless octets all (not (may_send ends.sender)) NotLocal len tt (λ may. len_backed place ends octets all routers may))
 
-  pub udp_backed : Backs octets all (udp_sight place ends is_fragment false octets all)
+  pub udp_backed : Backs octets all (udp_sight place ends false octets all)
   unfolding udp_sight
   udp_backed =
-      let babel : Sight = babel_sight place ends is_fragment false octets all in
+      let babel : Sight = babel_sight place ends false octets all in
       let ports : Sight = if not (is_babel octets) then other else babel in
       let kept : Sight = if nat_lt (length octets) 4 then too_short else ports in
       either octets all (nat_lt all 4) other kept tt
@@ -187,12 +186,11 @@ module _ (place : Place) (ends : Ends) (is_fragment : Bool) (octets : List ℕ) 
       (either octets all (not (is_babel octets)) other babel tt babel_backed))
 
   -- and if it says more, in any octets
-  pub udp_cut_backed : (of : List ℕ) (of_all : ℕ) → Backs of of_all (udp_sight place ends is_fragment true octets all)
+  pub udp_cut_backed : (of : List ℕ) (of_all : ℕ) → Backs of of_all (udp_sight place ends true octets all)
   unfolding udp_sight
   udp_cut_backed of of_all =
       let cut : Sight = datagram place ends (lacking lacks.CutShort) in
-      let joined : Sight = if is_fragment then Part else cut in
-      let local : Sight = if not (may_send ends.sender) then NotLocal else joined in
+      let local : Sight = if not (may_send ends.sender) then NotLocal else cut in
       let babel : Sight = if not (is_of_routers octets) then Port else local in
       let ports : Sight = if not (is_babel octets) then other else babel in
       let kept : Sight = if nat_lt (length octets) 4 then too_short else ports in
@@ -200,48 +198,74 @@ module _ (place : Place) (ends : Ends) (is_fragment : Bool) (octets : List ℕ) 
       (either of of_all (nat_lt (length octets) 4) too_short ports tt
       (either of of_all (not (is_babel octets)) other babel tt
       (either of of_all (not (is_of_routers octets)) Port local tt
-      (either of of_all (not (may_send ends.sender)) NotLocal joined tt
-      (either of of_all is_fragment Part cut tt tt)))))
+      (either of of_all (not (may_send ends.sender)) NotLocal cut tt tt))))
+
+-- ---- fragments
+
+taken_fits : (ip : IpFragment) → not (is_taken ip) ≡ false → ip.offset + ip.carried.whole < 2 ^ 16
+taken_fits ip is = by (not ip.is_cut) (nat_lt (ip.offset + ip.carried.whole) 65536) _ refl is
+  where
+    by : (a b c : Bool) → nat_lt (ip.offset + ip.carried.whole) 65536 ≡ b → not (a && b && c) ≡ false → ip.offset + ip.carried.whole < 2 ^ 16
+    by false b c told is = absurd cc
+    by true false c told is = absurd cc
+    by true true c told is = grind (arith, nat_tests, told)
+
+module _ (octets : List ℕ) (all : ℕ) (ip : IpFragment) (stands : StandIn ip.carried.octets octets) where
+  first_backed : ip.offset + ip.carried.whole < 2 ^ 16 → (upper : NextHeader) → Backs octets all (first_sight ip upper)
+  first_backed fits upper =
+      let at : Option UdpPlace = udp_place_in ip upper in
+      let ports : Sight = if nat_lt (length upper.octets) 4 then too_short else taken ip at in
+      let udp : Sight = if nat_lt upper.whole 8 then taken ip None else ports in
+      let again : Sight = if upper.number == 44 then other else taken ip None in
+      let others : Sight = if is_unkept upper then too_short else again in
+      let both : StandIn ip.carried.octets octets × (ip.offset + ip.carried.whole < 2 ^ 16) = (stands, fits) in
+      either octets all (upper.number == 17) udp others
+      (either octets all (nat_lt upper.whole 8) (taken ip None) ports both (either octets all (nat_lt (length upper.octets) 4) too_short (taken ip at) tt both))
+      (either octets all (is_unkept upper) too_short again tt (either octets all (upper.number == 44) other (taken ip None) tt both))
+
+  fragment_backed : Backs octets all (fragment_sight ip)
+  fragment_backed =
+      let first : Sight = first_sight ip (past_headers 8 ip.carried) in
+      let each : Sight = if ip.offset == 0 then first else taken ip None in
+      unless octets all (not (is_taken ip)) other each tt (λ is_one.
+      let fits : ip.offset + ip.carried.whole < 2 ^ 16 = taken_fits ip is_one in
+      either octets all (ip.offset == 0) first (taken ip None) (first_backed fits (past_headers 8 ip.carried)) (stands, fits))
 
 -- ---- IPv4
 
-ipv4_by_cut : (place : Place) (octets : List ℕ) (all total header : ℕ) (is_fragment b : Bool) → nat_lt all total ≡ b
-    → Backs octets all (udp_sight place (ipv4_ends octets) is_fragment b (drop header (take total octets)) (total - header))
-ipv4_by_cut place octets all total header is_fragment true cut = udp_cut_backed place (ipv4_ends octets) is_fragment (drop header (take total octets)) (total - header) octets all
-ipv4_by_cut place octets all total header is_fragment false fits =
+ipv4_by_cut : (place : Place) (octets : List ℕ) (all total header : ℕ) (b : Bool) → nat_lt all total ≡ b
+    → Backs octets all (udp_sight place (ipv4_ends octets) b (drop header (take total octets)) (total - header))
+ipv4_by_cut place octets all total header true cut = udp_cut_backed place (ipv4_ends octets) (drop header (take total octets)) (total - header) octets all
+ipv4_by_cut place octets all total header false fits =
     Backs-part (drop header (take total octets)) (total - header) octets all
     (IsPart-in (drop header (take total octets)) (take total octets) octets (total - header) total all (IsPart-after header (take total octets) total)
     (IsPart-first total octets all (room all total fits)))
-    (udp_sight place (ipv4_ends octets) is_fragment false (drop header (take total octets)) (total - header))
-    (udp_backed place (ipv4_ends octets) is_fragment (drop header (take total octets)) (total - header))
+    (udp_sight place (ipv4_ends octets) false (drop header (take total octets)) (total - header))
+    (udp_backed place (ipv4_ends octets) (drop header (take total octets)) (total - header))
 
 ipv4_carried_backed : (place : Place) (octets : List ℕ) (all : ℕ) → Backs octets all (ipv4_carried_sight place octets all)
-ipv4_carried_backed place octets all = ipv4_by_cut place octets all (total_len octets) (ipv4_header_len octets) (has_more_fragments octets) (nat_lt all (total_len octets)) refl
-
-ipv4_header_backed : (place : Place) (octets : List ℕ) (all : ℕ) → Backs octets all (ipv4_header_sight place octets all)
-ipv4_header_backed place octets all =
-    let carried : Sight = ipv4_carried_sight place octets all in
-    let whole_header : Sight = if nat_lt (length octets) 20 then too_short else carried in
-    let of_udp : Sight = if not (carries_udp octets) then other else whole_header in
-    let protocol : Sight = if nat_lt (length octets) 10 then too_short else of_udp in
-    let first : Sight = if is_later_fragment octets then other else protocol in
-    either octets all (nat_lt (length octets) 8) too_short first tt
-    (either octets all (is_later_fragment octets) other protocol tt
-    (either octets all (nat_lt (length octets) 10) too_short of_udp tt
-    (either octets all (not (carries_udp octets)) other whole_header tt
-    (either octets all (nat_lt (length octets) 20) too_short carried tt (ipv4_carried_backed place octets all)))))
+ipv4_carried_backed place octets all =
+    let total = total_len octets in
+    let header = ipv4_header_len octets in
+    let ip = ipv4_fragment place octets all in
+    let stands = StandIn-in (ipv4_carried octets) (take total octets) octets (StandIn-drop header (take total octets)) (StandIn-take total octets) in
+    either octets all (is_fragment octets) (fragment_sight ip) (udp_sight place (ipv4_ends octets) (nat_lt all total) (ipv4_carried octets) (total - header))
+    (fragment_backed octets all ip stands) (ipv4_by_cut place octets all total header (nat_lt all total) refl)
 
 pub ipv4_backed : (place : Place) (octets : List ℕ) (all : ℕ) → Backs octets all (ipv4_sight place octets all)
 unfolding ipv4_sight
 ipv4_backed place octets all =
-    let header : Sight = ipv4_header_sight place octets all in
-    let fitting : Sight = if nat_lt (total_len octets) (ipv4_header_len octets + 4) then other else header in
-    let told : Sight = if nat_lt (length octets) 4 then too_short else fitting in
-    let ip : Sight = if not (ip_version octets == 4) || nat_lt (ipv4_header_len octets) 20 then other else told in
+    let carried : Sight = ipv4_carried_sight place octets all in
+    let whole_header : Sight = if nat_lt (length octets) 20 then too_short else carried in
+    let of_udp : Sight = if not (carries_udp octets) then other else whole_header in
+    let told : Sight = if nat_lt (length octets) 10 then too_short else of_udp in
+    let is_other = not (ip_version octets == 4) || nat_lt (ipv4_header_len octets) 20 in
+    let ip : Sight = if is_other then other else told in
     either octets all (nat_lt (length octets) 1) too_short ip tt
-    (either octets all (not (ip_version octets == 4) || nat_lt (ipv4_header_len octets) 20) other told tt
-    (either octets all (nat_lt (length octets) 4) too_short fitting tt
-    (either octets all (nat_lt (total_len octets) (ipv4_header_len octets + 4)) other header tt (ipv4_header_backed place octets all))))
+    (either octets all is_other other told tt
+    (either octets all (nat_lt (length octets) 10) too_short of_udp tt
+    (either octets all (not (carries_udp octets)) other whole_header tt
+    (either octets all (nat_lt (length octets) 20) too_short carried tt (ipv4_carried_backed place octets all)))))
 
 -- ---- IPv6
 
@@ -259,23 +283,13 @@ past_header-part header =
     let octets = header.octets in
     let all = header.whole in
     let same : IsPast header header = record { part = IsPart-self octets all } in
-    let options : NextHeader = record {
-      number = slice_index octets 0;
-      is_fragment = header.is_fragment;
-      octets = drop (header_len octets) octets;
-      whole = all - header_len octets;
-    } in
-    let first : NextHeader = record {
-      number = slice_index octets 0;
-      is_fragment = header.is_fragment || more octets;
-      octets = drop 8 octets;
-      whole = all - 8;
-    } in
-    let is_first = is_first_fragment header.number octets in
-    let long : NextHeader = if has_len header.number then options else (if is_first then first else header) in
+    let options : NextHeader = record { number = slice_index octets 0; octets = drop (header_len octets) octets; whole = all - header_len octets } in
+    let atomic : NextHeader = record { number = slice_index octets 0; octets = drop 8 octets; whole = all - 8 } in
+    let is_one = header.number == 44 && is_atomic octets in
+    let long : NextHeader = if has_len header.number then options else (if is_one then atomic else header) in
     past_either (nat_lt (length octets) (telling_len header.number)) header long header same
-    (past_either (has_len header.number) options (if is_first then first else header) header (record { part = IsPart-after (header_len octets) octets all })
-    (past_either is_first first header header (record { part = IsPart-after 8 octets all }) same))
+    (past_either (has_len header.number) options (if is_one then atomic else header) header (record { part = IsPart-after (header_len octets) octets all })
+    (past_either is_one atomic header header (record { part = IsPart-after 8 octets all }) same))
 
 past_headers-part : (n : ℕ) (header : NextHeader)
     → IsPart (past_headers n header).octets (past_headers n header).whole header.octets header.whole
@@ -290,39 +304,54 @@ unkept_backed : (octets : List ℕ) (all carried : ℕ) → Backs octets all (un
 unkept_backed octets all carried = either octets all (nat_lt carried 4) other too_short tt tt
 
 ipv6_by_cut : (place : Place) (octets : List ℕ) (all len : ℕ) (upper : NextHeader) (b : Bool) → IsPart upper.octets upper.whole (take len (drop 40 octets)) len → nat_lt all (40 + len) ≡ b
-    → Backs octets all (udp_sight place (ipv6_ends octets) upper.is_fragment b upper.octets upper.whole)
-ipv6_by_cut place octets all len upper true part cut = udp_cut_backed place (ipv6_ends octets) upper.is_fragment upper.octets upper.whole octets all
+    → Backs octets all (udp_sight place (ipv6_ends octets) b upper.octets upper.whole)
+ipv6_by_cut place octets all len upper true part cut = udp_cut_backed place (ipv6_ends octets) upper.octets upper.whole octets all
 ipv6_by_cut place octets all len upper false part fits =
     let enough : 40 + len ≤ all = room all (40 + len) fits in
     Backs-part upper.octets upper.whole octets all
     (IsPart-in upper.octets (take len (drop 40 octets)) octets upper.whole len all part
     (IsPart-in (take len (drop 40 octets)) (drop 40 octets) octets len (all - 40) all
     (IsPart-first len (drop 40 octets) (all - 40) (omega arith)) (IsPart-after 40 octets all)))
-    (udp_sight place (ipv6_ends octets) upper.is_fragment false upper.octets upper.whole)
-    (udp_backed place (ipv6_ends octets) upper.is_fragment upper.octets upper.whole)
+    (udp_sight place (ipv6_ends octets) false upper.octets upper.whole)
+    (udp_backed place (ipv6_ends octets) upper.octets upper.whole)
 
 ipv6_carried_backed : (place : Place) (octets : List ℕ) (all : ℕ) → Backs octets all (ipv6_carried_sight place octets all (past_headers 8 (first_header octets)))
 ipv6_carried_backed place octets all =
     let len = payload_len octets in
     let upper = past_headers 8 (first_header octets) in
-    either octets all (nat_lt (length octets) 40) (unkept_sight upper.whole) (udp_sight place (ipv6_ends octets) upper.is_fragment (nat_lt all (40 + len)) upper.octets upper.whole)
+    either octets all (nat_lt (length octets) 40) (unkept_sight upper.whole) (udp_sight place (ipv6_ends octets) (nat_lt all (40 + len)) upper.octets upper.whole)
     (unkept_backed octets all upper.whole)
     (ipv6_by_cut place octets all len upper (nat_lt all (40 + len)) (past_headers-part 8 (first_header octets)) refl)
+
+ipv6_fragment_backed : (place : Place) (octets : List ℕ) (all : ℕ) → Backs octets all (ipv6_fragment_sight place octets all (past_headers 8 (first_header octets)))
+ipv6_fragment_backed place octets all =
+    let len = payload_len octets in
+    let header = past_headers 8 (first_header octets) in
+    let ip = ipv6_fragment place octets all header in
+    let kept : Sight = if nat_lt (length octets) 40 || nat_lt (length header.octets) 8 then too_short else fragment_sight ip in
+    let within = StandIn-in (take len (drop 40 octets)) (drop 40 octets) octets (StandIn-take len (drop 40 octets)) (StandIn-drop 40 octets) in
+    let stands = StandIn-in ip.carried.octets header.octets octets (StandIn-drop 8 header.octets)
+    (StandIn-in header.octets (take len (drop 40 octets)) octets (past_headers-part 8 (first_header octets)).inside within) in
+    either octets all (nat_lt header.whole 8) other kept tt
+    (either octets all (nat_lt (length octets) 40 || nat_lt (length header.octets) 8) too_short (fragment_sight ip) tt (fragment_backed octets all ip stands))
 
 pub ipv6_backed : (place : Place) (octets : List ℕ) (all : ℕ) → Backs octets all (ipv6_sight place octets all)
 unfolding ipv6_sight
 ipv6_backed place octets all =
     let upper = past_headers 8 (first_header octets) in
     let carried : Sight = ipv6_carried_sight place octets all upper in
+    let fragment : Sight = ipv6_fragment_sight place octets all upper in
     let unkept : Sight = if is_unkept upper then too_short else other in
+    let no_udp : Sight = if upper.number == 44 then fragment else unkept in
     let of_upper : Sight = upper_sight place octets all upper in
     let told : Sight = if nat_lt (length octets) 7 then too_short else of_upper in
     let ip : Sight = if not (ip_version octets == 6) then other else told in
     either octets all (nat_lt (length octets) 1) too_short ip tt
     (either octets all (not (ip_version octets == 6)) other told tt
     (either octets all (nat_lt (length octets) 7) too_short of_upper tt
-    (either octets all (upper.number == 17) carried unkept (ipv6_carried_backed place octets all)
-    (either octets all (is_unkept upper) too_short other tt tt))))
+    (either octets all (upper.number == 17) carried no_udp (ipv6_carried_backed place octets all)
+    (either octets all (upper.number == 44) fragment unkept (ipv6_fragment_backed place octets all)
+    (either octets all (is_unkept upper) too_short other tt tt)))))
 
 -- ---- EtherTypes
 

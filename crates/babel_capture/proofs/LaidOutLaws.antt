@@ -1,6 +1,6 @@
 -- What is laid out as the headers say is seen as what it carries.
 use Rattle.std.proofs.Common.{◌≡◌, ℕ, zero, suc, ◌+◌, ◌-◌, ◌*◌, ◌/◌, ◌^◌, ◌<◌, ◌≤◌, ◌⊎◌, inl, inr, Bool, true, false, List, [], ◌∷◌, ◌++◌, length, take, drop, refl, sym, ap, subst, ◌∙◌, length-append}
-use Rattle.std.proofs.Common.{append_assoc, arith, nat_lt, slice_index, bit_and, not, ◌==◌, ◌||◌}
+use Rattle.std.proofs.Common.{append_assoc, arith, nat_lt, slice_index, bit_and, not, ◌==◌}
 use Rattle.std.proofs.Math.Seq.{drop-append_seam, drop-append-add, take-append_seam, take-append-add}
 use Rattle.std.proofs.lemmas.List.{drop_at, length-take-le, take_all}
 use Rattle.std.proofs.lemmas.Bool.Decides.{nat_tests}
@@ -21,19 +21,19 @@ use Rattle.std.proofs.lemmas.List.Elements.{All-head, All-tail}
 use Rattle.babel_capture.specs.Ethernet.{Payload, in_vlans, is_tag, past_tag, past_tags, ip_sight, typed_sight}
 use Rattle.babel_capture.specs.Frame.{family_sight, frame_sight, header_sight, is_ipv6_family, leads_to_ip, protocol_family, raw_sight}
 use Rattle.babel_capture.specs.Headers.{NextHeader, has_len, past_header, past_headers}
-use Rattle.babel_capture.specs.Ipv4.{ipv4_ends, ipv4_sight, ipv4_header_len, total_len, carries_udp, is_later_fragment, has_more_fragments}
+use Rattle.babel_capture.specs.Ipv4.{ipv4_ends, ipv4_sight, ipv4_header_len, total_len, carries_udp, is_fragment}
 use Rattle.babel_capture.specs.Ipv6.{ipv6_ends, ipv6_sight, payload_len, first_header}
 use Rattle.babel_capture.specs.LaidOut.{UdpDatagram, ends4, ends6, udp_octets, udp_size, IsBabel, Ipv4Header, ipv4_header, ipv4_octets, IsIpv4, Ipv6Header, ipv6_header, ipv6_octets, IsIpv6}
-use Rattle.babel_capture.specs.LaidOut.{Extension, IsFragment, IsExtension, extensions, first_number, HasFlags, ports, IsFirstFragment, IsOverIp, HasBabel}
+use Rattle.babel_capture.specs.LaidOut.{Extension, IsExtension, extensions, extensions_before, first_before, first_number, HasFlags, IsOverIp}
 use Rattle.babel_capture.specs.LinkHeaders.{Tag, IsTag, first_type, after_type, vlans_of, IsTyped, IsCooked2, IsFamily, HasEtherType, HasFamily, IsHeader, IsOtherType, IsOtherFamily}
 use Rattle.babel_capture.specs.Octets.{network_number, ip_version}
 use Rattle.babel_capture.specs.Place.{no_vlans, place_on, with_vlan}
-use Rattle.babel_capture.specs.Sight.{Carried, Sight, other, datagram, carries, lacking}
+use Rattle.babel_capture.specs.Sight.{Sight, other, datagram, carries, lacking}
 use Rattle.babel_capture.specs.Udp.{udp_sight, udp_len, source_port, destination_port, may_send}
 use Rattle.babel_capture.proofs.OctetLaws.{big_from-drop, number-kept}
 
 -- a number reads back from where it was written
-number-back : (before : List ℕ) (n x : ℕ) (after : List ℕ) → x < 256 ^ n → network_number (length before) n (before ++ (big_bytes n x ++ after)) ≡ x
+pub number-back : (before : List ℕ) (n x : ℕ) (after : List ℕ) → x < 256 ^ n → network_number (length before) n (before ++ (big_bytes n x ++ after)) ≡ x
 unfolding network_number
 number-back before n x after fits =
     let octets = before ++ (big_bytes n x ++ after) in
@@ -46,7 +46,7 @@ number-back before n x after fits =
 udp_seen : (place : Place) (ends : Ends) (octets payload : List ℕ) (all : ℕ) → source_port octets ≡ 6696 → destination_port octets ≡ 6696 → may_send ends.sender ≡ true
     → udp_len octets ≡ 8 + length payload
     → 8 + length payload ≤ length octets → 8 + length payload ≤ all → take (length payload) (drop 8 octets) ≡ payload
-    → udp_sight place ends false false octets all ≡ datagram place ends (carries payload)
+    → udp_sight place ends false octets all ≡ datagram place ends (carries payload)
 unfolding udp_sight
 udp_seen place ends octets payload all source destination may len kept there carried =
     let count : udp_len octets - 8 ≡ length payload = omega arith in
@@ -77,8 +77,8 @@ at_destination udp rest is =
 at_len : (udp : UdpDatagram) (rest : List ℕ) → IsBabel udp → udp_len (header_before udp rest) ≡ udp_size udp
 at_len udp rest is = number-back (big_bytes 2 udp.source ++ big_bytes 2 udp.destination) 2 (udp_size udp) (big_bytes 2 udp.checksum ++ rest) is.len_fits
 
-udp_laid_out : (place : Place) (ends : Ends) (udp : UdpDatagram) (rest : List ℕ) (all : ℕ) → IsBabel udp → may_send ends.sender ≡ true → udp_size udp ≤ all
-    → udp_sight place ends false false (udp_octets udp ++ rest) all ≡ datagram place ends (carries udp.payload)
+pub udp_laid_out : (place : Place) (ends : Ends) (udp : UdpDatagram) (rest : List ℕ) (all : ℕ) → IsBabel udp → may_send ends.sender ≡ true → udp_size udp ≤ all
+    → udp_sight place ends false (udp_octets udp ++ rest) all ≡ datagram place ends (carries udp.payload)
 udp_laid_out place ends udp rest all is may there =
     let behind = udp.payload ++ rest in
     udp_seen place ends (udp_octets udp ++ rest) udp.payload all (at_source udp behind is) (at_destination udp behind is) may (at_len udp behind is)
@@ -87,7 +87,7 @@ udp_laid_out place ends udp rest all is may there =
 -- a part of it, ports within
 udp_snapped : (place : Place) (ends : Ends) (octets : List ℕ) (size all : ℕ) → source_port octets ≡ 6696 → destination_port octets ≡ 6696 → may_send ends.sender ≡ true → 4 ≤ length octets
     → 8 ≤ size
-    → length octets < size → size ≤ all → (6 ≤ length octets → udp_len octets ≡ size) → udp_sight place ends false false octets all ≡ datagram place ends (lacking lacks.Snapped)
+    → length octets < size → size ≤ all → (6 ≤ length octets → udp_len octets ≡ size) → udp_sight place ends false octets all ≡ datagram place ends (lacking lacks.Snapped)
 unfolding udp_sight
 udp_snapped place ends octets size all source destination may some header less there len =
     let ports : nat_lt all 4 ≡ false = grind (arith, nat_tests) in
@@ -99,32 +99,20 @@ udp_snapped place ends octets size all source destination may some header less t
     by_field (nat_lt (length octets) 6) refl ports ports_kept field fits long cut
   where
     by_field : (short : Bool) → nat_lt (length octets) 6 ≡ short → nat_lt all 4 ≡ false → nat_lt (length octets) 4 ≡ false → nat_lt all 6 ≡ false → nat_lt all size ≡ false → nat_lt size 8 ≡ false
-        → nat_lt (length octets) size ≡ true → udp_sight place ends false false octets all ≡ datagram place ends (lacking lacks.Snapped)
+        → nat_lt (length octets) size ≡ true → udp_sight place ends false octets all ≡ datagram place ends (lacking lacks.Snapped)
     by_field true kept ports ports_kept field fits long cut = rw (ports, ports_kept, source, destination, may, field, kept) refl
     by_field false kept ports ports_kept field fits long cut =
         (let said : udp_len octets ≡ size = len (grind (arith, nat_tests)) in
         rw (ports, ports_kept, source, destination, may, field, kept, said, fits, long, cut) refl)
 
 udp_cut : (place : Place) (ends : Ends) (udp : UdpDatagram) (n all : ℕ) → IsBabel udp → may_send ends.sender ≡ true → 4 ≤ n → n < udp_size udp → udp_size udp ≤ all
-    → udp_sight place ends false false (take n (udp_octets udp)) all ≡ datagram place ends (lacking lacks.Snapped)
+    → udp_sight place ends false (take n (udp_octets udp)) all ≡ datagram place ends (lacking lacks.Snapped)
 udp_cut place ends udp n all is may some less there =
     let octets = udp_octets udp in
     let count : length (take n octets) ≡ n = length-take-le n octets (omega arith) in
     udp_snapped place ends (take n octets) (udp_size udp) all (number-kept 0 2 n octets (omega arith) ∙ at_source udp udp.payload is)
     (number-kept 2 2 n octets (omega arith) ∙ at_destination udp udp.payload is) may
     (omega arith) (omega arith) (omega arith) there (λ (long : 6 ≤ length (take n octets)). number-kept 4 2 n octets (omega arith) ∙ at_len udp udp.payload is)
-
--- a first fragment
-udp_fragment : (place : Place) (ends : Ends) (rest : List ℕ) (all : ℕ) → may_send ends.sender ≡ true → 4 ≤ all
-    → udp_sight place ends true false (ports ++ rest) all ≡ datagram place ends (lacking lacks.Fragment)
-unfolding udp_sight
-udp_fragment place ends rest all may there =
-    let octets = ports ++ rest in
-    let source : source_port octets ≡ 6696 = number-back [] 2 6696 (big_bytes 2 6696 ++ rest) (omega arith) in
-    let destination : destination_port octets ≡ 6696 = number-back (big_bytes 2 6696) 2 6696 rest (omega arith) in
-    let enough : nat_lt all 4 ≡ false = grind (arith, nat_tests) in
-    let kept : nat_lt (length octets) 4 ≡ false = grind (arith, nat_tests) in
-    rw (enough, kept, source, destination, may) refl
 
 -- ---- extension headers
 
@@ -145,16 +133,16 @@ unfolding past_headers
 past-first_header zero header = refl
 past-first_header (suc n) header = ap past_header (past-first_header n header)
 
-abbrev header_of : ℕ → Bool → List ℕ → ℕ → NextHeader
-header_of number flag octets all = record { number = number; is_fragment = flag; octets = octets; whole = all }
+abbrev pub header_of : ℕ → List ℕ → ℕ → NextHeader
+header_of number octets all = record { number = number; octets = octets; whole = all }
 
 has_len_of : (number : ℕ) → Contains (0 ∷ 43 ∷ 60 ∷ []) number → has_len number ≡ true
 has_len_of number one = grind (arith, nat_tests, one)
 
-past_options : (flag : Bool) (number units next : ℕ) (more rest : List ℕ) (all : ℕ) → Contains (0 ∷ 43 ∷ 60 ∷ []) number → length more ≡ 6 + 8 * units
-    → past_header (header_of number flag (next ∷ units ∷ (more ++ rest)) all) ≡ header_of next flag rest (all - (2 + length more))
+past_options : (number units next : ℕ) (more rest : List ℕ) (all : ℕ) → Contains (0 ∷ 43 ∷ 60 ∷ []) number → length more ≡ 6 + 8 * units
+    → past_header (header_of number (next ∷ units ∷ (more ++ rest)) all) ≡ header_of next rest (all - (2 + length more))
 unfolding past_header
-past_options flag number units next more rest all one sized =
+past_options number units next more rest all one sized =
     let octets = next ∷ units ∷ (more ++ rest) in
     let has = has_len_of number one in
     let long : nat_lt (length octets) 2 ≡ false = grind (arith, nat_tests) in
@@ -162,17 +150,17 @@ past_options flag number units next more rest all one sized =
     let at_rest : drop (2 + length more) octets ≡ rest = drop_at (next ∷ units ∷ more) rest (2 + length more) (omega arith) in
     rw (has, long, front, at_rest) refl
 
-past_fragment : (flag more : Bool) (bits reserved next : ℕ) (id rest : List ℕ) (all : ℕ) → bits < 2 ^ 16 → (bit_and bits 0xfff8 == 0) ≡ true → not (bit_and bits 0x0001 == 0) ≡ more → length id ≡ 4
-    → past_header (header_of 44 flag (next ∷ reserved ∷ (big_bytes 2 bits ++ (id ++ rest))) all) ≡ header_of next (flag || more) rest (all - 8)
+past_fragment : (bits reserved next : ℕ) (id rest : List ℕ) (all : ℕ) → bits < 2 ^ 16 → (bit_and bits 0xfff8 == 0) ≡ true → not (bit_and bits 0x0001 == 0) ≡ false → length id ≡ 4
+    → past_header (header_of 44 (next ∷ reserved ∷ (big_bytes 2 bits ++ (id ++ rest))) all) ≡ header_of next rest (all - 8)
 unfolding past_header
-past_fragment flag more bits reserved next id rest all fits offset flags sized =
+past_fragment bits reserved next id rest all fits offset last sized =
     let front = next ∷ reserved ∷ (big_bytes 2 bits ++ id) in
     let octets = next ∷ reserved ∷ (big_bytes 2 bits ++ (id ++ rest)) in
     let long : nat_lt (length octets) 4 ≡ false = grind (arith, nat_tests) in
     let at_bits : network_number 2 2 octets ≡ bits = number-back (next ∷ reserved ∷ []) 2 bits (id ++ rest) fits in
     let eight : length front ≡ 8 = omega (arith, sized) in
     let at_rest : drop 8 octets ≡ rest = drop_at front rest 8 eight in
-    rw (long, at_bits, offset, flags, at_rest) refl
+    rw (long, at_bits, offset, last, at_rest) refl
 
 -- the offset and the flag of a fragment header
 offset_in : (bits flag : ℕ) → bits < 2 ^ 2 → flag < 2 → (bit_and (2 * bits + flag) 0xfff8 == 0) ≡ true
@@ -185,104 +173,76 @@ last_in bits =
     let none : bit_and (2 * bits + 0) 0x0001 ≡ 0 = and_mask (2 * bits + 0) 1 ∙ omega arith in
     rw none refl
 
-more_in : (bits : ℕ) → not (bit_and (2 * bits + 1) 0x0001 == 0) ≡ true
-more_in bits =
-    let one : bit_and (2 * bits + 1) 0x0001 ≡ 1 = and_mask (2 * bits + 1) 1 ∙ omega arith in
-    rw one refl
-
-or_false : (flag : Bool) → (flag || false) ≡ flag
-or_false true = refl
-or_false false = refl
-
-past_extension : (flag : Bool) (header : Extension) (next : ℕ) (rest : List ℕ) (all : ℕ) → IsExtension header
-    → past_header (header_of header.number flag (next ∷ (header.holds ++ rest)) all) ≡ header_of next flag rest (all - (1 + length header.holds))
-past_extension flag header next rest all (inl is) =
+past_extension : (header : Extension) (next : ℕ) (rest : List ℕ) (all : ℕ) → IsExtension header
+    → past_header (header_of header.number (next ∷ (header.holds ++ rest)) all) ≡ header_of next rest (all - (1 + length header.holds))
+past_extension header next rest all (inl is) =
     let count : length header.holds ≡ 1 + length is.more = ap length is.is_held ∙ omega arith in
     let same : all - (2 + length is.more) ≡ all - (1 + length header.holds) = omega arith in
-    ap (λ (holds : List ℕ). past_header (header_of header.number flag (next ∷ (holds ++ rest)) all)) is.is_held
-    ∙ past_options flag header.number is.units next is.more rest all is.is_number is.sized ∙ ap (header_of next flag rest) same
-past_extension flag header next rest all (inr is) =
+    ap (λ (holds : List ℕ). past_header (header_of header.number (next ∷ (holds ++ rest)) all)) is.is_held
+    ∙ past_options header.number is.units next is.more rest all is.is_number is.sized ∙ ap (header_of next rest) same
+past_extension header next rest all (inr is) =
     let count : length header.holds ≡ 7 = ap length is.is_held ∙ omega (arith, is.sized) in
     let same : all - 8 ≡ all - (1 + length header.holds) = omega arith in
-    ap (λ (number : ℕ). past_header (header_of number flag (next ∷ (header.holds ++ rest)) all)) is.is_number
-    ∙ ap (λ (holds : List ℕ). past_header (header_of 44 flag (next ∷ (holds ++ rest)) all)) is.is_held
-    ∙ past_fragment flag false (2 * is.bits + 0) is.reserved next is.id rest all (omega (arith, is.bits_fit)) (offset_in is.bits 0 is.bits_fit (omega arith)) (last_in is.bits) is.sized
-    ∙ ap (λ (f : Bool). header_of next f rest (all - 8)) (or_false flag) ∙ ap (header_of next flag rest) same
-
-past_first : (header : Extension) (next : ℕ) (rest : List ℕ) (all : ℕ) → IsFragment 1 header
-    → past_header (header_of header.number false (next ∷ (header.holds ++ rest)) all) ≡ header_of next true rest (all - (1 + length header.holds))
-past_first header next rest all is =
-    let count : length header.holds ≡ 7 = ap length is.is_held ∙ omega (arith, is.sized) in
-    let same : all - 8 ≡ all - (1 + length header.holds) = omega arith in
-    ap (λ (number : ℕ). past_header (header_of number false (next ∷ (header.holds ++ rest)) all)) is.is_number
-    ∙ ap (λ (holds : List ℕ). past_header (header_of 44 false (next ∷ (holds ++ rest)) all)) is.is_held
-    ∙ past_fragment false true (2 * is.bits + 1) is.reserved next is.id rest all (omega (arith, is.bits_fit)) (offset_in is.bits 1 is.bits_fit (omega arith)) (more_in is.bits) is.sized
-    ∙ ap (header_of next true rest) same
+    ap (λ (number : ℕ). past_header (header_of number (next ∷ (header.holds ++ rest)) all)) is.is_number
+    ∙ ap (λ (holds : List ℕ). past_header (header_of 44 (next ∷ (holds ++ rest)) all)) is.is_held
+    ∙ past_fragment (2 * is.bits + 0) is.reserved next is.id rest all (omega (arith, is.bits_fit)) (offset_in is.bits 0 is.bits_fit (omega arith)) (last_in is.bits) is.sized
+    ∙ ap (header_of next rest) same
 
 -- headers before what comes after them
-abbrev headers_of : Bool → List Extension → List ℕ → ℕ → NextHeader
-headers_of flag headers rest all = header_of (first_number headers) flag (extensions headers ++ rest) all
+abbrev headers_of : List Extension → List ℕ → ℕ → NextHeader
+headers_of headers rest all = header_of (first_number headers) (extensions headers ++ rest) all
 
-extensions_first : (header : Extension) (headers : List Extension) (rest : List ℕ) → extensions (header ∷ headers) ++ rest ≡ first_number headers ∷ (header.holds ++ (extensions headers ++ rest))
-extensions_first header headers rest = ap (λ (more : List ℕ). first_number headers ∷ more) (append_assoc header.holds (extensions headers) rest)
+-- past the headers before what is of another number
+pub past-before : (headers : List Extension) (last n : ℕ) (rest : List ℕ) (all : ℕ) → length headers ≤ n → All IsExtension headers
+    → past_headers n (header_of (first_before headers last) (extensions_before headers last ++ rest) all)
+    ≡ past_headers (n - length headers) (header_of last rest (all - length (extensions_before headers last)))
+past-before [] last n rest all few are =
+    let count : n ≡ n - 0 = omega arith in
+    let left : all ≡ all - 0 = omega arith in
+    ap (λ (m : ℕ). past_headers m (header_of last rest all)) count ∙ ap (λ (m : ℕ). past_headers (n - 0) (header_of last rest m)) left
+past-before (header ∷ headers) last zero rest all few are = absurd (omega arith)
+past-before (header ∷ headers) last (suc n) rest all few are =
+    let inner = extensions_before headers last in
+    let long : length (extensions_before (header ∷ headers) last) ≡ 1 + length header.holds + length inner = omega (arith, length-append header.holds inner) in
+    let less : suc n - length (header ∷ headers) ≡ n - length headers = omega arith in
+    let left : all - (1 + length header.holds) - length inner ≡ all - length (extensions_before (header ∷ headers) last) = omega (arith, long) in
+    past-first_header n (header_of header.number (extensions_before (header ∷ headers) last ++ rest) all)
+    ∙ ap (λ (octets : List ℕ). past_headers n (past_header (header_of header.number octets all))) (ap (λ (more : List ℕ). first_before headers last ∷ more) (append_assoc header.holds inner rest))
+    ∙ ap (past_headers n) (past_extension header (first_before headers last) (inner ++ rest) all (All-head IsExtension header headers are))
+    ∙ past-before headers last n rest (all - (1 + length header.holds)) (omega arith) (All-tail IsExtension header headers are)
+    ∙ ap (λ (m : ℕ). past_headers (n - length headers) (header_of last rest m)) left
+    ∙ ap (λ (m : ℕ). past_headers m (header_of last rest (all - length (extensions_before (header ∷ headers) last)))) (sym less)
 
-long_first : (header : Extension) (headers : List Extension) → length (extensions (header ∷ headers)) ≡ 1 + length header.holds + length (extensions headers)
-long_first header headers = omega (arith, length-append header.holds (extensions headers))
-
-past-extensions : (flag : Bool) (headers : List Extension) (n : ℕ) (rest : List ℕ) (all : ℕ) → length headers ≤ n → All IsExtension headers
-    → past_headers n (headers_of flag headers rest all) ≡ header_of 17 flag rest (all - length (extensions headers))
-past-extensions flag [] n rest all few are = past-udp n (header_of 17 flag rest all) refl ∙ ap (header_of 17 flag rest) (omega arith)
-past-extensions flag (header ∷ headers) zero rest all few are = absurd (omega arith)
-past-extensions flag (header ∷ headers) (suc n) rest all few are =
-    past-first_header n (headers_of flag (header ∷ headers) rest all)
-    ∙ ap (λ (octets : List ℕ). past_headers n (past_header (header_of header.number flag octets all))) (extensions_first header headers rest)
-    ∙ ap (past_headers n) (past_extension flag header (first_number headers) (extensions headers ++ rest) all (All-head IsExtension header headers are))
-    ∙ past-extensions flag headers n rest (all - (1 + length header.holds)) (omega arith) (All-tail IsExtension header headers are)
-    ∙ ap (header_of 17 flag rest) (omega (arith, long_first header headers))
-
-past-fragment : (front back : List Extension) (fragment : Extension) (n : ℕ) (rest : List ℕ) (all : ℕ) → length front + length back < n → All IsExtension front → IsFragment 1 fragment
-    → All IsExtension back
-    → past_headers n (headers_of false (front ++ fragment ∷ back) rest all) ≡ header_of 17 true rest (all - length (extensions (front ++ fragment ∷ back)))
-past-fragment front back fragment zero rest all few are is are_back = absurd (omega arith)
-past-fragment [] back fragment (suc n) rest all few are is are_back =
-    past-first_header n (headers_of false (fragment ∷ back) rest all)
-    ∙ ap (λ (octets : List ℕ). past_headers n (past_header (header_of fragment.number false octets all))) (extensions_first fragment back rest)
-    ∙ ap (past_headers n) (past_first fragment (first_number back) (extensions back ++ rest) all is)
-    ∙ past-extensions true back n rest (all - (1 + length fragment.holds)) (omega arith) are_back
-    ∙ ap (header_of 17 true rest) (omega (arith, long_first fragment back))
-past-fragment (header ∷ front) back fragment (suc n) rest all few are is are_back =
-    let headers = front ++ fragment ∷ back in
-    past-first_header n (headers_of false (header ∷ headers) rest all)
-    ∙ ap (λ (octets : List ℕ). past_headers n (past_header (header_of header.number false octets all))) (extensions_first header headers rest)
-    ∙ ap (past_headers n) (past_extension false header (first_number headers) (extensions headers ++ rest) all (All-head IsExtension header front are))
-    ∙ past-fragment front back fragment n rest (all - (1 + length header.holds)) (omega arith) (All-tail IsExtension header front are) is are_back
-    ∙ ap (header_of 17 true rest) (omega (arith, long_first header headers))
+past-extensions : (headers : List Extension) (n : ℕ) (rest : List ℕ) (all : ℕ) → length headers ≤ n → All IsExtension headers
+    → past_headers n (headers_of headers rest all) ≡ header_of 17 rest (all - length (extensions headers))
+past-extensions headers n rest all few are =
+    past-before headers 17 n rest all few are ∙ past-udp (n - length headers) (header_of 17 rest (all - length (extensions headers))) refl
 
 -- ---- IPv6
 
-ipv6_seen : (place : Place) (octets inner carried : List ℕ) (number total len all : ℕ) (ends : Ends) (flag : Bool) → 40 ≤ length octets → ip_version octets ≡ 6 → payload_len octets ≡ total
+ipv6_seen : (place : Place) (octets inner carried : List ℕ) (number total len all : ℕ) (ends : Ends) → 40 ≤ length octets → ip_version octets ≡ 6 → payload_len octets ≡ total
     → slice_index octets 6 ≡ number → ipv6_ends octets ≡ ends → 40 + total ≤ all → take total (drop 40 octets) ≡ inner
-    → past_headers 8 (header_of number false inner total) ≡ header_of 17 flag carried len
-    → ipv6_sight place octets all ≡ udp_sight place ends flag false carried len
+    → past_headers 8 (header_of number inner total) ≡ header_of 17 carried len
+    → ipv6_sight place octets all ≡ udp_sight place ends false carried len
 unfolding ipv6_sight
-ipv6_seen place octets inner carried number total len all ends flag long version said first from there kept past =
-    let upper : past_headers 8 (first_header octets) ≡ header_of 17 flag carried len = rw (said, kept, first) past in
+ipv6_seen place octets inner carried number total len all ends long version said first from there kept past =
+    let upper : past_headers 8 (first_header octets) ≡ header_of 17 carried len = rw (said, kept, first) past in
     let some : nat_lt (length octets) 1 ≡ false = grind (arith, nat_tests) in
     let is_ip : not (ip_version octets == 6) ≡ false = rw version refl in
     let next : nat_lt (length octets) 7 ≡ false = grind (arith, nat_tests) in
     let header_kept : nat_lt (length octets) 40 ≡ false = grind (arith, nat_tests) in
     let fits : nat_lt all (40 + total) ≡ false = grind (arith, nat_tests) in
-    rw (some, is_ip, next, upper, header_kept, said, fits) (ap (λ (e : Ends). udp_sight place e flag false carried len) from)
+    rw (some, is_ip, next, upper, header_kept, said, fits) (ap (λ (e : Ends). udp_sight place e false carried len) from)
 
-ipv6_version : (ip : Ipv6Header) (len number : ℕ) (tail : List ℕ) → ip.class < 2 ^ 4 → ip_version (ipv6_header ip len number ++ tail) ≡ 6
+pub ipv6_version : (ip : Ipv6Header) (len number : ℕ) (tail : List ℕ) → ip.class < 2 ^ 4 → ip_version (ipv6_header ip len number ++ tail) ≡ 6
 ipv6_version ip len number tail fits = let class = ip.class in omega arith
 
 -- a packet that says `len` octets after these headers
-ipv6_laid_out : (place : Place) (ip : Ipv6Header) (headers : List Extension) (tail : List ℕ) (len all : ℕ) (flag : Bool) → IsIpv6 ip (length (extensions headers) + len)
-    → past_headers 8 (headers_of false headers (take len tail) (length (extensions headers) + len)) ≡ header_of 17 flag (take len tail) len → 40 + (length (extensions headers) + len) ≤ all
+ipv6_laid_out : (place : Place) (ip : Ipv6Header) (headers : List Extension) (tail : List ℕ) (len all : ℕ) → IsIpv6 ip (length (extensions headers) + len)
+    → past_headers 8 (headers_of headers (take len tail) (length (extensions headers) + len)) ≡ header_of 17 (take len tail) len → 40 + (length (extensions headers) + len) ≤ all
     → ipv6_sight place (ipv6_header ip (length (extensions headers) + len) (first_number headers) ++ (extensions headers ++ tail)) all
-    ≡ udp_sight place (ends6 ip) flag false (take len tail) len
-ipv6_laid_out place ip headers tail len all flag fits past there =
+    ≡ udp_sight place (ends6 ip) false (take len tail) len
+ipv6_laid_out place ip headers tail len all fits past there =
     let inner = extensions headers in
     let total = length inner + len in
     let number = first_number headers in
@@ -294,39 +254,35 @@ ipv6_laid_out place ip headers tail len all flag fits past there =
     let to_sender = front ++ big_bytes 2 total ++ number ∷ ip.hop_limit ∷ [] in
     let at_sender : network_number 8 16 octets ≡ ip.sender = number-back to_sender 16 ip.sender behind fits.sender_fits in
     let at_destination : network_number 24 16 octets ≡ ip.destination = number-back (to_sender ++ big_bytes 16 ip.sender) 16 ip.destination (inner ++ tail) fits.destination_fits in
-    ipv6_seen place octets (inner ++ take len tail) (take len tail) number total len all (ends6 ip) flag (omega arith)
+    ipv6_seen place octets (inner ++ take len tail) (take len tail) number total len all (ends6 ip) (omega arith)
     (ipv6_version ip total number (inner ++ tail) fits.class_fits) at_total refl (rw (at_sender, at_destination) refl) there
     (take-append-add inner tail len) past
 
 -- ---- IPv4
 
-ipv4_seen : (place : Place) (octets carried : List ℕ) (header len all : ℕ) (ends : Ends) (more : Bool) → 20 ≤ length octets → ip_version octets ≡ 4
-    → ipv4_header_len octets ≡ header → 20 ≤ header → 4 ≤ len → total_len octets ≡ header + len → header + len ≤ all
-    → (carries_udp octets ≡ true) × (is_later_fragment octets ≡ false) → has_more_fragments octets ≡ more → ipv4_ends octets ≡ ends
+ipv4_seen : (place : Place) (octets carried : List ℕ) (header len all : ℕ) (ends : Ends) → 20 ≤ length octets → ip_version octets ≡ 4
+    → ipv4_header_len octets ≡ header → 20 ≤ header → total_len octets ≡ header + len → header + len ≤ all
+    → carries_udp octets ≡ true → is_fragment octets ≡ false → ipv4_ends octets ≡ ends
     → drop header (take (header + len) octets) ≡ carried
-    → ipv4_sight place octets all ≡ udp_sight place ends more false carried len
+    → ipv4_sight place octets all ≡ udp_sight place ends false carried len
 unfolding ipv4_sight
-ipv4_seen place octets carried header len all ends more long version at_header some_header some_carried at_total there first last from kept =
+ipv4_seen place octets carried header len all ends long version at_header some_header at_total there of_udp whole from kept =
     let total = header + len in
     let some : nat_lt (length octets) 1 ≡ false = grind (arith, nat_tests) in
     let is_ip : not (ip_version octets == 4) ≡ false = rw version refl in
     let header_fits : nat_lt header 20 ≡ false = grind (arith, nat_tests) in
-    let told : nat_lt (length octets) 4 ≡ false = grind (arith, nat_tests) in
-    let ports : nat_lt total (header + 4) ≡ false = grind (arith, nat_tests) in
-    let flags_kept : nat_lt (length octets) 8 ≡ false = grind (arith, nat_tests) in
     let protocol_kept : nat_lt (length octets) 10 ≡ false = grind (arith, nat_tests) in
     let header_kept : nat_lt (length octets) 20 ≡ false = grind (arith, nat_tests) in
     let fits : nat_lt all total ≡ false = grind (arith, nat_tests) in
-    let is_first = first.1 in
-    let udp : not (carries_udp octets) ≡ false = rw first.0 refl in
+    let udp : not (carries_udp octets) ≡ false = rw of_udp refl in
     let count : total - header ≡ len = omega arith in
-    rw (some, is_ip, at_header, header_fits, told, at_total, ports, flags_kept, is_first, protocol_kept, udp, header_kept, fits, last, kept, count) (ap (λ (e : Ends). udp_sight place e more false carried len) from)
+    rw (some, is_ip, at_header, header_fits, protocol_kept, udp, header_kept, whole, at_total, fits, kept, count) (ap (λ (e : Ends). udp_sight place e false carried len) from)
 
 -- what the flags of IPv4 say
 flags_fit : (flag flags : ℕ) → flag < 2 → HasFlags flag flags → flags < 2 ^ 16
 flags_fit flag flags low has = omega (arith, has.bits_fit, has.are_flags)
 
-offset_of : (flag flags : ℕ) → HasFlags flag flags → not (bit_and flags 0x1fff == 0) ≡ false
+offset_of : (flag flags : ℕ) → HasFlags flag flags → not (8 * bit_and flags 0x1fff == 0) ≡ false
 offset_of flag flags has =
     let none : bit_and flags 0x1fff ≡ 0 = and_mask flags 13 ∙ omega (arith, has.are_flags) in
     rw none refl
@@ -336,22 +292,16 @@ last_of flags has =
     let none : bit_and flags 0x2000 ≡ 0 = and_pow flags 13 ∙ omega (arith, has.are_flags) in
     rw none refl
 
-more_of : (flags : ℕ) → HasFlags 1 flags → not (bit_and flags 0x2000 == 0) ≡ true
-more_of flags has =
-    let one : bit_and flags 0x2000 ≡ 0x2000 = and_pow flags 13 ∙ omega (arith, has.are_flags) in
-    rw one refl
-
-words_of : (words : ℕ) → words ≤ 10 → bit_and (4 * 2 ^ 4 + (5 + words)) 15 ≡ 5 + words
+pub words_of : (words : ℕ) → words ≤ 10 → bit_and (4 * 2 ^ 4 + (5 + words)) 15 ≡ 5 + words
 words_of words few = and_mask (4 * 2 ^ 4 + (5 + words)) 4 ∙ omega arith
 
-ipv4_version : (ip : Ipv4Header) (len : ℕ) (tail : List ℕ) → ip.words ≤ 10 → ip_version (ipv4_header ip len ++ tail) ≡ 4
+pub ipv4_version : (ip : Ipv4Header) (len : ℕ) (tail : List ℕ) → ip.words ≤ 10 → ip_version (ipv4_header ip len ++ tail) ≡ 4
 ipv4_version ip len tail few = let words = ip.words in omega arith
 
 -- a packet that says `len` octets after its header
-ipv4_laid_out : (place : Place) (ip : Ipv4Header) (tail : List ℕ) (len all : ℕ) (more : Bool) → IsIpv4 ip len → 4 ≤ len → 20 + 4 * ip.words + len ≤ all → ip.flags < 2 ^ 16
-    → not (bit_and ip.flags 0x1fff == 0) ≡ false → not (bit_and ip.flags 0x2000 == 0) ≡ more
-    → ipv4_sight place (ipv4_header ip len ++ tail) all ≡ udp_sight place (ends4 ip) more false (take len tail) len
-ipv4_laid_out place ip tail len all more fits some there flags offset flag =
+ipv4_laid_out : (place : Place) (ip : Ipv4Header) (tail : List ℕ) (len all : ℕ) → IsIpv4 ip len → 20 + 4 * ip.words + len ≤ all → HasFlags 0 ip.flags
+    → ipv4_sight place (ipv4_header ip len ++ tail) all ≡ udp_sight place (ends4 ip) false (take len tail) len
+ipv4_laid_out place ip tail len all fits there none =
     let front = ipv4_header ip len in
     let octets = front ++ tail in
     let words = ip.words in
@@ -366,39 +316,38 @@ ipv4_laid_out place ip tail len all more fits some there flags offset flag =
     let at_total : total_len octets ≡ total = number-back start 2 total (big_bytes 2 ip.id ++ big_bytes 2 ip.flags ++ ip.ttl ∷ 17 ∷ big_bytes 2 ip.checksum
     ++ big_bytes 4 ip.sender ++ big_bytes 4 ip.destination ++ behind) fits.len_fits in
     let at_flags : network_number 6 2 octets ≡ ip.flags = number-back to_flags 2 ip.flags (ip.ttl ∷ 17 ∷ big_bytes 2 ip.checksum
-    ++ big_bytes 4 ip.sender ++ big_bytes 4 ip.destination ++ behind) flags in
+    ++ big_bytes 4 ip.sender ++ big_bytes 4 ip.destination ++ behind) (flags_fit 0 ip.flags (omega arith) none) in
     let at_sender : network_number 12 4 octets ≡ ip.sender = number-back to_sender 4 ip.sender (big_bytes 4 ip.destination ++ behind) fits.sender_fits in
     let at_destination : network_number 16 4 octets ≡ ip.destination = number-back (to_sender ++ big_bytes 4 ip.sender) 4 ip.destination behind fits.destination_fits in
-    let is_first : is_later_fragment octets ≡ false = rw at_flags offset in
-    let is_last : has_more_fragments octets ≡ more = rw at_flags flag in
+    let is_whole : is_fragment octets ≡ false = rw (at_flags, offset_of 0 ip.flags none, last_of ip.flags none) refl in
     let front_len : length front ≡ header = omega (arith, fits.options_len) in
     let taken : take total octets ≡ front ++ take len tail = ap (λ (n : ℕ). take (n + len) octets) (sym front_len) ∙ take-append-add front tail len in
     let kept : drop header (take total octets) ≡ take len tail =
     ap (drop header) taken ∙ ap (λ (n : ℕ). drop n (front ++ take len tail)) (sym front_len) ∙ drop-append_seam front (take len tail) in
-    ipv4_seen place octets (take len tail) header len all (ends4 ip) more (omega arith) (ipv4_version ip len tail few) at_header (omega arith) some at_total there
-    (refl, is_first) is_last (rw (at_sender, at_destination) refl) kept
+    ipv4_seen place octets (take len tail) header len all (ends4 ip) (omega arith) (ipv4_version ip len tail few) at_header (omega arith) at_total there refl is_whole
+    (rw (at_sender, at_destination) refl) kept
 
 -- ---- IP packets
 
 -- the octets begin a packet of the version that the EtherType says
-abbrev BeginsIp : ℕ → List ℕ → Type 0
+abbrev pub BeginsIp : ℕ → List ℕ → Type 0
 BeginsIp ether_type octets = ((ether_type ≡ 0x0800) × (ip_version octets ≡ 4)) ⊎ ((ether_type ≡ 0x86dd) × (ip_version octets ≡ 6))
 
-abbrev ip_at : Place → ℕ → List ℕ → ℕ → Sight
+abbrev pub ip_at : Place → ℕ → List ℕ → ℕ → Sight
 ip_at place ether_type octets all = ip_sight place (record { ether_type = ether_type; vlans = no_vlans; octets = octets; whole = all })
 
 -- after an EtherType these octets are seen so
-abbrev SeenIn : Place → ℕ → List ℕ → ℕ → Sight → Type 0
+abbrev pub SeenIn : Place → ℕ → List ℕ → ℕ → Sight → Type 0
 SeenIn place ether_type octets all sight = (1 ≤ length octets) × BeginsIp ether_type octets × (ip_at place ether_type octets all ≡ sight)
 
-over_ipv4 : (place : Place) (ether_type : ℕ) (ip : Ipv4Header) (len all : ℕ) (tail octets : List ℕ) (sight : Sight) → ether_type ≡ 0x0800 → ip.words ≤ 10 → octets ≡ ipv4_header ip len ++ tail
+pub over_ipv4 : (place : Place) (ether_type : ℕ) (ip : Ipv4Header) (len all : ℕ) (tail octets : List ℕ) (sight : Sight) → ether_type ≡ 0x0800 → ip.words ≤ 10 → octets ≡ ipv4_header ip len ++ tail
     → ipv4_sight place (ipv4_header ip len ++ tail) all ≡ sight → SeenIn place ether_type octets all sight
 over_ipv4 place ether_type ip len all tail octets sight type few laid seen =
     let long : 1 ≤ length octets = rw laid (omega arith) in
     let same : ip_at place ether_type octets all ≡ sight = rw (type, laid) seen in
     (long, inl (type, ap ip_version laid ∙ ipv4_version ip len tail few), same)
 
-over_ipv6 : (place : Place) (ether_type : ℕ) (ip : Ipv6Header) (len number all : ℕ) (tail octets : List ℕ) (sight : Sight) → ether_type ≡ 0x86dd → ip.class < 2 ^ 4
+pub over_ipv6 : (place : Place) (ether_type : ℕ) (ip : Ipv6Header) (len number all : ℕ) (tail octets : List ℕ) (sight : Sight) → ether_type ≡ 0x86dd → ip.class < 2 ^ 4
     → octets ≡ ipv6_header ip len number ++ tail
     → ipv6_sight place (ipv6_header ip len number ++ tail) all ≡ sight → SeenIn place ether_type octets all sight
 over_ipv6 place ether_type ip len number all tail octets sight type few laid seen =
@@ -410,43 +359,41 @@ over_ipv6 place ether_type ip len number all tail octets sight type few laid see
 ipv4_long : (ip : Ipv4Header) (carried : List ℕ) (more : ℕ) → length ip.options ≡ 4 * ip.words → length (ipv4_octets ip carried more) ≡ 20 + 4 * ip.words + length carried
 ipv4_long ip carried more sized = omega (arith, length-append ip.options carried, sized)
 
-whole_over_ipv4 : (place : Place) (ether_type : ℕ) (ip : Ipv4Header) (carried after : List ℕ) (more all : ℕ) (flag : Bool) (sight : Sight) → ether_type ≡ 0x0800
-    → IsIpv4 ip (length carried + more) → 4 ≤ length carried → length (ipv4_octets ip carried more) + more ≤ all → ip.flags < 2 ^ 16
-    → not (bit_and ip.flags 0x1fff == 0) ≡ false → not (bit_and ip.flags 0x2000 == 0) ≡ flag
-    → ((rest : List ℕ) → udp_sight place (ends4 ip) flag false (carried ++ rest) (length carried + more) ≡ sight)
+whole_over_ipv4 : (place : Place) (ether_type : ℕ) (ip : Ipv4Header) (carried after : List ℕ) (more all : ℕ) (sight : Sight) → ether_type ≡ 0x0800
+    → IsIpv4 ip (length carried + more) → length (ipv4_octets ip carried more) + more ≤ all → HasFlags 0 ip.flags
+    → ((rest : List ℕ) → udp_sight place (ends4 ip) false (carried ++ rest) (length carried + more) ≡ sight)
     → SeenIn place ether_type (ipv4_octets ip carried more ++ after) all sight
-whole_over_ipv4 place ether_type ip carried after more all flag sight type fits some there flags offset is_flag seen =
+whole_over_ipv4 place ether_type ip carried after more all sight type fits there none seen =
     let len = length carried + more in
     let kept : take len (carried ++ after) ≡ carried ++ take more after = take-append-add carried after more in
-    let laid = ipv4_laid_out place ip (carried ++ after) len all flag fits (omega arith) (omega (arith, ipv4_long ip carried more fits.options_len)) flags offset is_flag in
+    let laid = ipv4_laid_out place ip (carried ++ after) len all fits (omega (arith, ipv4_long ip carried more fits.options_len)) none in
     over_ipv4 place ether_type ip len all (carried ++ after) (ipv4_octets ip carried more ++ after) sight type fits.words_fit (append_assoc (ipv4_header ip len) carried after)
-    (laid ∙ ap (λ (c : List ℕ). udp_sight place (ends4 ip) flag false c len) kept ∙ seen (take more after))
+    (laid ∙ ap (λ (c : List ℕ). udp_sight place (ends4 ip) false c len) kept ∙ seen (take more after))
 
 cut_over_ipv4 : (place : Place) (ether_type : ℕ) (ip : Ipv4Header) (carried : List ℕ) (more n all : ℕ) (sight : Sight) → ether_type ≡ 0x0800 → IsIpv4 ip (length carried + more)
-    → 4 ≤ length carried → length (ipv4_octets ip carried more) + more ≤ all → HasFlags 0 ip.flags → n ≤ length carried
-    → udp_sight place (ends4 ip) false false (take n carried) (length carried + more) ≡ sight
+    → length (ipv4_octets ip carried more) + more ≤ all → HasFlags 0 ip.flags → n ≤ length carried
+    → udp_sight place (ends4 ip) false (take n carried) (length carried + more) ≡ sight
     → SeenIn place ether_type (take (20 + 4 * ip.words + n) (ipv4_octets ip carried more)) all sight
-cut_over_ipv4 place ether_type ip carried more n all sight type fits some there no_fragment less seen =
+cut_over_ipv4 place ether_type ip carried more n all sight type fits there no_fragment less seen =
     let len = length carried + more in
     let front = ipv4_header ip len in
     let front_len : length front ≡ 20 + 4 * ip.words = omega (arith, fits.options_len) in
     let part : take (20 + 4 * ip.words + n) (ipv4_octets ip carried more) ≡ front ++ take n carried = ap (λ (h : ℕ). take (h + n) (front ++ carried)) (sym front_len)
     ∙ take-append-add front carried n in
     let kept : take len (take n carried) ≡ take n carried = take_all len (take n carried) (omega (arith, length-take-le n carried less)) in
-    let laid = ipv4_laid_out place ip (take n carried) len all false fits (omega arith) (omega (arith, ipv4_long ip carried more fits.options_len)) (flags_fit 0 ip.flags (omega arith) no_fragment)
-    (offset_of 0 ip.flags no_fragment) (last_of ip.flags no_fragment) in
+    let laid = ipv4_laid_out place ip (take n carried) len all fits (omega (arith, ipv4_long ip carried more fits.options_len)) no_fragment in
     over_ipv4 place ether_type ip len all (take n carried) (take (20 + 4 * ip.words + n) (ipv4_octets ip carried more)) sight type fits.words_fit part
-    (laid ∙ ap (λ (c : List ℕ). udp_sight place (ends4 ip) false false c len) kept ∙ seen)
+    (laid ∙ ap (λ (c : List ℕ). udp_sight place (ends4 ip) false c len) kept ∙ seen)
 
 ipv6_long : (ip : Ipv6Header) (headers : List Extension) (carried : List ℕ) (more : ℕ) → length (ipv6_octets ip headers carried more) ≡ 40 + (length (extensions headers) + length carried)
 ipv6_long ip headers carried more = omega (arith, length-append (extensions headers) carried)
 
-whole_over_ipv6 : (place : Place) (ether_type : ℕ) (ip : Ipv6Header) (headers : List Extension) (carried after : List ℕ) (more all : ℕ) (flag : Bool) (sight : Sight) → ether_type ≡ 0x86dd
+whole_over_ipv6 : (place : Place) (ether_type : ℕ) (ip : Ipv6Header) (headers : List Extension) (carried after : List ℕ) (more all : ℕ) (sight : Sight) → ether_type ≡ 0x86dd
     → IsIpv6 ip (length (extensions headers) + (length carried + more)) → length (ipv6_octets ip headers carried more) + more ≤ all
-    → ((rest : List ℕ) (whole : ℕ) → past_headers 8 (headers_of false headers rest whole) ≡ header_of 17 flag rest (whole - length (extensions headers)))
-    → ((rest : List ℕ) → udp_sight place (ends6 ip) flag false (carried ++ rest) (length carried + more) ≡ sight)
+    → ((rest : List ℕ) (whole : ℕ) → past_headers 8 (headers_of headers rest whole) ≡ header_of 17 rest (whole - length (extensions headers)))
+    → ((rest : List ℕ) → udp_sight place (ends6 ip) false (carried ++ rest) (length carried + more) ≡ sight)
     → SeenIn place ether_type (ipv6_octets ip headers carried more ++ after) all sight
-whole_over_ipv6 place ether_type ip headers carried after more all flag sight type fits there past seen =
+whole_over_ipv6 place ether_type ip headers carried after more all sight type fits there past seen =
     let len = length carried + more in
     let inner = extensions headers in
     let total = length inner + len in
@@ -454,18 +401,18 @@ whole_over_ipv6 place ether_type ip headers carried after more all flag sight ty
     let tail = carried ++ after in
     let kept : take len tail ≡ carried ++ take more after = take-append-add carried after more in
     let left : total - length inner ≡ len = omega arith in
-    let passed : past_headers 8 (headers_of false headers (take len tail) total) ≡ header_of 17 flag (take len tail) len = past (take len tail) total ∙ ap
-    (header_of 17 flag (take len tail)) left in
-    let laid = ipv6_laid_out place ip headers tail len all flag fits passed (omega (arith, ipv6_long ip headers carried more)) in
+    let passed : past_headers 8 (headers_of headers (take len tail) total) ≡ header_of 17 (take len tail) len = past (take len tail) total ∙ ap
+    (header_of 17 (take len tail)) left in
+    let laid = ipv6_laid_out place ip headers tail len all fits passed (omega (arith, ipv6_long ip headers carried more)) in
     let octets_are : ipv6_octets ip headers carried more ++ after ≡ front ++ (inner ++ tail) = append_assoc front (inner ++ carried) after ∙ ap (λ (o : List ℕ). front ++ o)
     (append_assoc inner carried after) in
     over_ipv6 place ether_type ip total (first_number headers) all (inner ++ tail) (ipv6_octets ip headers carried more ++ after) sight type fits.class_fits octets_are
-    (laid ∙ ap (λ (c : List ℕ). udp_sight place (ends6 ip) flag false c len) kept ∙ seen (take more after))
+    (laid ∙ ap (λ (c : List ℕ). udp_sight place (ends6 ip) false c len) kept ∙ seen (take more after))
 
 cut_over_ipv6 : (place : Place) (ether_type : ℕ) (ip : Ipv6Header) (headers : List Extension) (carried : List ℕ) (more n all : ℕ) (sight : Sight) → ether_type ≡ 0x86dd
     → IsIpv6 ip (length (extensions headers) + (length carried + more)) → length (ipv6_octets ip headers carried more) + more ≤ all → length headers ≤ 8 → All IsExtension headers
     → n ≤ length carried
-    → udp_sight place (ends6 ip) false false (take n carried) (length carried + more) ≡ sight
+    → udp_sight place (ends6 ip) false (take n carried) (length carried + more) ≡ sight
     → SeenIn place ether_type (take (40 + (length (extensions headers) + n)) (ipv6_octets ip headers carried more)) all sight
 cut_over_ipv6 place ether_type ip headers carried more n all sight type fits there few are less seen =
     let len = length carried + more in
@@ -475,13 +422,13 @@ cut_over_ipv6 place ether_type ip headers carried more n all sight type fits the
     let tail = take n carried in
     let kept : take len tail ≡ tail = take_all len tail (omega (arith, length-take-le n carried less)) in
     let left : total - length inner ≡ len = omega arith in
-    let passed : past_headers 8 (headers_of false headers (take len tail) total) ≡ header_of 17 false (take len tail) len = past-extensions false headers 8 (take len tail) total few are ∙ ap
-    (header_of 17 false (take len tail)) left in
-    let laid = ipv6_laid_out place ip headers tail len all false fits passed (omega (arith, ipv6_long ip headers carried more)) in
+    let passed : past_headers 8 (headers_of headers (take len tail) total) ≡ header_of 17 (take len tail) len = past-extensions headers 8 (take len tail) total few are ∙ ap
+    (header_of 17 (take len tail)) left in
+    let laid = ipv6_laid_out place ip headers tail len all fits passed (omega (arith, ipv6_long ip headers carried more)) in
     let part : take (40 + (length inner + n)) (ipv6_octets ip headers carried more) ≡ front ++ (inner ++ tail) = take-append-add front (inner ++ carried) (length inner + n) ∙ ap
     (λ (o : List ℕ). front ++ o) (take-append-add inner carried n) in
     over_ipv6 place ether_type ip total (first_number headers) all (inner ++ tail) (take (40 + (length inner + n)) (ipv6_octets ip headers carried more)) sight type fits.class_fits part
-    (laid ∙ ap (λ (c : List ℕ). udp_sight place (ends6 ip) false false c len) kept ∙ seen)
+    (laid ∙ ap (λ (c : List ℕ). udp_sight place (ends6 ip) false c len) kept ∙ seen)
 
 -- ---- datagrams over either
 
@@ -492,17 +439,16 @@ whole_seen : (place : Place) (ether_type : ℕ) (ends : Ends) (udp : UdpDatagram
     → length packet + more ≤ all → SeenIn place ether_type (packet ++ after) all (datagram place ends (carries udp.payload))
 whole_seen place ether_type ends udp packet after more all babel (inl over) there =
     let ip = over.ip in
-    let none = over.no_fragment in
     rw (over.is_packet, over.are_ends)
-    (whole_over_ipv4 place ether_type ip (udp_octets udp) after more all false (datagram place (ends4 ip) (carries udp.payload)) over.is_type over.fits (omega arith)
-    (omega (arith, ap length over.is_packet)) (flags_fit 0 ip.flags (omega arith) none) (offset_of 0 ip.flags none) (last_of ip.flags none)
+    (whole_over_ipv4 place ether_type ip (udp_octets udp) after more all (datagram place (ends4 ip) (carries udp.payload)) over.is_type over.fits
+    (omega (arith, ap length over.is_packet)) over.no_fragment
     (λ (rest : List ℕ). udp_laid_out place (ends4 ip) udp rest (length (udp_octets udp) + more) babel refl (omega arith)))
 whole_seen place ether_type ends udp packet after more all babel (inr over) there =
     let ip = over.ip in
     rw (over.is_packet, over.are_ends)
-    (whole_over_ipv6 place ether_type ip over.headers (udp_octets udp) after more all false (datagram place (ends6 ip) (carries udp.payload)) over.is_type over.fits
+    (whole_over_ipv6 place ether_type ip over.headers (udp_octets udp) after more all (datagram place (ends6 ip) (carries udp.payload)) over.is_type over.fits
     (omega (arith, ap length over.is_packet))
-    (λ (rest : List ℕ) (whole : ℕ). past-extensions false over.headers 8 rest whole over.few over.are_headers)
+    (λ (rest : List ℕ) (whole : ℕ). past-extensions over.headers 8 rest whole over.few over.are_headers)
     (λ (rest : List ℕ). udp_laid_out place (ends6 ip) udp rest (length (udp_octets udp) + more) babel (local_may ip.sender over.fits.link_local) (omega arith)))
 
 cut_seen : (place : Place) (ether_type : ℕ) (ends : Ends) (udp : UdpDatagram) (packet : List ℕ) (more n all : ℕ) → IsBabel udp → IsOverIp ether_type ends udp packet more
@@ -514,7 +460,7 @@ cut_seen place ether_type ends udp packet more n all babel (inl over) some less 
     let count = ap length over.is_packet ∙ ipv4_long ip carried more over.fits.options_len in
     let m = n - (20 + 4 * ip.words) in
     let whole : n ≡ 20 + 4 * ip.words + m = omega arith in
-    let seen = cut_over_ipv4 place ether_type ip carried more m all (datagram place (ends4 ip) (lacking lacks.Snapped)) over.is_type over.fits (omega arith)
+    let seen = cut_over_ipv4 place ether_type ip carried more m all (datagram place (ends4 ip) (lacking lacks.Snapped)) over.is_type over.fits
     (omega (arith, ap length over.is_packet)) over.no_fragment (omega arith)
     (udp_cut place (ends4 ip) udp m (length carried + more) babel refl (omega arith) (omega arith) (omega arith)) in
     rw (over.is_packet, over.are_ends, whole) seen
@@ -529,28 +475,6 @@ cut_seen place ether_type ends udp packet more n all babel (inr over) some less 
     (omega (arith, ap length over.is_packet)) over.few over.are_headers (omega arith)
     (udp_cut place (ends6 ip) udp m (length carried + more) babel (local_may ip.sender over.fits.link_local) (omega arith) (omega arith) (omega arith)) in
     rw (over.is_packet, over.are_ends, whole) seen
-
-first_seen : (place : Place) (ether_type : ℕ) (ends : Ends) (packet after : List ℕ) (more all : ℕ) → IsFirstFragment ether_type ends packet more → length packet + more ≤ all
-    → SeenIn place ether_type (packet ++ after) all (datagram place ends (lacking lacks.Fragment))
-first_seen place ether_type ends packet after more all (inl is) there =
-    let ip = is.ip in
-    rw (is.is_packet, is.are_ends)
-    (whole_over_ipv4 place ether_type ip ports after more all true (datagram place (ends4 ip) (lacking lacks.Fragment)) is.is_type is.fits (omega arith)
-    (omega (arith, ap length is.is_packet)) (flags_fit 1 ip.flags (omega arith) is.is_first) (offset_of 1 ip.flags is.is_first) (more_of ip.flags is.is_first)
-    (λ (rest : List ℕ). udp_fragment place (ends4 ip) rest (length ports + more) refl (omega arith)))
-first_seen place ether_type ends packet after more all (inr is) there =
-    let ip = is.ip in
-    let few = is.few in
-    rw (is.is_packet, is.are_ends)
-    (whole_over_ipv6 place ether_type ip (is.front ++ is.fragment ∷ is.back) ports after more all true (datagram place (ends6 ip) (lacking lacks.Fragment)) is.is_type is.fits
-    (omega (arith, ap length is.is_packet))
-    (λ (rest : List ℕ) (whole : ℕ). past-fragment is.front is.back is.fragment 8 rest whole (omega arith) is.are_front is.is_fragment is.are_back)
-    (λ (rest : List ℕ). udp_fragment place (ends6 ip) rest (length ports + more) (local_may ip.sender is.fits.link_local) (omega arith)))
-
-babel_seen : (place : Place) (ether_type : ℕ) (ends : Ends) (packet after : List ℕ) (more : ℕ) (carried : Carried) (all : ℕ) → HasBabel ether_type ends packet more carried
-    → length packet + more ≤ all → SeenIn place ether_type (packet ++ after) all (datagram place ends carried)
-babel_seen place ether_type ends packet after more carried all (inl (udp, babel, over, is)) there = rw is (whole_seen place ether_type ends udp packet after more all babel over there)
-babel_seen place ether_type ends packet after more carried all (inr (first, is)) there = rw is (first_seen place ether_type ends packet after more all first there)
 
 -- ---- VLAN tags
 
@@ -768,7 +692,7 @@ raw_in interface ether_type place octets all sight is_place (long, inr (type, ve
     rw (kept, version) told
 
 -- an IP packet in a frame of each link type
-in_frame : (link : Link) (interface ether_type : ℕ) (place : Place) (header octets : List ℕ) (all : ℕ) (sight : Sight) → IsHeader link interface ether_type place header
+pub in_frame : (link : Link) (interface ether_type : ℕ) (place : Place) (header octets : List ℕ) (all : ℕ) (sight : Sight) → IsHeader link interface ether_type place header
     → SeenIn place ether_type octets (all - length header) sight
     → frame_sight interface link (header ++ octets) all ≡ sight
 unfolding frame_sight
@@ -790,12 +714,12 @@ in_frame links.RawIpv4 interface ether_type place header octets all sight (type,
 in_frame links.RawIpv6 interface ether_type place header octets all sight (type, is_place, none) (long, begins, seen) =
     rw none (at_own interface ether_type 0x86dd place octets all sight type is_place (ap (ip_at place ether_type octets) (omega (arith, ap length none)) ∙ seen))
 
-pub seen_in_frame : (link : Link) (interface ether_type : ℕ) (place : Place) (ends : Ends) (carried : Carried) (header packet after : List ℕ) (more all : ℕ)
-    → IsHeader link interface ether_type place header → HasBabel ether_type ends packet more carried → length header + (length packet + more) ≤ all
-    → frame_sight interface link (header ++ (packet ++ after)) all ≡ datagram place ends carried
-seen_in_frame link interface ether_type place ends carried header packet after more all is babel there =
-    in_frame link interface ether_type place header (packet ++ after) all (datagram place ends carried) is
-    (babel_seen place ether_type ends packet after more carried (all - length header) babel (omega arith))
+pub seen_in_frame : (link : Link) (interface ether_type : ℕ) (place : Place) (ends : Ends) (udp : UdpDatagram) (header packet after : List ℕ) (more all : ℕ)
+    → IsHeader link interface ether_type place header → IsBabel udp → IsOverIp ether_type ends udp packet more → length header + (length packet + more) ≤ all
+    → frame_sight interface link (header ++ (packet ++ after)) all ≡ datagram place ends (carries udp.payload)
+seen_in_frame link interface ether_type place ends udp header packet after more all is babel over there =
+    in_frame link interface ether_type place header (packet ++ after) all (datagram place ends (carries udp.payload)) is
+    (whole_seen place ether_type ends udp packet after more (all - length header) babel over (omega arith))
 
 pub cut_in_frame : (link : Link) (interface ether_type : ℕ) (place : Place) (ends : Ends) (udp : UdpDatagram) (header packet : List ℕ) (more n all : ℕ)
     → IsHeader link interface ether_type place header → IsBabel udp → IsOverIp ether_type ends udp packet more → length packet ≤ n + (4 + length udp.payload) → n < length packet

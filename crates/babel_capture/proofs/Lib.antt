@@ -2,9 +2,13 @@ pub mod BackingLaws
 pub mod CountLaws
 pub mod Entries
 pub mod FindingLaws
+pub mod FragmentLaws
 pub mod FramingLaws
 pub mod GatherLaws
+pub mod GivingLaws
+pub mod KnownLaws
 pub mod LaidOutLaws
+pub mod LostLaws
 pub mod MemoryLaws
 pub mod NumberLaws
 pub mod OctetLaws
@@ -12,8 +16,12 @@ pub mod OneCapture
 pub mod OneFault
 pub mod OneOrigin
 pub mod PacketLaws
+pub mod PartLaws
+pub mod PassingLaws
 pub mod PcapLaws
 pub mod PcapngLaws
+pub mod PieceLaws
+pub mod PutTogetherLaws
 pub mod ReadBack
 pub mod ReadingLaws
 pub mod SeenInFrames
@@ -24,4 +32,5 @@ pub mod SkippedLaws
 pub mod StreamLaws
 pub mod TallyLaws
 pub mod TimeLaws
+pub mod UnfragmentedLaws
 pub mod UpdateLaws

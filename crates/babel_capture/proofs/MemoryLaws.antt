@@ -1,5 +1,5 @@
 -- No fault of the octets is want of memory.
-use Rattle.std.proofs.Common.{◌≡◌, ◌≢◌, ℕ, List, arith, inl, inr, length, subst, sym, ◌∙◌}
+use Rattle.std.proofs.Common.{◌≡◌, ◌≢◌, ℕ, List, [], ◌∷◌, arith, inl, inr, length, subst, sym, ◌∙◌}
 use Rattle.std.specs.Prelude.{Bool, Err, IfErr, None, Ok, Option, Result, Some, ℤ, false, if◌then◌else◌, nat_lt, slice_get, true, ◌==◌}
 use Rattle.babel_capture.specs.declared.clock.Stamp.{Stamp}
 use Rattle.babel_capture.specs.Times.{in_years, moment_in, time_asked, time_or}
@@ -15,15 +15,16 @@ use Rattle.babel_capture.specs.declared.layout.Layout.{Layout}
 use Rattle.babel_capture.specs.declared.layout.Layout.TheVariants as layouts
 use Rattle.babel_capture.specs.declared.link.Link.{Link}
 use Rattle.babel_capture.specs.declared.order.Order.{Order}
-use Rattle.babel_capture.specs.Blocks.{context_behind, header_of, octets_of, start}
+use Rattle.babel_capture.specs.Blocks.{context_behind, header_of, octets_of, passage_of, sightings_in, start}
 use Rattle.babel_capture.specs.Capture.{CaptureFault, IsShortBy}
-use Rattle.babel_capture.specs.Contents.{Captured, Content, by_time, read_by, skips, file, section, describes, holds, nothing}
+use Rattle.babel_capture.specs.Contents.{Captured, Content, by_time, read_by}
 use Rattle.babel_capture.specs.Contents.{block_said, first_said, holds_by, interface_said, kept_said, layout_said, numbered_said, packet_of, section_of, simple_of, simple_said, typed_said}
 use Rattle.babel_capture.specs.Context.{Before}
 use Rattle.babel_capture.specs.Lack.{lack_fault}
 use Rattle.babel_capture.specs.Lengths.{block_len, first_len, layout_len, len_within, pcap_order, section_order, total_in}
-use Rattle.babel_capture.specs.Findings.{found, left, passed, refused, untold}
-use Rattle.babel_capture.specs.Gathering.{IsRefused}
+use Rattle.babel_capture.specs.Findings.{Found, found, left, passed, refused, untold}
+use Rattle.babel_capture.specs.Gathering.{IsRefused, RefusesFound}
+use Rattle.babel_capture.specs.Passage.{missing_in, Passage, Sighting}
 use Rattle.babel_capture.specs.Link.{link_of}
 use Rattle.babel_capture.specs.Numbers.{number_at}
 use Rattle.babel_capture.specs.Reading.{HeaderFails, StopsAt}
@@ -63,7 +64,7 @@ linked : (before : Before) (at interface number : ℕ) (moment : Option ℤ) (fr
     → holds_by before at interface number moment frame whole link ≢ Err faults.Memory
 linked before at interface number moment frame whole None is = cc
 linked before at interface number moment frame whole (Some link) is =
-    read-other before.window before.start at (record { interface = interface; section = before.first; link = link; moment = moment; frame = frame; whole_len = whole }) is
+    read-other before.window before.start at (record { interface = interface; section = before.first; link = link; moment = moment; frame = frame; whole_len = whole; ends_within = true }) is
 
 packets : (before : Before) (at interface : ℕ) (stamp : Option Stamp) (frame : List ℕ) (whole : ℕ) (described : Option Interface)
     → packet_of before at interface stamp frame whole described ≢ Err faults.Memory
@@ -153,28 +154,31 @@ header-other before at octets fault (inl (whole, is)) memory =
 
 -- ---- the fault of a capture
 
-refused-other : (wanted : Wanted) (senders : Senders) (at : ℕ) (content : Content) (fault : Fault) → IsRefused wanted senders at content fault → fault ≢ faults.Memory
-refused-other wanted senders at (file order interface) fault refuses is = absurd refuses
-refused-other wanted senders at (section order) fault refuses is = absurd refuses
-refused-other wanted senders at (describes interface name) fault refuses is = absurd refuses
-refused-other wanted senders at (holds packet) fault (refused lack, finds, told) is = lack-other at lack (sym told ∙ is)
-refused-other wanted senders at (holds packet) fault (found place ends octets has_trailer, finds, (told, many)) is = cc
-refused-other wanted senders at (holds packet) fault (passed, finds, none) is = absurd none
-refused-other wanted senders at (holds packet) fault (untold, finds, none) is = absurd none
-refused-other wanted senders at (holds packet) fault (left reason missed, finds, none) is = absurd none
-refused-other wanted senders at (skips packet) fault refuses is = absurd refuses
-refused-other wanted senders at nothing fault refuses is = absurd refuses
+found-other : (senders : Senders) (at : ℕ) (what : Found) (fault : Fault) → RefusesFound senders at what fault → fault ≢ faults.Memory
+found-other senders at (refused lack) fault told is = lack-other at lack (sym told ∙ is)
+found-other senders at (found place ends octets has_trailer) fault (told, many) is = cc
+found-other senders at passed fault none is = absurd none
+found-other senders at untold fault none is = absurd none
+found-other senders at (left reason missed) fault none is = absurd none
 
-stops-other : (wanted : Wanted) (senders : Senders) (before : Before) (at : ℕ) (octets : List ℕ) (fault : Fault) → StopsAt wanted senders before at octets fault → fault ≢ faults.Memory
-stops-other wanted senders before at octets fault (inl header) is = header-other before at octets fault header is
-stops-other wanted senders before at octets fault (inr (block, begins, inl said)) is = said_other before at block (subst (λ (f : Fault). block_said before at block ≡ Err f) is said)
-stops-other wanted senders before at octets fault (inr (block, begins, inr (content, said, refuses))) is = refused-other wanted senders at content fault refuses is
+refused-other : (wanted : Wanted) (senders : Senders) (sightings : List Sighting) (fault : Fault) → IsRefused wanted senders sightings fault → fault ≢ faults.Memory
+refused-other wanted senders [] fault refuses is = absurd refuses
+refused-other wanted senders (sighting ∷ later) fault (what, finds, inl refuses) is = found-other senders sighting.at what fault refuses is
+refused-other wanted senders (sighting ∷ later) fault (what, finds, inr (uncounted, refusal)) is = refused-other wanted senders later fault refusal is
+
+stops-other : (wanted : Wanted) (senders : Senders) (passage : Passage) (before : Before) (at : ℕ) (octets : List ℕ) (fault : Fault) → StopsAt wanted senders passage before at octets fault
+    → fault ≢ faults.Memory
+stops-other wanted senders passage before at octets fault (inl header) is = header-other before at octets fault header is
+stops-other wanted senders passage before at octets fault (inr (block, begins, inl said)) is = said_other before at block (subst (λ (f : Fault). block_said before at block ≡ Err f) is said)
+stops-other wanted senders passage before at octets fault (inr (block, begins, inr (content, said, refuses))) is =
+    refused-other wanted senders (sightings_in passage at content) fault refuses is
 
 short-other : (before : Before) (at : ℕ) (rest : List ℕ) (fault : Fault) → IsShortBy before at rest fault → fault ≢ faults.Memory
 short-other before at rest fault (inl (not, told)) is = cc
 short-other before at rest fault (inr (started, some, told)) is = cc
 
 pub fault-other : (limit : Extent) (wanted : Wanted) (octets : List ℕ) (fault : Fault) → CaptureFault limit wanted octets fault → fault ≢ faults.Memory
-fault-other limit wanted octets fault (inl stops) = stops-other wanted (senders_listed wanted.are_listed stops.made) (context_behind (start limit) stops.blocks) (length (octets_of stops.blocks)) stops.rest fault
+fault-other limit wanted octets fault (inl stops) = stops-other wanted (senders_listed wanted.are_listed stops.made) (passage_of stops.blocks) (context_behind (start limit) stops.blocks) (length (octets_of stops.blocks)) stops.rest fault
     stops.stops
-fault-other limit wanted octets fault (inr short) = short-other (context_behind (start limit) short.blocks) (length (octets_of short.blocks)) short.rest fault short.short
+fault-other limit wanted octets fault (inr (inr lost)) = refused-other wanted (senders_listed wanted.are_listed lost.made) (missing_in (passage_of lost.blocks).known) fault lost.lost
+fault-other limit wanted octets fault (inr (inl short)) = short-other (context_behind (start limit) short.blocks) (length (octets_of short.blocks)) short.rest fault short.short

@@ -13,7 +13,7 @@ use Rattle.babel_capture.specs.declared.layout.Layout.TheVariants as layouts
 use Rattle.babel_capture.specs.declared.link.Link.{Link}
 use Rattle.babel_capture.specs.declared.place.Place.{Place}
 use Rattle.babel_capture.specs.declared.wanted.Wanted.{Wanted}
-use Rattle.babel_capture.specs.Blocks.{names_of, AreBlocks, BlockAt, IsBlock, IsPartial, Sighting, context_behind, header_of, octets_of, sightings_of, start}
+use Rattle.babel_capture.specs.Blocks.{names_of, AreBlocks, BlockAt, IsBlock, IsPartial, context_behind, header_of, octets_of, sightings_to_end, start}
 use Rattle.babel_capture.specs.Capture.{IsRead, IsReadToCut}
 use Rattle.babel_capture.specs.Contents.{Content, block_said, context_after, nothing}
 use Rattle.babel_capture.specs.Context.{Before}
@@ -22,7 +22,8 @@ use Rattle.babel_capture.specs.Findings.{CarriedIs, Either, Finds, Found, IsWant
 use Rattle.babel_capture.specs.Gathering.{AreMade, Gathering, IsGathered}
 use Rattle.babel_capture.specs.Lengths.{block_len, header_len}
 use Rattle.babel_capture.specs.OneCapture.{CaptureIsOne, CutCaptureIsOne}
-use Rattle.babel_capture.specs.Sight.{Carried, Sight, datagram, lacking, not_link_local, other, other_port, too_short, carries}
+use Rattle.babel_capture.specs.Passage.{Sighting}
+use Rattle.babel_capture.specs.Sight.{Carried, Sight, datagram, fragmented, lacking, not_link_local, other, other_port, too_short, carries}
 use Rattle.babel_capture.specs.Tallies.{Senders, senders_listed}
 use Rattle.babel_capture.specs.Times.{Came}
 use Rattle.babel_capture.specs.Window.{Extent}
@@ -95,6 +96,7 @@ carried_one wanted place ends (carries payload) what again is is_again = payload
 pub finds_one : (wanted : Wanted) (sight : Sight) (what again : Found) → Finds wanted sight what → Finds wanted sight again → what ≡ again
 finds_one wanted other what again is is_again = is ∙ sym is_again
 finds_one wanted too_short what again is is_again = is ∙ sym is_again
+finds_one wanted (fragmented fragment) what again is is_again = is ∙ sym is_again
 finds_one wanted (datagram place ends carried) what again is is_again =
     either_one what again (IsWanted wanted ends.sender place) _ _ _ _ (carried_one wanted place ends carried what again) (same_of what again passed) is is_again
 
@@ -212,16 +214,16 @@ cut_capture_is_one limit octets one another place other_place is is_too wanted =
     same : (is.is_read.blocks ≡ is_too.is_read.blocks) × (is.rest ≡ is_too.rest)
     same = same_blocks limit octets one another place other_place is is_too
 
-    gathered : IsGathered (sightings_of is.is_read.blocks) one
+    gathered : IsGathered (sightings_to_end is.is_read.blocks) one
     gathered = is.is_read.gathered
 
-    other : IsGathered (sightings_of is_too.is_read.blocks) another
+    other : IsGathered (sightings_to_end is_too.is_read.blocks) another
     other = is_too.is_read.gathered
 
     made : gathered.made ≡ other.made
-    made = made_one one.wanted (sightings_of is.is_read.blocks) gathered.made other.made gathered.taken.are_made
-        (subst (λ (bs : List BlockAt). AreMade one.wanted (sightings_of bs) other.made) (sym same.0)
-        (subst (λ (w : Wanted). AreMade w (sightings_of is_too.is_read.blocks) other.made) (sym wanted) other.taken.are_made))
+    made = made_one one.wanted (sightings_to_end is.is_read.blocks) gathered.made other.made gathered.taken.are_made
+        (subst (λ (bs : List BlockAt). AreMade one.wanted (sightings_to_end bs) other.made) (sym same.0)
+        (subst (λ (w : Wanted). AreMade w (sightings_to_end is_too.is_read.blocks) other.made) (sym wanted) other.taken.are_made))
 
     places : is.read ≡ is_too.read → is.rest ≡ is_too.rest → ((is.rest ≡ []) × (place ≡ None)) ⊎ ((is.rest ≢ []) × (place ≡ Some (length is.read)))
         → ((is_too.rest ≡ []) × (other_place ≡ None)) ⊎ ((is_too.rest ≢ []) × (other_place ≡ Some (length is_too.read))) → place ≡ other_place

@@ -3,24 +3,26 @@
 use Rattle.std.proofs.Common.{Bool, true, false, ◌≡◌, ◌≢◌, ℕ, ◌+◌, ◌≤◌, ◌<◌, List, [], ◌∷◌, ◌++◌, length, drop, refl, sym, ap, subst, ◌∙◌, append_assoc, inl, inr, arith, length-append}
 use Rattle.std.specs.Prelude.{◌⊎◌, Option, Some, None, Result, Ok, Err, fold}
 use Rattle.std.specs.Result.{IsOkAnd}
-use Rattle.std.proofs.lemmas.List.{take-append-drop, take-append-le}
+use Rattle.std.proofs.lemmas.List.{append-nil, take-append-drop, take-append-le}
 use Rattle.babel_capture.specs.declared.fault.Fault.{Fault}
 use Rattle.babel_capture.specs.declared.fault.Fault.TheVariants as faults
 use Rattle.babel_capture.specs.declared.tallies.Origin.{Origin}
 use Rattle.babel_capture.specs.declared.wanted.Wanted.{Wanted}
-use Rattle.babel_capture.specs.Blocks.{AreBlocks, BeginsBlock, BlockAt, IsBlock, IsPartial, Sighting, context_behind, header_of, octets_of, sight_in, sightings_behind, sightings_in, sightings_of}
-use Rattle.babel_capture.specs.Blocks.{start}
-use Rattle.babel_capture.specs.Capture.{CaptureFault, EndsShort, IsReadToCut, IsShortBy}
-use Rattle.babel_capture.specs.Contents.{Content, block_said, context_after, describes, file, holds, nothing, section, skips}
+use Rattle.babel_capture.specs.Blocks.{AreBlocks, BeginsBlock, BlockAt, IsBlock, IsPartial, context_behind, header_of, no_passage, octets_of, passage_after, passage_behind, sightings_behind, sightings_in, sightings_of}
+use Rattle.babel_capture.specs.Blocks.{passage_of, sightings_to_end, start}
+use Rattle.babel_capture.specs.Capture.{CaptureFault, EndsLost, EndsShort, IsReadToCut, IsShortBy}
+use Rattle.babel_capture.specs.Contents.{Content, block_said, context_after}
 use Rattle.babel_capture.specs.Context.{Before}
 use Rattle.babel_capture.specs.Counts.{Made}
 use Rattle.babel_capture.specs.Findings.{Found, found, left, passed, refused, untold}
-use Rattle.babel_capture.specs.Gathering.{AreMade, AreTaken, Gathering, IsRefused, IsTaken, RefusesFound}
+use Rattle.babel_capture.specs.Gathering.{AreMade, AreTaken, Gathering, IsRefused, IsTaken, IsUncounted, RefusesFound}
 use Rattle.babel_capture.specs.Lengths.{block_len, header_len}
 use Rattle.babel_capture.specs.OneFault.{CutIsTheFault, FaultIsOne, ReadHasNoFault}
+use Rattle.babel_capture.specs.Passage.{Passage, Sighting, missing_in}
 use Rattle.babel_capture.specs.Reading.{BlockFails, HeaderFails, Stops, StopsAt}
 use Rattle.babel_capture.specs.Tallies.{Senders, listed_with, origin_cmp, senders_listed, senders_with, tallied}
 use Rattle.babel_capture.specs.Times.{time_of}
+use Rattle.babel_capture.proofs.GatherLaws.{uncounted-listed}
 use Rattle.babel_capture.proofs.Entries.{insert-longer, insert-new}
 use Rattle.babel_capture.proofs.OneCapture.{block_one, blocks_one, content_or_none, finds_one, len_or_none, made_one, one_block, partial_none, some_header, uncut}
 use Rattle.babel_capture.specs.Window.{Extent}
@@ -77,9 +79,21 @@ in_two wanted (sighting ∷ front) back made (one, others, is, number, link, cam
       are_later = parts.are_later;
     }
 
+-- the first ones are taken where all are
+front_taken : (wanted : Wanted) (front back : List Sighting) (made : List Made) → AreTaken wanted (front ++ back) made → (first : List Made) × AreTaken wanted front first
+front_taken wanted front back made taken =
+    let parts = in_two wanted front back made taken.are_made in
+    let listed = wanted.are_listed in
+    let longer = more-longer listed (more listed [] parts.first) parts.later in
+    let all : senders_listed listed made ≡ more listed (more listed [] parts.first) parts.later =
+    listed-more listed made ∙ ap (more listed []) parts.whole ∙ more-append listed [] parts.first parts.later in
+    let few : length (more listed (more listed [] parts.first) parts.later) ≤ 65536 = subst (λ (s : Senders). length s ≤ 65536) all taken.few in
+    let fewer : length (more listed [] parts.first) ≤ 65536 = omega (arith, longer, few) in
+    (parts.first, record { are_made = parts.are_first; few = subst (λ (s : Senders). length s ≤ 65536) (sym (listed-more listed parts.first)) fewer })
+
 -- ---- blocks that are taken, behind others
 
-record AreRead (wanted : Wanted) (senders : Senders) (count : ℕ) (before : Before) (at : ℕ) (octets : List ℕ) (blocks : List BlockAt) (rest : List ℕ)
+record AreRead (wanted : Wanted) (senders : Senders) (count : Passage) (before : Before) (at : ℕ) (octets : List ℕ) (blocks : List BlockAt) (rest : List ℕ)
     (made : List Made) : Type 0 where
   whole : octets ≡ octets_of blocks ++ rest
   are_blocks : AreBlocks before at blocks
@@ -88,15 +102,15 @@ record AreRead (wanted : Wanted) (senders : Senders) (count : ℕ) (before : Bef
   none : wanted.are_listed ≡ false → senders ≡ []
 
 -- the packets of the first block, and those of the others
-module _ (wanted : Wanted) (senders : Senders) (count : ℕ) (before : Before) (at : ℕ) (octets : List ℕ) (block : BlockAt) (blocks : List BlockAt) (rest : List ℕ)
+module _ (wanted : Wanted) (senders : Senders) (count : Passage) (before : Before) (at : ℕ) (octets : List ℕ) (block : BlockAt) (blocks : List BlockAt) (rest : List ℕ)
     (made : List Made) (are : AreRead wanted senders count before at octets (block ∷ blocks) rest made) where
   abbrev here : List Sighting
-  here = sightings_in (count + 1) block.at block.content
+  here = sightings_in count block.at block.content
 
-  parts : InTwo wanted here (sightings_behind (count + length here) blocks) made
-  parts = in_two wanted here (sightings_behind (count + length here) blocks) made are.are_made
+  parts : InTwo wanted here (sightings_behind (passage_after count block.at block.content) blocks) made
+  parts = in_two wanted here (sightings_behind (passage_after count block.at block.content) blocks) made are.are_made
 
-  behind : AreRead wanted (more wanted.are_listed senders parts.first) (count + length here) (context_after before block.content) (at + length block.octets) (octets_of blocks ++ rest) blocks rest parts.later
+  behind : AreRead wanted (more wanted.are_listed senders parts.first) (passage_after count block.at block.content) (context_after before block.content) (at + length block.octets) (octets_of blocks ++ rest) blocks rest parts.later
   behind = record {
     whole = refl;
     are_blocks = are.are_blocks.3;
@@ -122,22 +136,39 @@ not_refused true senders at fault one others (found place ends octets has_traile
     let full = many.0 in
     omega (arith, ap length all)
 
-refused_none : (wanted : Wanted) (senders : Senders) (number at : ℕ) (content : Content) (fault : Fault) (later : List Sighting) (made : List Made) → IsRefused wanted senders at content fault
-    → AreMade wanted (sightings_in number at content ++ later) made → length (more wanted.are_listed senders made) ≤ 65536 → (wanted.are_listed ≡ false → senders ≡ []) → ⊥
-refused_none wanted senders number at (file order interface) fault later made refuses are few none = refuses
-refused_none wanted senders number at (section order) fault later made refuses are few none = refuses
-refused_none wanted senders number at (describes interface name) fault later made refuses are few none = refuses
-refused_none wanted senders number at nothing fault later made refuses are few none = refuses
-refused_none wanted senders number at (skips packet) fault later made refuses are few none = refuses
-refused_none wanted senders number at (holds packet) fault later made (what, finds, refuses) (one, others, is, numbered, link, came, finds_too, takes, are) few none =
-    let same = finds_one wanted (sight_in packet) one.what what finds_too finds in
-    not_refused wanted.are_listed senders at fault one others what same (subst IsTaken same takes) refuses (subst (λ (m : List Made). length (more wanted.are_listed senders m) ≤ 65536) is few) none
+-- and neither is one that does not count refused
+not_both : (senders : Senders) (at : ℕ) (what : Found) (fault : Fault) → RefusesFound senders at what fault → IsUncounted what → ⊥
+not_both senders at passed fault refuses uncounted = refuses
+not_both senders at (left reason missed) fault refuses uncounted = refuses
+not_both senders at untold fault refuses uncounted = uncounted
+not_both senders at (refused lack) fault refuses uncounted = uncounted
+not_both senders at (found place ends packet has_trailer) fault refuses uncounted = uncounted
 
-module _ (wanted : Wanted) (senders : Senders) (before : Before) (at : ℕ) where
+refused_none : (wanted : Wanted) (senders : Senders) (sightings : List Sighting) (fault : Fault) (later : List Sighting) (made : List Made) → IsRefused wanted senders sightings fault
+    → AreMade wanted (sightings ++ later) made → length (more wanted.are_listed senders made) ≤ 65536 → (wanted.are_listed ≡ false → senders ≡ []) → ⊥
+refused_none wanted senders [] fault later made refuses are few none = refuses
+refused_none wanted senders (sighting ∷ rest) fault later made (what, finds, inl refuses) (one, others, is, numbered, link, came, finds_too, takes, are) few none =
+    let same = finds_one wanted sighting.what one.what what finds_too finds in
+    not_refused wanted.are_listed senders sighting.at fault one others what same (subst IsTaken same takes) refuses (subst (λ (m : List Made). length (more wanted.are_listed senders m) ≤ 65536) is few) none
+refused_none wanted senders (sighting ∷ rest) fault later made (what, finds, inr (uncounted, refusal)) (one, others, is, numbered, link, came, finds_too, takes, are) few none =
+    let same = finds_one wanted sighting.what one.what what finds_too finds in
+    let on : listed_with wanted.are_listed senders (time_of one.came) one.what ≡ senders =
+    ap (listed_with wanted.are_listed senders (time_of one.came)) same ∙ uncounted-listed wanted.are_listed senders (time_of one.came) what uncounted in
+    refused_none wanted senders rest fault later others refusal are
+    (subst (λ (t : Senders). length (more wanted.are_listed t others) ≤ 65536) on (subst (λ (m : List Made). length (more wanted.are_listed senders m) ≤ 65536) is few)) none
+
+same_refusal : (senders : Senders) (at : ℕ) (what : Found) (one other : Fault) → RefusesFound senders at what one → RefusesFound senders at what other → one ≡ other
+same_refusal senders at passed one other refuses again = absurd refuses
+same_refusal senders at untold one other refuses again = absurd refuses
+same_refusal senders at (left reason missed) one other refuses again = absurd refuses
+same_refusal senders at (refused lack) one other refuses again = refuses ∙ sym again
+same_refusal senders at (found place ends octets has_trailer) one other refuses again = refuses.0 ∙ sym again.0
+
+module _ (wanted : Wanted) (senders : Senders) (count : Passage) (before : Before) (at : ℕ) where
   -- octets that stop begin with no block that is taken
-  stop_taken : (count : ℕ) (octets : List ℕ) (fault : Fault) (block : BlockAt) (blocks : List BlockAt) (rest : List ℕ) (made : List Made) → StopsAt wanted senders before at octets fault
+  stop_taken : (octets : List ℕ) (fault : Fault) (block : BlockAt) (blocks : List BlockAt) (rest : List ℕ) (made : List Made) → StopsAt wanted senders count before at octets fault
       → AreRead wanted senders count before at octets (block ∷ blocks) rest made → ⊥
-  stop_taken count octets fault block blocks rest made stops are = by stops
+  stop_taken octets fault block blocks rest made stops are = by stops
     where
       behind_it : List ℕ
       behind_it = octets_of blocks ++ rest
@@ -155,7 +186,7 @@ module _ (wanted : Wanted) (senders : Senders) (before : Before) (at : ℕ) wher
       same_block other begins = (block_one before at other block.octets (drop (length other) octets) behind_it begins.is_block is_block
           (ap (λ (t : List ℕ). t ++ drop (length other) octets) begins.front ∙ take-append-drop (length other) octets ∙ whole)).0
 
-      by : StopsAt wanted senders before at octets fault → ⊥
+      by : StopsAt wanted senders count before at octets fault → ⊥
       by (inl (inr (end, past, told))) =
           (let both : Ok (length block.octets) ≡ Ok 0 = sym is_block.len ∙ ap (block_len before at) (sym front) ∙ end.1 in
           let none : length block.octets ≡ 0 = ap len_or_none both in omega (arith, none, is_block.header, some_header before.layout))
@@ -165,35 +196,32 @@ module _ (wanted : Wanted) (senders : Senders) (before : Before) (at : ℕ) wher
       by (inr (other, begins, inr (content, said, refuses))) =
           let content_is : content ≡ block.content = ap content_or_none (sym said ∙ ap (block_said before at) (same_block other begins) ∙ are.are_blocks.2) in
           let here : at ≡ block.at = sym are.are_blocks.0 in
-          refused_none wanted senders (count + 1) block.at block.content fault (sightings_behind (count + length (sightings_in (count + 1) block.at block.content)) blocks) made
-          (subst (λ (n : ℕ). IsRefused wanted senders n block.content fault) here (subst (λ (c : Content). IsRefused wanted senders at c fault) content_is refuses))
+          refused_none wanted senders (sightings_in count block.at block.content) fault (sightings_behind (passage_after count block.at block.content) blocks) made
+          (subst (λ (n : ℕ). IsRefused wanted senders (sightings_in count n block.content) fault) here
+          (subst (λ (c : Content). IsRefused wanted senders (sightings_in count at c) fault) content_is refuses))
           are.are_made are.few are.none
 
   -- they stop by one fault
-  same_refusal : (what : Found) (one other : Fault) → RefusesFound senders at what one → RefusesFound senders at what other → one ≡ other
-  same_refusal passed one other refuses again = absurd refuses
-  same_refusal untold one other refuses again = absurd refuses
-  same_refusal (left reason missed) one other refuses again = absurd refuses
-  same_refusal (refused lack) one other refuses again = refuses ∙ sym again
-  same_refusal (found place ends octets has_trailer) one other refuses again = refuses.0 ∙ sym again.0
+  refused_one : (sightings : List Sighting) (one other : Fault) → IsRefused wanted senders sightings one → IsRefused wanted senders sightings other → one ≡ other
+  refused_one [] one other refuses again = absurd refuses
+  refused_one (sighting ∷ rest) one other (what, finds, is) (again, finds_again, is_again) =
+      let same = finds_one wanted sighting.what again what finds_again finds in
+      by (refused_one rest one other) is (subst (λ (w : Found). RefusesFound senders sighting.at w other ⊎ (IsUncounted w × IsRefused wanted senders rest other)) same is_again)
+    where
+      by : (IsRefused wanted senders rest one → IsRefused wanted senders rest other → one ≡ other) → RefusesFound senders sighting.at what one ⊎ (IsUncounted what × IsRefused wanted senders rest one)
+          → RefusesFound senders sighting.at what other ⊎ (IsUncounted what × IsRefused wanted senders rest other) → one ≡ other
+      by later (inl refuses) (inl refuses_again) = same_refusal senders sighting.at what one other refuses refuses_again
+      by later (inl refuses) (inr (uncounted, refusal)) = absurd (not_both senders sighting.at what one refuses uncounted)
+      by later (inr (uncounted, refusal)) (inl refuses_again) = absurd (not_both senders sighting.at what other refuses_again uncounted)
+      by later (inr (uncounted, refusal)) (inr (uncounted_too, refusal_again)) = later refusal refusal_again
 
-  refused_one : (content : Content) (one other : Fault) → IsRefused wanted senders at content one → IsRefused wanted senders at content other → one ≡ other
-  refused_one (file order interface) one other refuses again = absurd refuses
-  refused_one (section order) one other refuses again = absurd refuses
-  refused_one (describes interface name) one other refuses again = absurd refuses
-  refused_one nothing one other refuses again = absurd refuses
-  refused_one (skips packet) one other refuses again = absurd refuses
-  refused_one (holds packet) one other (what, finds, refuses) (again, finds_again, refuses_again) =
-      same_refusal what one other refuses
-      (subst (λ (w : Found). RefusesFound senders at w other) (finds_one wanted (sight_in packet) again what finds_again finds) refuses_again)
-
-  fails_one : (block : List ℕ) (one other : Fault) → BlockFails wanted senders before at block one → BlockFails wanted senders before at block other → one ≡ other
+  fails_one : (block : List ℕ) (one other : Fault) → BlockFails wanted senders count before at block one → BlockFails wanted senders count before at block other → one ≡ other
   fails_one block one other (inl failed) (inl failed_too) = (let both : Err one ≡ Err other = sym failed ∙ failed_too in cc)
   fails_one block one other (inl failed) (inr (content, said, refuses)) = (let both : Err one ≡ Ok content = sym failed ∙ said in absurd cc)
   fails_one block one other (inr (content, said, refuses)) (inl failed) = (let both : Err other ≡ Ok content = sym failed ∙ said in absurd cc)
   fails_one block one other (inr (content, said, refuses)) (inr (again, said_too, refused_too)) =
       let same : again ≡ content = ap content_or_none (sym said_too ∙ said) in
-      refused_one content one other refuses (subst (λ (c : Content). IsRefused wanted senders at c other) same refused_too)
+      refused_one (sightings_in count at content) one other refuses (subst (λ (c : Content). IsRefused wanted senders (sightings_in count at c) other) same refused_too)
 
   header_begins : (octets block : List ℕ) (fault : Fault) → BeginsBlock before at octets block → HeaderFails before at octets fault → ⊥
   header_begins octets block fault begins (inr (end, past, told)) =
@@ -223,15 +251,15 @@ module _ (wanted : Wanted) (senders : Senders) (before : Before) (at : ℕ) wher
   header_one octets one other (inr (end, past, told)) (inl (header, refuses)) = (let both : Err other ≡ Ok 0 = sym refuses ∙ end.1 in absurd cc)
   header_one octets one other (inr (end, past, told)) (inr (end_too, past_too, told_too)) = told ∙ sym told_too
 
-  stop_one : (octets : List ℕ) (one other : Fault) → StopsAt wanted senders before at octets one → StopsAt wanted senders before at octets other → one ≡ other
+  stop_one : (octets : List ℕ) (one other : Fault) → StopsAt wanted senders count before at octets one → StopsAt wanted senders count before at octets other → one ≡ other
   stop_one octets one other (inl fails) (inl fails_too) = header_one octets one other fails fails_too
   stop_one octets one other (inl header) (inr (block, begins, fails)) = absurd (header_begins octets block one begins header)
   stop_one octets one other (inr (block, begins, fails)) (inl header) = absurd (header_begins octets block other begins header)
   stop_one octets one other (inr (block, begins, fails)) (inr (again, begins_too, fails_too)) =
-      fails_one block one other fails (subst (λ (t : List ℕ). BlockFails wanted senders before at t other) (begin_one octets block again begins begins_too) fails_too)
+      fails_one block one other fails (subst (λ (t : List ℕ). BlockFails wanted senders count before at t other) (begin_one octets block again begins begins_too) fails_too)
 
   -- octets that stop are not less than a block
-  stop_partial : (octets : List ℕ) (fault : Fault) → StopsAt wanted senders before at octets fault → IsPartial before at octets → ⊥
+  stop_partial : (octets : List ℕ) (fault : Fault) → StopsAt wanted senders count before at octets fault → IsPartial before at octets → ⊥
   stop_partial octets fault (inl (inr (end, past, told))) (inl short) = omega (arith, end.0, short)
   stop_partial octets fault (inl (inr (end, past, told))) (inr (inl (header, less))) =
       (let below : length octets < 0 = subst (λ (r : Result ℕ Fault). IsOkAnd r (λ len. length octets < len)) end.1 less in omega (arith, below))
@@ -248,7 +276,7 @@ module _ (wanted : Wanted) (senders : Senders) (before : Before) (at : ℕ) wher
 -- ---- two readings of the same octets
 
 -- the first block of both is one
-module _ (wanted : Wanted) (senders : Senders) (count : ℕ) (before : Before) (at : ℕ) (octets : List ℕ) where
+module _ (wanted : Wanted) (senders : Senders) (count : Passage) (before : Before) (at : ℕ) (octets : List ℕ) where
   first_one : (one another : BlockAt) (blocks others : List BlockAt) (rest other_rest : List ℕ) (made other_made : List Made)
       → AreRead wanted senders count before at octets (one ∷ blocks) rest made → AreRead wanted senders count before at octets (another ∷ others) other_rest other_made → another ≡ one
   first_one one another blocks others rest other_rest made other_made are are_too =
@@ -258,80 +286,80 @@ module _ (wanted : Wanted) (senders : Senders) (count : ℕ) (before : Before) (
       one_block another one (are_too.are_blocks.0 ∙ sym are.are_blocks.0) same content
 
 -- the fault, behind the first block
-module _ (wanted : Wanted) (senders : Senders) (before : Before) (at : ℕ) (block : BlockAt) (blocks : List BlockAt) (rest : List ℕ) (fault : Fault) where
+module _ (wanted : Wanted) (senders : Senders) (count : Passage) (before : Before) (at : ℕ) (block : BlockAt) (blocks : List BlockAt) (rest : List ℕ) (fault : Fault) where
   stops_behind : (made first later : List Made) → made ≡ first ++ later
-      → StopsAt wanted (more wanted.are_listed senders made) (context_behind before (block ∷ blocks)) (at + length (octets_of (block ∷ blocks))) rest fault
-      → StopsAt wanted (more wanted.are_listed (more wanted.are_listed senders first) later) (context_behind (context_after before block.content) blocks) (at + length block.octets + length (octets_of blocks)) rest fault
+      → StopsAt wanted (more wanted.are_listed senders made) (passage_behind count (block ∷ blocks)) (context_behind before (block ∷ blocks)) (at + length (octets_of (block ∷ blocks))) rest fault
+      → StopsAt wanted (more wanted.are_listed (more wanted.are_listed senders first) later) (passage_behind (passage_after count block.at block.content) blocks) (context_behind (context_after before block.content) blocks) (at + length block.octets + length (octets_of blocks)) rest fault
   stops_behind made first later whole stops =
-      subst (λ (n : ℕ). StopsAt wanted (more wanted.are_listed (more wanted.are_listed senders first) later) (context_behind (context_after before block.content) blocks) n rest fault)
+      subst (λ (n : ℕ). StopsAt wanted (more wanted.are_listed (more wanted.are_listed senders first) later) (passage_behind (passage_after count block.at block.content) blocks) (context_behind (context_after before block.content) blocks) n rest fault)
       (omega (arith, length-append block.octets (octets_of blocks)))
-      (subst (λ (s : Senders). StopsAt wanted s (context_behind before (block ∷ blocks)) (at + length (octets_of (block ∷ blocks))) rest fault)
+      (subst (λ (s : Senders). StopsAt wanted s (passage_behind count (block ∷ blocks)) (context_behind before (block ∷ blocks)) (at + length (octets_of (block ∷ blocks))) rest fault)
       (ap (more wanted.are_listed senders) whole ∙ more-append wanted.are_listed senders first later) stops)
 
-stops_one : (wanted : Wanted) (senders : Senders) (count : ℕ) (before : Before) (at : ℕ) (octets : List ℕ) (blocks others : List BlockAt) (rest other_rest : List ℕ) (made other_made : List Made)
+stops_one : (wanted : Wanted) (senders : Senders) (count : Passage) (before : Before) (at : ℕ) (octets : List ℕ) (blocks others : List BlockAt) (rest other_rest : List ℕ) (made other_made : List Made)
     (one other : Fault) → AreRead wanted senders count before at octets blocks rest made → AreRead wanted senders count before at octets others other_rest other_made
-    → StopsAt wanted (more wanted.are_listed senders made) (context_behind before blocks) (at + length (octets_of blocks)) rest one
-    → StopsAt wanted (more wanted.are_listed senders other_made) (context_behind before others) (at + length (octets_of others)) other_rest other → one ≡ other
+    → StopsAt wanted (more wanted.are_listed senders made) (passage_behind count blocks) (context_behind before blocks) (at + length (octets_of blocks)) rest one
+    → StopsAt wanted (more wanted.are_listed senders other_made) (passage_behind count others) (context_behind before others) (at + length (octets_of others)) other_rest other → one ≡ other
 stops_one wanted senders count before at octets [] [] rest other_rest made other_made one other are are_too stops stops_too =
     let none : more wanted.are_listed senders made ≡ senders = ap (more wanted.are_listed senders) are.are_made in
     let none_too : more wanted.are_listed senders other_made ≡ senders = ap (more wanted.are_listed senders) are_too.are_made in
     let here : at + 0 ≡ at = omega arith in
     let same : other_rest ≡ rest = sym are_too.whole ∙ are.whole in
-    stop_one wanted senders before at rest one other
-    (subst (λ (n : ℕ). StopsAt wanted senders before n rest one) here (subst (λ (s : Senders). StopsAt wanted s before (at + 0) rest one) none stops))
-    (subst (λ (t : List ℕ). StopsAt wanted senders before at t other) same
-    (subst (λ (n : ℕ). StopsAt wanted senders before n other_rest other) here (subst (λ (s : Senders). StopsAt wanted s before (at + 0) other_rest other) none_too stops_too)))
+    stop_one wanted senders count before at rest one other
+    (subst (λ (n : ℕ). StopsAt wanted senders count before n rest one) here (subst (λ (s : Senders). StopsAt wanted s count before (at + 0) rest one) none stops))
+    (subst (λ (t : List ℕ). StopsAt wanted senders count before at t other) same
+    (subst (λ (n : ℕ). StopsAt wanted senders count before n other_rest other) here (subst (λ (s : Senders). StopsAt wanted s count before (at + 0) other_rest other) none_too stops_too)))
 stops_one wanted senders count before at octets [] (another ∷ others) rest other_rest made other_made one other are are_too stops stops_too =
     let none : more wanted.are_listed senders made ≡ senders = ap (more wanted.are_listed senders) are.are_made in
     let here : at + 0 ≡ at = omega arith in
-    absurd (stop_taken wanted senders before at count octets one another others other_rest other_made
-    (subst (λ (t : List ℕ). StopsAt wanted senders before at t one) (sym are.whole)
-    (subst (λ (n : ℕ). StopsAt wanted senders before n rest one) here (subst (λ (s : Senders). StopsAt wanted s before (at + 0) rest one) none stops))) are_too)
+    absurd (stop_taken wanted senders count before at octets one another others other_rest other_made
+    (subst (λ (t : List ℕ). StopsAt wanted senders count before at t one) (sym are.whole)
+    (subst (λ (n : ℕ). StopsAt wanted senders count before n rest one) here (subst (λ (s : Senders). StopsAt wanted s count before (at + 0) rest one) none stops))) are_too)
 stops_one wanted senders count before at octets (block ∷ blocks) [] rest other_rest made other_made one other are are_too stops stops_too =
     let none : more wanted.are_listed senders other_made ≡ senders = ap (more wanted.are_listed senders) are_too.are_made in
     let here : at + 0 ≡ at = omega arith in
-    absurd (stop_taken wanted senders before at count octets other block blocks rest made
-    (subst (λ (t : List ℕ). StopsAt wanted senders before at t other) (sym are_too.whole)
-    (subst (λ (n : ℕ). StopsAt wanted senders before n other_rest other) here (subst (λ (s : Senders). StopsAt wanted s before (at + 0) other_rest other) none stops_too))) are)
+    absurd (stop_taken wanted senders count before at octets other block blocks rest made
+    (subst (λ (t : List ℕ). StopsAt wanted senders count before at t other) (sym are_too.whole)
+    (subst (λ (n : ℕ). StopsAt wanted senders count before n other_rest other) here (subst (λ (s : Senders). StopsAt wanted s count before (at + 0) other_rest other) none stops_too))) are)
 stops_one wanted senders count before at octets (block ∷ blocks) (another ∷ others) rest other_rest made other_made one other are are_too stops stops_too =
     let same : another ≡ block = first_one wanted senders count before at octets block another blocks others rest other_rest made other_made are are_too in
     let are_again : AreRead wanted senders count before at octets (block ∷ others) other_rest other_made =
     subst (λ (b : BlockAt). AreRead wanted senders count before at octets (b ∷ others) other_rest other_made) same are_too in
-    let stops_again : StopsAt wanted (more wanted.are_listed senders other_made) (context_behind before (block ∷ others)) (at + length (octets_of (block ∷ others))) other_rest other =
-    subst (λ (b : BlockAt). StopsAt wanted (more wanted.are_listed senders other_made) (context_behind before (b ∷ others)) (at + length (octets_of (b ∷ others))) other_rest other) same stops_too in
+    let stops_again : StopsAt wanted (more wanted.are_listed senders other_made) (passage_behind count (block ∷ others)) (context_behind before (block ∷ others)) (at + length (octets_of (block ∷ others))) other_rest other =
+    subst (λ (b : BlockAt). StopsAt wanted (more wanted.are_listed senders other_made) (passage_behind count (b ∷ others)) (context_behind before (b ∷ others)) (at + length (octets_of (b ∷ others))) other_rest other) same stops_too in
     let split = parts wanted senders count before at octets block blocks rest made are in
     let split_too = parts wanted senders count before at octets block others other_rest other_made are_again in
-    let firsts : split_too.first ≡ split.first = made_one wanted (sightings_in (count + 1) block.at block.content) split_too.first split.first split_too.are_first split.are_first in
-    let here = sightings_in (count + 1) block.at block.content in
+    let firsts : split_too.first ≡ split.first = made_one wanted (sightings_in count block.at block.content) split_too.first split.first split_too.are_first split.are_first in
+    let here = sightings_in count block.at block.content in
     let after = context_after before block.content in
     let next = at + length block.octets in
     let rests : octets_of others ++ other_rest ≡ octets_of blocks ++ rest =
     (block_one before at block.octets block.octets (octets_of others ++ other_rest) (octets_of blocks ++ rest) are.are_blocks.1 are.are_blocks.1
     (sym (are_again.whole ∙ append_assoc block.octets (octets_of others) other_rest) ∙ (are.whole ∙ append_assoc block.octets (octets_of blocks) rest))).1 in
-    stops_one wanted (more wanted.are_listed senders split.first) (count + length here) after next (octets_of blocks ++ rest) blocks others rest other_rest split.later split_too.later one other
+    stops_one wanted (more wanted.are_listed senders split.first) (passage_after count block.at block.content) after next (octets_of blocks ++ rest) blocks others rest other_rest split.later split_too.later one other
     (behind wanted senders count before at octets block blocks rest made are)
-    (subst (λ (s : Senders). AreRead wanted s (count + length here) after next (octets_of blocks ++ rest) others other_rest split_too.later) (ap (more wanted.are_listed senders) firsts)
-    (subst (λ (t : List ℕ). AreRead wanted (more wanted.are_listed senders split_too.first) (count + length here) after next t others other_rest split_too.later) rests
+    (subst (λ (s : Senders). AreRead wanted s (passage_after count block.at block.content) after next (octets_of blocks ++ rest) others other_rest split_too.later) (ap (more wanted.are_listed senders) firsts)
+    (subst (λ (t : List ℕ). AreRead wanted (more wanted.are_listed senders split_too.first) (passage_after count block.at block.content) after next t others other_rest split_too.later) rests
     (behind wanted senders count before at octets block others other_rest other_made are_again)))
-    (stops_behind wanted senders before at block blocks rest one made split.first split.later split.whole stops)
-    (subst (λ (s : Senders). StopsAt wanted (more wanted.are_listed s split_too.later) (context_behind after others) (next + length (octets_of others)) other_rest other) (ap (more wanted.are_listed senders) firsts)
-    (stops_behind wanted senders before at block others other_rest other other_made split_too.first split_too.later split_too.whole stops_again))
+    (stops_behind wanted senders count before at block blocks rest one made split.first split.later split.whole stops)
+    (subst (λ (s : Senders). StopsAt wanted (more wanted.are_listed s split_too.later) (passage_behind (passage_after count block.at block.content) others) (context_behind after others) (next + length (octets_of others)) other_rest other) (ap (more wanted.are_listed senders) firsts)
+    (stops_behind wanted senders count before at block others other_rest other other_made split_too.first split_too.later split_too.whole stops_again))
 
-stops_whole : (wanted : Wanted) (senders : Senders) (count : ℕ) (before : Before) (at : ℕ) (octets : List ℕ) (blocks others : List BlockAt) (rest other_rest : List ℕ) (made other_made : List Made)
+stops_whole : (wanted : Wanted) (senders : Senders) (count : Passage) (before : Before) (at : ℕ) (octets : List ℕ) (blocks others : List BlockAt) (rest other_rest : List ℕ) (made other_made : List Made)
     (fault : Fault) → AreRead wanted senders count before at octets blocks rest made → AreRead wanted senders count before at octets others other_rest other_made
-    → StopsAt wanted (more wanted.are_listed senders made) (context_behind before blocks) (at + length (octets_of blocks)) rest fault
+    → StopsAt wanted (more wanted.are_listed senders made) (passage_behind count blocks) (context_behind before blocks) (at + length (octets_of blocks)) rest fault
     → IsPartial (context_behind before others) (at + length (octets_of others)) other_rest → ⊥
 stops_whole wanted senders count before at octets [] [] rest other_rest made other_made fault are are_too stops partial =
     let none : more wanted.are_listed senders made ≡ senders = ap (more wanted.are_listed senders) are.are_made in
     let same : other_rest ≡ rest = sym are_too.whole ∙ are.whole in
-    stop_partial wanted senders before (at + 0) rest fault (subst (λ (s : Senders). StopsAt wanted s before (at + 0) rest fault) none stops)
+    stop_partial wanted senders count before (at + 0) rest fault (subst (λ (s : Senders). StopsAt wanted s count before (at + 0) rest fault) none stops)
     (subst (IsPartial before (at + 0)) same partial)
 stops_whole wanted senders count before at octets [] (another ∷ others) rest other_rest made other_made fault are are_too stops partial =
     let none : more wanted.are_listed senders made ≡ senders = ap (more wanted.are_listed senders) are.are_made in
     let here : at + 0 ≡ at = omega arith in
-    stop_taken wanted senders before at count octets fault another others other_rest other_made
-    (subst (λ (t : List ℕ). StopsAt wanted senders before at t fault) (sym are.whole)
-    (subst (λ (n : ℕ). StopsAt wanted senders before n rest fault) here (subst (λ (s : Senders). StopsAt wanted s before (at + 0) rest fault) none stops))) are_too
+    stop_taken wanted senders count before at octets fault another others other_rest other_made
+    (subst (λ (t : List ℕ). StopsAt wanted senders count before at t fault) (sym are.whole)
+    (subst (λ (n : ℕ). StopsAt wanted senders count before n rest fault) here (subst (λ (s : Senders). StopsAt wanted s count before (at + 0) rest fault) none stops))) are_too
 stops_whole wanted senders count before at octets (block ∷ blocks) [] rest other_rest made other_made fault are are_too stops partial =
     let here : at + 0 ≡ at = omega arith in
     let whole : other_rest ≡ block.octets ++ (octets_of blocks ++ rest) = sym are_too.whole ∙ are.whole ∙ append_assoc block.octets (octets_of blocks) rest in
@@ -345,19 +373,19 @@ stops_whole wanted senders count before at octets (block ∷ blocks) (another �
     subst (λ (b : BlockAt). IsPartial (context_behind before (b ∷ others)) (at + length (octets_of (b ∷ others))) other_rest) same partial in
     let split = parts wanted senders count before at octets block blocks rest made are in
     let split_too = parts wanted senders count before at octets block others other_rest other_made are_again in
-    let firsts : split_too.first ≡ split.first = made_one wanted (sightings_in (count + 1) block.at block.content) split_too.first split.first split_too.are_first split.are_first in
-    let here = sightings_in (count + 1) block.at block.content in
+    let firsts : split_too.first ≡ split.first = made_one wanted (sightings_in count block.at block.content) split_too.first split.first split_too.are_first split.are_first in
+    let here = sightings_in count block.at block.content in
     let after = context_after before block.content in
     let next = at + length block.octets in
     let rests : octets_of others ++ other_rest ≡ octets_of blocks ++ rest =
     (block_one before at block.octets block.octets (octets_of others ++ other_rest) (octets_of blocks ++ rest) are.are_blocks.1 are.are_blocks.1
     (sym (are_again.whole ∙ append_assoc block.octets (octets_of others) other_rest) ∙ (are.whole ∙ append_assoc block.octets (octets_of blocks) rest))).1 in
-    stops_whole wanted (more wanted.are_listed senders split.first) (count + length here) after next (octets_of blocks ++ rest) blocks others rest other_rest split.later split_too.later fault
+    stops_whole wanted (more wanted.are_listed senders split.first) (passage_after count block.at block.content) after next (octets_of blocks ++ rest) blocks others rest other_rest split.later split_too.later fault
     (behind wanted senders count before at octets block blocks rest made are)
-    (subst (λ (s : Senders). AreRead wanted s (count + length here) after next (octets_of blocks ++ rest) others other_rest split_too.later) (ap (more wanted.are_listed senders) firsts)
-    (subst (λ (t : List ℕ). AreRead wanted (more wanted.are_listed senders split_too.first) (count + length here) after next t others other_rest split_too.later) rests
+    (subst (λ (s : Senders). AreRead wanted s (passage_after count block.at block.content) after next (octets_of blocks ++ rest) others other_rest split_too.later) (ap (more wanted.are_listed senders) firsts)
+    (subst (λ (t : List ℕ). AreRead wanted (more wanted.are_listed senders split_too.first) (passage_after count block.at block.content) after next t others other_rest split_too.later) rests
     (behind wanted senders count before at octets block others other_rest other_made are_again)))
-    (stops_behind wanted senders before at block blocks rest fault made split.first split.later split.whole stops)
+    (stops_behind wanted senders count before at block blocks rest fault made split.first split.later split.whole stops)
     (subst (λ (n : ℕ). IsPartial (context_behind after others) n other_rest) (omega (arith, length-append block.octets (octets_of others))) partial_again)
 
 -- ---- captures
@@ -374,36 +402,51 @@ record Ends (limit : Extent) (wanted : Wanted) (octets : List ℕ) : Type 0 wher
 
 module _ (limit : Extent) (wanted : Wanted) (octets : List ℕ) where
   from_start : (blocks : List BlockAt) (rest : List ℕ) (made : List Made) → octets ≡ octets_of blocks ++ rest → AreBlocks (start limit) 0 blocks → AreTaken wanted (sightings_of blocks) made
-      → AreRead wanted [] 0 (start limit) 0 octets blocks rest made
+      → AreRead wanted [] no_passage (start limit) 0 octets blocks rest made
   from_start blocks rest made whole are_blocks taken = record { whole = whole; are_blocks = are_blocks; are_made = taken.are_made; few = subst (λ (s : Senders). length s ≤ 65536) (listed-more wanted.are_listed made) taken.few; none = λ not. refl }
 
   stops_from : (fault : Fault) (stops : Stops limit wanted octets fault)
-      → StopsAt wanted (more wanted.are_listed [] stops.made) (context_behind (start limit) stops.blocks) (0 + length (octets_of stops.blocks)) stops.rest fault
-  stops_from fault stops = subst (λ (n : ℕ). StopsAt wanted (more wanted.are_listed [] stops.made) (context_behind (start limit) stops.blocks) n stops.rest fault) (omega arith)
-      (subst (λ (s : Senders). StopsAt wanted s (context_behind (start limit) stops.blocks) (length (octets_of stops.blocks)) stops.rest fault) (listed-more wanted.are_listed stops.made) stops.stops)
+      → StopsAt wanted (more wanted.are_listed [] stops.made) (passage_behind no_passage stops.blocks) (context_behind (start limit) stops.blocks) (0 + length (octets_of stops.blocks)) stops.rest fault
+  stops_from fault stops =
+      subst (λ (n : ℕ). StopsAt wanted (more wanted.are_listed [] stops.made) (passage_behind no_passage stops.blocks) (context_behind (start limit) stops.blocks) n stops.rest fault) (omega arith)
+      (subst (λ (s : Senders). StopsAt wanted s (passage_behind no_passage stops.blocks) (context_behind (start limit) stops.blocks) (length (octets_of stops.blocks)) stops.rest fault)
+      (listed-more wanted.are_listed stops.made) stops.stops)
 
   none_stops : (fault : Fault) → Ends limit wanted octets → Stops limit wanted octets fault → ⊥
   none_stops fault ends stops =
-      stops_whole wanted [] 0 (start limit) 0 octets stops.blocks ends.blocks stops.rest ends.rest stops.made ends.made fault
+      stops_whole wanted [] no_passage (start limit) 0 octets stops.blocks ends.blocks stops.rest ends.rest stops.made ends.made fault
       (from_start stops.blocks stops.rest stops.made stops.whole stops.are_blocks stops.taken)
       (from_start ends.blocks ends.rest ends.made ends.whole ends.are_blocks ends.taken) (stops_from fault stops)
       (subst (λ (n : ℕ). IsPartial (context_behind (start limit) ends.blocks) n ends.rest) (omega arith) ends.partial)
 
   both_stop : (one other : Fault) → Stops limit wanted octets one → Stops limit wanted octets other → one ≡ other
   both_stop one other stops stops_too =
-      stops_one wanted [] 0 (start limit) 0 octets stops.blocks stops_too.blocks stops.rest stops_too.rest stops.made stops_too.made one other
+      stops_one wanted [] no_passage (start limit) 0 octets stops.blocks stops_too.blocks stops.rest stops_too.rest stops.made stops_too.made one other
       (from_start stops.blocks stops.rest stops.made stops.whole stops.are_blocks stops.taken)
       (from_start stops_too.blocks stops_too.rest stops_too.made stops_too.whole stops_too.are_blocks stops_too.taken) (stops_from one stops) (stops_from other stops_too)
 
   abbrev ends_of : (fault : Fault) → EndsShort limit wanted octets fault → Ends limit wanted octets
-  ends_of fault short = record {
-    blocks = short.blocks;
-    rest = short.rest;
-    made = short.made;
-    whole = short.whole;
-    are_blocks = short.are_blocks;
-    taken = short.taken;
-    partial = short.partial;
+  ends_of fault short =
+      let first = front_taken wanted (sightings_of short.blocks) (missing_in (passage_of short.blocks).known) short.made short.taken in
+      record {
+        blocks = short.blocks;
+        rest = short.rest;
+        made = first.0;
+        whole = short.whole;
+        are_blocks = short.are_blocks;
+        taken = first.1;
+        partial = short.partial;
+      }
+
+  abbrev ends_lost : (fault : Fault) → EndsLost limit wanted octets fault → Ends limit wanted octets
+  ends_lost fault lost = record {
+    blocks = lost.blocks;
+    rest = lost.rest;
+    made = lost.made;
+    whole = lost.whole;
+    are_blocks = lost.are_blocks;
+    taken = lost.taken;
+    partial = lost.partial;
   }
 
   ends_one : (one other : Ends limit wanted octets) → (other.blocks ≡ one.blocks) × (other.rest ≡ one.rest)
@@ -420,6 +463,33 @@ module _ (limit : Extent) (wanted : Wanted) (octets : List ℕ) where
       subst (λ (t : List ℕ). IsShortBy (context_behind (start limit) one.blocks) (length (octets_of one.blocks)) t fault) same.1
       (subst (λ (bs : List BlockAt). IsShortBy (context_behind (start limit) bs) (length (octets_of bs)) short.rest fault) same.0 short.short)
 
+  -- none is refused at the end where all are taken
+  none_lost : (one : Ends limit wanted octets) (made : List Made) (fault : Fault) → AreTaken wanted (sightings_to_end one.blocks) made → EndsLost limit wanted octets fault → ⊥
+  none_lost one made fault taken lost =
+      let same = ends_one one (ends_lost fault lost) in
+      let at_end = missing_in (passage_of one.blocks).known in
+      let parts = in_two wanted (sightings_of one.blocks) at_end made taken.are_made in
+      let firsts : parts.first ≡ lost.made = made_one wanted (sightings_of one.blocks) parts.first lost.made parts.are_first
+      (subst (λ (bs : List BlockAt). AreMade wanted (sightings_of bs) lost.made) same.0 lost.taken.are_made) in
+      let listed = wanted.are_listed in
+      refused_none wanted (more listed [] lost.made) at_end fault [] parts.later
+      (subst (λ (bs : List BlockAt). IsRefused wanted (more listed [] lost.made) (missing_in (passage_of bs).known) fault) same.0
+      (subst (λ (s : Senders). IsRefused wanted s (missing_in (passage_of lost.blocks).known) fault) (listed-more listed lost.made) lost.lost))
+      (subst (λ (s : List Sighting). AreMade wanted s parts.later) (sym (append-nil at_end)) parts.are_later)
+      (subst (λ (m : List Made). length (more listed (more listed [] m) parts.later) ≤ 65536) firsts
+      (subst (λ (s : Senders). length s ≤ 65536) (listed-more listed made ∙ ap (more listed []) parts.whole ∙ more-append listed [] parts.first parts.later) taken.few))
+      (λ not. ap (λ (b : Bool). more b [] lost.made) not ∙ more-none [] lost.made)
+
+  both_lost : (one other : Fault) → EndsLost limit wanted octets one → EndsLost limit wanted octets other → one ≡ other
+  both_lost one other lost lost_too =
+      let same = ends_one (ends_lost one lost) (ends_lost other lost_too) in
+      let at_end = missing_in (passage_of lost.blocks).known in
+      let made : lost_too.made ≡ lost.made = made_one wanted (sightings_of lost.blocks) lost_too.made lost.made
+      (subst (λ (bs : List BlockAt). AreMade wanted (sightings_of bs) lost_too.made) same.0 lost_too.taken.are_made) lost.taken.are_made in
+      refused_one wanted (senders_listed wanted.are_listed lost.made) no_passage (start limit) 0 at_end one other lost.lost
+      (subst (λ (m : List Made). IsRefused wanted (senders_listed wanted.are_listed m) at_end other) made
+      (subst (λ (bs : List BlockAt). IsRefused wanted (senders_listed wanted.are_listed lost_too.made) (missing_in (passage_of bs).known) other) same.0 lost_too.lost))
+
 short_one : (before : Before) (at : ℕ) (rest : List ℕ) (one other : Fault) → IsShortBy before at rest one → IsShortBy before at rest other → one ≡ other
 short_one before at rest one other (inl (not, is)) (inl (not_too, is_too)) = is ∙ sym is_too
 short_one before at rest one other (inl (not, is)) (inr (started, some, is_too)) = absurd (not started)
@@ -428,27 +498,41 @@ short_one before at rest one other (inr (started, some, is)) (inr (started_too, 
 
 pub fault_is_one : FaultIsOne
 fault_is_one limit wanted octets one other (inl stops) (inl stops_too) = both_stop limit wanted octets one other stops stops_too
-fault_is_one limit wanted octets one other (inl stops) (inr short) = absurd (none_stops limit wanted octets one (ends_of limit wanted octets other short) stops)
-fault_is_one limit wanted octets one other (inr short) (inl stops) = absurd (none_stops limit wanted octets other (ends_of limit wanted octets one short) stops)
-fault_is_one limit wanted octets one other (inr short) (inr short_too) =
+fault_is_one limit wanted octets one other (inl stops) (inr (inl short)) = absurd (none_stops limit wanted octets one (ends_of limit wanted octets other short) stops)
+fault_is_one limit wanted octets one other (inl stops) (inr (inr lost)) = absurd (none_stops limit wanted octets one (ends_lost limit wanted octets other lost) stops)
+fault_is_one limit wanted octets one other (inr (inl short)) (inl stops) = absurd (none_stops limit wanted octets other (ends_of limit wanted octets one short) stops)
+fault_is_one limit wanted octets one other (inr (inl short)) (inr (inl short_too)) =
     short_one (context_behind (start limit) short.blocks) (length (octets_of short.blocks)) short.rest one other short.short
     (short_here limit wanted octets (ends_of limit wanted octets one short) other short_too)
+fault_is_one limit wanted octets one other (inr (inl short)) (inr (inr lost)) = absurd (none_lost limit wanted octets (ends_of limit wanted octets one short) short.made other short.taken lost)
+fault_is_one limit wanted octets one other (inr (inr lost)) (inl stops) = absurd (none_stops limit wanted octets other (ends_lost limit wanted octets one lost) stops)
+fault_is_one limit wanted octets one other (inr (inr lost)) (inr (inl short)) = absurd (none_lost limit wanted octets (ends_of limit wanted octets other short) short.made one short.taken lost)
+fault_is_one limit wanted octets one other (inr (inr lost)) (inr (inr lost_too)) = both_lost limit wanted octets one other lost lost_too
 
 abbrev read_ends : (limit : Extent) (octets : List ℕ) (gathering : Gathering) (cut : Option ℕ) → IsReadToCut limit octets gathering cut → Ends limit gathering.wanted octets
-read_ends limit octets gathering cut is = record {
-  blocks = is.is_read.blocks;
-  rest = is.rest;
-  made = is.is_read.gathered.made;
-  whole = is.whole ∙ ap (λ (t : List ℕ). t ++ is.rest) is.is_read.whole;
-  are_blocks = is.is_read.are_blocks;
-  taken = is.is_read.gathered.taken;
-  partial = subst (λ (n : ℕ). IsPartial (context_behind (start limit) is.is_read.blocks) n is.rest) (ap length is.is_read.whole) is.partial;
-}
+read_ends limit octets gathering cut is =
+    let blocks = is.is_read.blocks in
+    let first = front_taken gathering.wanted (sightings_of blocks) (missing_in (passage_of blocks).known) is.is_read.gathered.made is.is_read.gathered.taken in
+    record {
+      blocks = blocks;
+      rest = is.rest;
+      made = first.0;
+      whole = is.whole ∙ ap (λ (t : List ℕ). t ++ is.rest) is.is_read.whole;
+      are_blocks = is.is_read.are_blocks;
+      taken = first.1;
+      partial = subst (λ (n : ℕ). IsPartial (context_behind (start limit) blocks) n is.rest) (ap length is.is_read.whole) is.partial;
+    }
 
 -- what is a capture up to a cut is not refused before
 pub none_stops_to_cut : (limit : Extent) (octets : List ℕ) (gathering : Gathering) (cut : Option ℕ) (fault : Fault) → IsReadToCut limit octets gathering cut
     → Stops limit gathering.wanted octets fault → ⊥
 none_stops_to_cut limit octets gathering cut fault is = none_stops limit gathering.wanted octets fault (read_ends limit octets gathering cut is)
+
+-- nor are datagrams at its end, of which fragments are missing
+pub none_lost_to_cut : (limit : Extent) (octets : List ℕ) (gathering : Gathering) (cut : Option ℕ) (fault : Fault) → IsReadToCut limit octets gathering cut
+    → EndsLost limit gathering.wanted octets fault → ⊥
+none_lost_to_cut limit octets gathering cut fault is =
+    none_lost limit gathering.wanted octets (read_ends limit octets gathering cut is) is.is_read.gathered.made fault is.is_read.gathered.taken
 
 pub cut_is_the_fault : CutIsTheFault
 cut_is_the_fault limit octets gathering cut is fault = by
@@ -461,7 +545,8 @@ cut_is_the_fault limit octets gathering cut is fault = by
 
     by : CaptureFault limit gathering.wanted octets fault → (at : ℕ) × (cut ≡ Some at) × (fault ≡ faults.CutShort at)
     by (inl stops) = absurd (none_stops_to_cut limit octets gathering cut fault is stops)
-    by (inr short) = place (short_here limit gathering.wanted octets (read_ends limit octets gathering cut is) fault short) is.where_cut
+    by (inr (inr lost)) = absurd (none_lost_to_cut limit octets gathering cut fault is lost)
+    by (inr (inl short)) = place (short_here limit gathering.wanted octets (read_ends limit octets gathering cut is) fault short) is.where_cut
 
 pub read_has_no_fault : ReadHasNoFault
 read_has_no_fault limit octets gathering is fault failed =

@@ -13,14 +13,15 @@ use Rattle.babel_capture.specs.declared.place.Place.{Place}
 use Rattle.babel_capture.specs.declared.tallies.Origin.{Origin}
 use Rattle.babel_capture.specs.declared.tallies.Tally.{Tally}
 use Rattle.babel_capture.specs.declared.wanted.Wanted.{Wanted}
-use Rattle.babel_capture.specs.Blocks.{BlockAt, Sighting, sightings_of}
+use Rattle.babel_capture.specs.Blocks.{BlockAt, sightings_to_end}
+use Rattle.babel_capture.specs.Passage.{Sighting}
 use Rattle.babel_capture.specs.Counts.{Made, counts_of}
 use Rattle.babel_capture.specs.Dumps.{packets_made, timed_found}
 use Rattle.babel_capture.specs.Findings.{CarriedIs, Finds, Found, PayloadIs, everyone, found, lack_found, left, passed, refused, untold}
 use Rattle.babel_capture.specs.Gathering.{AreMade, IsTaken}
 use Rattle.babel_capture.specs.OneOrigin.{AloneIsTheSame, MissingIsNone, NamedIsOne, is_missed, missed_from, only}
 use Rattle.babel_capture.specs.Senders.{is_from, made_from}
-use Rattle.babel_capture.specs.Sight.{Carried, Sight, carries, datagram, lacking, not_link_local, other, other_port, too_short}
+use Rattle.babel_capture.specs.Sight.{Carried, Sight, carries, datagram, fragmented, lacking, not_link_local, other, other_port, too_short}
 use Rattle.babel_capture.specs.Tallies.{Senders, origin_cmp, senders_listed, senders_of, senders_with}
 use Rattle.babel_capture.specs.Times.{time_of}
 use Rattle.babel_capture.proofs.OneCapture.{same_blocks}
@@ -77,6 +78,7 @@ module _ (origin : Origin) where
       → (ends.sender ≡ origin.sender) × (place ≡ origin.place)
   found_of other place ends packet has_trailer is = absurd cc
   found_of too_short place ends packet has_trailer is = absurd cc
+  found_of (fragmented fragment) place sender packet has_trailer is = absurd cc
   found_of (datagram there from carried) place ends packet has_trailer (inl (wants, is)) =
       let parts = carried_of (only origin) there from carried place ends packet has_trailer is in (ap (λ (e : Ends). e.sender) parts.1 ∙ wants.0, parts.0 ∙ wants.1)
   found_of (datagram there from carried) place ends packet has_trailer (inr (not, is)) = absurd cc
@@ -172,6 +174,7 @@ module _ (origin : Origin) where
   one_mine : (sight : Sight) (what : Found) → Finds everyone sight what → IsTaken what → is_missed origin what ≡ false → IsMine sight what
   one_mine other what is taken there = record { mine = passed; finds = refl; taken = tt; same = λ made. ap (λ (w : Found). if_from w (made w ∷ [])) (sym is) }
   one_mine too_short what is taken there = record { mine = untold; finds = refl; taken = tt; same = λ made. ap (λ (w : Found). if_from w (made w ∷ [])) (sym is) }
+  one_mine (fragmented fragment) what is taken there = record { mine = passed; finds = refl; taken = tt; same = λ made. ap (λ (w : Found). if_from w (made w ∷ [])) (sym is) }
   one_mine (datagram place ends carried) what (inr (not, is)) taken there = absurd (not (tt, tt))
   one_mine (datagram place ends carried) what (inl (wants, is)) taken there = by (is_own place ends.sender) refl
     where
@@ -222,6 +225,7 @@ module _ (origin : Origin) where
   one_there : (sight : Sight) (what mine : Found) → Finds everyone sight what → Finds (only origin) sight mine → IsTaken mine → is_missed origin what ≡ false
   one_there other what mine is finds taken = ap (is_missed origin) is
   one_there too_short what mine is finds taken = ap (is_missed origin) is
+  one_there (fragmented fragment) what mine is finds taken = ap (is_missed origin) is
   one_there (datagram place ends carried) what mine (inr (not, is)) finds taken = absurd (not (tt, tt))
   one_there (datagram place ends other_port) what mine (inl (wants, is)) finds taken = ap (is_missed origin) is
   one_there (datagram place ends not_link_local) what mine (inl (wants, is)) finds taken = ap (is_missed origin) is
@@ -242,12 +246,12 @@ pub named_is_one : NamedIsOne
 named_is_one limit octets gathering cut origin read wanted =
     let gathered = read.is_read.gathered in
     subst (λ (s : Senders). length s ≤ 1) (sym (gathered.senders ∙ ap (λ (w : Wanted). senders_listed w.are_listed gathered.made) wanted))
-    (one_at_most origin (sightings_of read.is_read.blocks) gathered.made
-    (subst (λ (w : Wanted). AreMade w (sightings_of read.is_read.blocks) gathered.made) wanted gathered.taken.are_made))
+    (one_at_most origin (sightings_to_end read.is_read.blocks) gathered.made
+    (subst (λ (w : Wanted). AreMade w (sightings_to_end read.is_read.blocks) gathered.made) wanted gathered.taken.are_made))
 
 pub alone_is_the_same : AloneIsTheSame
 alone_is_the_same limit octets all cut origin read wanted none =
-    let sightings = sightings_of read.is_read.blocks in
+    let sightings = sightings_to_end read.is_read.blocks in
     let gathered = read.is_read.gathered in
     let are = all_mine origin sightings gathered.made (subst (λ (w : Wanted). AreMade w sightings gathered.made) wanted gathered.taken.are_made) none in
     let most = one_at_most origin sightings are.mine are.are_made in (
@@ -277,7 +281,7 @@ missing_is_none limit octets all own cut own_cut origin read wanted some alone a
     let gathered = read.is_read.gathered in
     let own_gathered = alone.is_read.gathered in
     let same : read.is_read.blocks ≡ alone.is_read.blocks = (same_blocks limit octets all own cut own_cut read alone).0 in
-    some (all_there origin (sightings_of read.is_read.blocks) gathered.made own_gathered.made
-    (subst (λ (w : Wanted). AreMade w (sightings_of read.is_read.blocks) gathered.made) wanted gathered.taken.are_made)
-    (subst (λ (b : List BlockAt). AreMade (only origin) (sightings_of b) own_gathered.made) (sym same)
-    (subst (λ (w : Wanted). AreMade w (sightings_of alone.is_read.blocks) own_gathered.made) alone_wanted own_gathered.taken.are_made)))
+    some (all_there origin (sightings_to_end read.is_read.blocks) gathered.made own_gathered.made
+    (subst (λ (w : Wanted). AreMade w (sightings_to_end read.is_read.blocks) gathered.made) wanted gathered.taken.are_made)
+    (subst (λ (b : List BlockAt). AreMade (only origin) (sightings_to_end b) own_gathered.made) (sym same)
+    (subst (λ (w : Wanted). AreMade w (sightings_to_end alone.is_read.blocks) own_gathered.made) alone_wanted own_gathered.taken.are_made)))

@@ -10,14 +10,15 @@ use Rattle.babel_tlv.specs.Framing.{IsBody, framed}
 use Rattle.babel_capture.specs.declared.lack.Lack.{Lack}
 use Rattle.babel_capture.specs.declared.place.Place.{Place}
 use Rattle.babel_capture.specs.declared.wanted.Wanted.{Wanted}
-use Rattle.babel_capture.specs.Blocks.{Sighting, sightings_of}
+use Rattle.babel_capture.specs.Blocks.{sightings_to_end}
+use Rattle.babel_capture.specs.Passage.{Sighting}
 use Rattle.babel_capture.specs.Capture.{IsRead}
 use Rattle.babel_capture.specs.Counts.{Made}
 use Rattle.babel_capture.specs.Dumps.{dump_of}
 use Rattle.babel_capture.specs.Findings.{Found, Finds, PayloadIs, CarriedIs, lack_found, octets_found}
 use Rattle.babel_capture.specs.Gathering.{AreMade, Gathering}
 use Rattle.babel_capture.specs.Packets.{ArePackets}
-use Rattle.babel_capture.specs.Sight.{Sight, Carried, other, too_short, datagram, other_port, not_link_local, lacking, carries}
+use Rattle.babel_capture.specs.Sight.{Sight, Carried, other, too_short, fragmented, datagram, other_port, not_link_local, lacking, carries}
 use Rattle.babel_capture.specs.Window.{Extent}
 use Rattle.babel_capture.proofs.SinkLaws.{dump-append, dump-one}
 
@@ -57,6 +58,7 @@ in_carried wanted place ends (carries payload) what is = in_payload place ends p
 pub in_sight : (wanted : Wanted) (sight : Sight) (what : Found) → Finds wanted sight what → ArePackets (octets_found what)
 in_sight wanted other what is = nothing_found (octets_found what) (ap octets_found is)
 in_sight wanted too_short what is = nothing_found (octets_found what) (ap octets_found is)
+in_sight wanted (fragmented fragment) what is = nothing_found (octets_found what) (ap octets_found is)
 in_sight wanted (datagram place ends carried) what (inl (is_wanted, is)) = in_carried wanted place ends carried what is
 in_sight wanted (datagram place ends carried) what (inr (not, is)) = nothing_found (octets_found what) (ap octets_found is)
 
@@ -67,4 +69,4 @@ in_made wanted (sighting ∷ later) made (one, others, is, number, link, came, f
     (joined (octets_found one.what) (dump_of others) (in_sight wanted sighting.what one.what finds) (in_made wanted later others are))
 
 pub dump_packets : (limit : Extent) (octets : List ℕ) (gathering : Gathering) → (read : IsRead limit octets gathering) → ArePackets (dump_of read.gathered.made)
-dump_packets limit octets gathering read = in_made gathering.wanted (sightings_of read.blocks) read.gathered.made read.gathered.taken.are_made
+dump_packets limit octets gathering read = in_made gathering.wanted (sightings_to_end read.blocks) read.gathered.made read.gathered.taken.are_made

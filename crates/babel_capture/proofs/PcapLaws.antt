@@ -113,7 +113,7 @@ abbrev behind : PcapFile → ℕ → Before
 behind pcap limit = record { limit = limit; layout = layouts.Pcap pcap.order; first = 0; interfaces = interface_in pcap ∷ []; window = windows.Whole; start = None; to_cut = false }
 
 abbrev captured_in : PcapFile → Link → PcapRecord → Captured
-captured_in pcap link packet = record { interface = 0; section = 0; link = link; moment = Some (record_moment pcap.magic packet); frame = packet.frame; whole_len = packet.whole_len }
+captured_in pcap link packet = record { interface = 0; section = 0; link = link; moment = Some (record_moment pcap.magic packet); frame = packet.frame; whole_len = packet.whole_len; ends_within = true }
 
 abbrev block_in : PcapFile → Link → ℕ → PcapRecord → BlockAt
 block_in pcap link at packet = record { at = at; octets = record_octets pcap.order packet; content = holds (captured_in pcap link packet) }

@@ -6,32 +6,33 @@ use Rattle.std.proofs.Math.Seq.{take-add}
 use Rattle.std.proofs.lemmas.List.Concat.{flat_map-append}
 use Rattle.babel_capture.specs.declared.fault.Fault.{Fault}
 use Rattle.babel_capture.specs.declared.wanted.Wanted.{Wanted}
-use Rattle.babel_capture.specs.Blocks.{names_of, BlockAt, BeginsBlock, IsBlock, AreBlocks, Sighting, start, context_behind, octets_of, sightings_in, sightings_behind}
+use Rattle.babel_capture.specs.Blocks.{names_of, BlockAt, BeginsBlock, IsBlock, AreBlocks, start, context_behind, no_passage, octets_of, passage_after, passage_behind, passage_of, sightings_in, sightings_behind}
 use Rattle.babel_capture.specs.Blocks.{sightings_of}
 use Rattle.babel_capture.specs.Contents.{Content, block_said, context_after, names_in}
 use Rattle.babel_capture.specs.Context.{Before}
-use Rattle.babel_capture.specs.Counts.{Made, Counts}
-use Rattle.babel_capture.specs.Gathering.{AreMade, AreTaken, BlockNeedsMemory, Gathering, IsGathered}
-use Rattle.babel_capture.specs.Reading.{Progress, LeadTo, BlockFails, HeaderFails, NeedsMemory, NeedsMemoryAt, StopsAt, Stops}
+use Rattle.babel_capture.specs.Counts.{Made}
+use Rattle.babel_capture.specs.Gathering.{AreTaken, BlockNeedsMemory}
+use Rattle.babel_capture.specs.Passage.{Passage, Sighting}
+use Rattle.babel_capture.specs.Reading.{Progress, LeadTo, BlockFails, HeaderFails, NeedsMemory, NeedsMemoryAt, StopsAt, Stops, passage_in}
 use Rattle.babel_capture.specs.Tallies.{Senders, senders_listed}
-use Rattle.babel_capture.specs.Sinking.{GatherMore, LeadMore, Sinks, StopLead, StopsBehind}
+use Rattle.babel_capture.specs.Sinking.{GatherMore, GatherSome, LeadMore, Sinks, StopBlock, StopLead, StopsBehind}
 use Rattle.babel_capture.proofs.NumberLaws.{rest_is}
-use Rattle.babel_capture.proofs.SinkLaws.{sinks-as}
+use Rattle.babel_capture.proofs.SinkLaws.{sinks-as, sinks-both}
 use Rattle.babel_capture.specs.Window.{Extent}
 
 -- ---- one block more
 
-sightings-push : (count : ℕ) (blocks : List BlockAt) (b : BlockAt) → sightings_behind count (blocks ++ b ∷ []) ≡ sightings_behind count blocks ++ sightings_in
-    (count + length (sightings_behind count blocks) + 1) b.at b.content
-sightings-push count [] b =
-    append-nil (sightings_in (count + 1) b.at b.content) ∙ ap (λ (n : ℕ). sightings_in n b.at b.content) (omega arith)
-sightings-push count (first ∷ blocks) b =
-    let here : List Sighting = sightings_in (count + 1) first.at first.content in
-    let later : List Sighting = sightings_behind (count + length here) blocks in
-    let number : count + length here + length later + 1 ≡ count + length (here ++ later) + 1 = omega (arith, length-append here later) in
-    ap (λ (t : List Sighting). here ++ t) (sightings-push (count + length here) blocks b)
-    ∙ sym (append_assoc here later (sightings_in (count + length here + length later + 1) b.at b.content))
-    ∙ ap (λ (n : ℕ). (here ++ later) ++ sightings_in n b.at b.content) number
+sightings-push : (before : Passage) (blocks : List BlockAt) (b : BlockAt)
+    → sightings_behind before (blocks ++ b ∷ []) ≡ sightings_behind before blocks ++ sightings_in (passage_behind before blocks) b.at b.content
+sightings-push before [] b = append-nil (sightings_in before b.at b.content)
+sightings-push before (first ∷ blocks) b =
+    let here : List Sighting = sightings_in before first.at first.content in
+    let after = passage_after before first.at first.content in
+    ap (λ (t : List Sighting). here ++ t) (sightings-push after blocks b) ∙ sym (append_assoc here (sightings_behind after blocks) (sightings_in (passage_behind after blocks) b.at b.content))
+
+passage-push : (before : Passage) (blocks : List BlockAt) (b : BlockAt) → passage_behind before (blocks ++ b ∷ []) ≡ passage_after (passage_behind before blocks) b.at b.content
+passage-push before [] b = refl
+passage-push before (first ∷ blocks) b = passage-push (passage_after before first.at first.content) blocks b
 
 context-push : (before : Before) (blocks : List BlockAt) (b : BlockAt) → context_behind before (blocks ++ b ∷ []) ≡ context_after (context_behind before blocks) b.content
 context-push before [] b = refl
@@ -57,55 +58,87 @@ blocks-push before at (first ∷ blocks) b (here, one, first_said, are) is block
   blocks-push (context_after before first.content) (at + length first.octets) blocks b are (omega (arith, is, length-append first.octets (octets_of blocks))) block said,
 )
 
-length-made : (wanted : Wanted) (sightings : List Sighting) (made : List Made) → AreMade wanted sightings made → length made ≡ length sightings
-length-made wanted [] made are = ap length are
-length-made wanted (first ∷ sightings) made (one, others, is, number, link, came, finds, takes, are) =
-    (let rest : length others ≡ length sightings = length-made wanted sightings others are in omega (arith, ap length is, rest))
+-- what is seen behind the blocks so far
+sightings-led : (limit : Extent) (read : List ℕ) (old : Progress) (lead : LeadTo limit read old) (b : BlockAt) → b.at ≡ old.at
+    → sightings_of (lead.blocks ++ b ∷ []) ≡ sightings_of lead.blocks ++ sightings_in (passage_in old) old.at b.content
+sightings-led limit read old lead b here =
+    sightings-push no_passage lead.blocks b ∙ ap (λ (n : ℕ). sightings_of lead.blocks ++ sightings_in (passage_of lead.blocks) n b.content) here
+    ∙ ap (λ (p : Passage). sightings_of lead.blocks ++ sightings_in p old.at b.content) (sym lead.passage)
 
-packets-are : (sightings : List Sighting) (gathering : Gathering) → IsGathered sightings gathering → gathering.report.packets ≡ length sightings
-packets-are sightings gathering gathered =
-    ap (λ (c : Counts). c.packets) gathered.report ∙ length-made gathering.wanted sightings gathered.made gathered.taken.are_made
+blocks-led : (limit : Extent) (read block : List ℕ) (old : Progress) (content : Content) (lead : LeadTo limit read old) → IsBlock old.context old.at block
+    → block_said old.context old.at block ≡ Ok content → AreBlocks (start limit) 0 (lead.blocks ++ record { at = old.at; octets = block; content = content } ∷ [])
+blocks-led limit read block old content lead is_block said =
+    blocks-push (start limit) 0 lead.blocks (record { at = old.at; octets = block; content = content }) lead.are_blocks (omega (arith, lead.place, ap length lead.whole))
+    (subst (λ (c : Before). IsBlock c old.at block) lead.context is_block)
+    (subst (λ (c : Before). block_said c old.at block ≡ Ok content) lead.context said)
 
 pub lead-push : (block : List ℕ) (old new : Progress) (content : Content) (more : List Made) → IsBlock old.context old.at block → block_said old.context old.at block ≡ Ok content
     → new.context ≡ context_after old.context content → new.at ≡ old.at + length block
-    → GatherMore old.gathering new.gathering (sightings_in (old.gathering.report.packets + 1) old.at content) more
+    → GatherMore old.gathering new.gathering (sightings_in (passage_in old) old.at content) more → passage_in new ≡ passage_after (passage_in old) old.at content
     → new.gathering.names ≡ old.gathering.names ++ names_in content → LeadMore old new block more
-lead-push block old new content more is_block said context place gathers names limit read lead =
+lead-push block old new content more is_block said context place gathers passage names limit read lead =
     let b : BlockAt = record { at = old.at; octets = block; content = content } in
-    let count : old.gathering.report.packets ≡ length (sightings_of lead.blocks) = packets-are (sightings_of lead.blocks) old.gathering lead.gathered in
-    let number : old.gathering.report.packets + 1 ≡ 0 + length (sightings_of lead.blocks) + 1 = omega (arith, count) in
     let both = gathers (sightings_of lead.blocks) lead.gathered in
-    let gathered = both.0 in
-    let same : sightings_of lead.blocks ++ sightings_in (old.gathering.report.packets + 1) old.at content ≡ sightings_of (lead.blocks ++ b ∷ []) =
-    ap (λ (n : ℕ). sightings_of lead.blocks ++ sightings_in n old.at content) number ∙ sym (sightings-push 0 lead.blocks b) in (
+    let gathered = both.0 in (
       record {
         blocks = lead.blocks ++ b ∷ [];
         whole = ap (λ (t : List ℕ). t ++ block) lead.whole ∙ sym (octets-push lead.blocks b);
-        are_blocks = blocks-push (start limit) 0 lead.blocks b lead.are_blocks (omega (arith, lead.place, ap length lead.whole))
-            (subst (λ (c : Before). IsBlock c old.at block) lead.context is_block)
-            (subst (λ (c : Before). block_said c old.at block ≡ Ok content) lead.context said);
+        are_blocks = blocks-led limit read block old content lead is_block said;
         place = omega (arith, place, lead.place, length-append read block);
         context = context ∙ ap (λ (c : Before). context_after c content) lead.context ∙ sym (context-push (start limit) lead.blocks b);
         gathered = record {
           made = gathered.made;
-          taken = subst (λ (s : List Sighting). AreTaken new.gathering.wanted s gathered.made) same gathered.taken;
+          taken = subst (λ (s : List Sighting). AreTaken new.gathering.wanted s gathered.made) (sym (sightings-led limit read old lead b refl)) gathered.taken;
           report = gathered.report;
           senders = gathered.senders;
         };
         names = names ∙ ap (λ (ns : List (List ℕ)). ns ++ names_in content) lead.names ∙ sym (names-push lead.blocks b);
+        passage = passage ∙ ap (λ (p : Passage). passage_after p old.at content) lead.passage ∙ sym (passage-push no_passage lead.blocks b);
       },
       both.1,
     )
 
+-- ---- a block that is taken in part, or not at all
+
+pub stop-block : (block : List ℕ) (old : Progress) (content : Content) (more : List Made) → IsBlock old.context old.at block → block_said old.context old.at block ≡ Ok content
+    → GatherSome old.gathering (sightings_in (passage_in old) old.at content) more → StopBlock old block more
+stop-block block old content more is_block said some limit read lead rest =
+    let b : BlockAt = record { at = old.at; octets = block; content = content } in
+    let part = some (sightings_of lead.blocks) lead.gathered in
+    record {
+      blocks = lead.blocks ++ b ∷ [];
+      rest = rest;
+      whole = ap (λ (t : List ℕ). (t ++ block) ++ rest) lead.whole ∙ ap (λ (t : List ℕ). t ++ rest) (sym (octets-push lead.blocks b));
+      are_blocks = blocks-led limit read block old content lead is_block said;
+      front = sightings_of lead.blocks ++ part.0;
+      back = part.1;
+      parts = sightings-led limit read old lead b refl ∙ ap (λ (s : List Sighting). sightings_of lead.blocks ++ s) part.2 ∙ sym (append_assoc (sightings_of lead.blocks) part.0 part.1);
+      taken = part.3;
+    }
+
+pub stop-here : (old : Progress) (block : List ℕ) → StopBlock old block []
+stop-here old block limit read lead rest = record {
+  blocks = lead.blocks;
+  rest = block ++ rest;
+  whole = append_assoc read block rest ∙ ap (λ (t : List ℕ). t ++ (block ++ rest)) lead.whole;
+  are_blocks = lead.are_blocks;
+  front = sightings_of lead.blocks;
+  back = [];
+  parts = sym (append-nil (sightings_of lead.blocks));
+  taken = subst (λ (m : List Made). AreTaken old.gathering.wanted (sightings_of lead.blocks) m) (sym (append-nil lead.gathered.made)) lead.gathered.taken;
+}
+
 -- ---- what stops
 
 -- what holds where octets led holds where their blocks end
-where-led : (P : Senders → Before → ℕ → Type 0) (limit : Extent) (read : List ℕ) (now : Progress) (lead : LeadTo limit read now) → P now.gathering.senders now.context now.at
-    → P (senders_listed now.gathering.wanted.are_listed lead.gathered.made) (context_behind (start limit) lead.blocks) (length (octets_of lead.blocks))
+where-led : (P : Senders → Passage → Before → ℕ → Type 0) (limit : Extent) (read : List ℕ) (now : Progress) (lead : LeadTo limit read now)
+    → P now.gathering.senders (passage_in now) now.context now.at
+    → P (senders_listed now.gathering.wanted.are_listed lead.gathered.made) (passage_of lead.blocks) (context_behind (start limit) lead.blocks) (length (octets_of lead.blocks))
 where-led P limit read now lead holds =
-    let all = senders_listed now.gathering.wanted.are_listed lead.gathered.made in
-    subst (P all (context_behind (start limit) lead.blocks)) (lead.place ∙ ap length lead.whole)
-    (subst (λ (c : Before). P all c now.at) lead.context (subst (λ (s : Senders). P s now.context now.at) lead.gathered.senders holds))
+    let senders = senders_listed now.gathering.wanted.are_listed lead.gathered.made in
+    subst (P senders (passage_of lead.blocks) (context_behind (start limit) lead.blocks)) (lead.place ∙ ap length lead.whole)
+    (subst (λ (c : Before). P senders (passage_of lead.blocks) c now.at) lead.context
+    (subst (λ (p : Passage). P senders p now.context now.at) lead.passage (subst (λ (s : Senders). P s (passage_in now) now.context now.at) lead.gathered.senders holds)))
 
 module _ (limit : Extent) (wanted : Wanted) (read octets : List ℕ) (used : ℕ) (now : Progress) (same : now.gathering.wanted ≡ wanted) (lead : LeadTo limit (read ++ take used octets) now) where
   whole : read ++ octets ≡ octets_of lead.blocks ++ drop used octets
@@ -114,7 +147,7 @@ module _ (limit : Extent) (wanted : Wanted) (read octets : List ℕ) (used : ℕ
   are_taken : AreTaken wanted (sightings_of lead.blocks) lead.gathered.made
   are_taken = subst (λ (w : Wanted). AreTaken w (sightings_of lead.blocks) lead.gathered.made) same lead.gathered.taken
 
-  pub stops-behind : (fault : Fault) → StopsAt now.gathering.wanted now.gathering.senders now.context now.at (drop used octets) fault → Stops limit wanted (read ++ octets) fault
+  pub stops-behind : (fault : Fault) → StopsAt now.gathering.wanted now.gathering.senders (passage_in now) now.context now.at (drop used octets) fault → Stops limit wanted (read ++ octets) fault
   stops-behind fault stops = record {
     blocks = lead.blocks;
     rest = drop used octets;
@@ -122,12 +155,21 @@ module _ (limit : Extent) (wanted : Wanted) (read octets : List ℕ) (used : ℕ
     whole = whole;
     are_blocks = lead.are_blocks;
     taken = are_taken;
-    stops = subst (λ (w : Wanted). StopsAt w (senders_listed w.are_listed lead.gathered.made) (context_behind (start limit) lead.blocks) (length (octets_of lead.blocks)) (drop used octets) fault) same
-        (where-led (λ (s : Senders) (c : Before) (n : ℕ). StopsAt now.gathering.wanted s c n (drop used octets) fault) limit (read ++ take used octets) now lead stops);
+    stops = subst (λ (w : Wanted). StopsAt w (senders_listed w.are_listed lead.gathered.made) (passage_of lead.blocks) (context_behind (start limit) lead.blocks) (length (octets_of lead.blocks)) (drop used octets) fault) same
+        (where-led (λ (s : Senders) (p : Passage) (c : Before) (n : ℕ). StopsAt now.gathering.wanted s p c n (drop used octets) fault) limit (read ++ take used octets) now lead stops);
   }
 
   behind-led : StopsBehind limit wanted (read ++ octets) lead.gathered.made
-  behind-led = record { blocks = lead.blocks; rest = drop used octets; whole = whole; are_blocks = lead.are_blocks; taken = are_taken }
+  behind-led = record {
+    blocks = lead.blocks;
+    rest = drop used octets;
+    whole = whole;
+    are_blocks = lead.are_blocks;
+    front = sightings_of lead.blocks;
+    back = [];
+    parts = sym (append-nil (sightings_of lead.blocks));
+    taken = are_taken;
+  }
 
   pub needs-behind : NeedsMemoryAt now.gathering.wanted now.gathering.senders now.context now.at (drop used octets) → NeedsMemory limit wanted read octets
   needs-behind needs = record {
@@ -139,7 +181,7 @@ module _ (limit : Extent) (wanted : Wanted) (read octets : List ℕ) (used : ℕ
     taken = are_taken;
     in_piece = omega (arith, ap length lead.whole, length-append read (take used octets));
     needs = subst (λ (w : Wanted). NeedsMemoryAt w (senders_listed w.are_listed lead.gathered.made) (context_behind (start limit) lead.blocks) (length (octets_of lead.blocks)) (drop used octets)) same
-        (where-led (λ (s : Senders) (c : Before) (n : ℕ). NeedsMemoryAt now.gathering.wanted s c n (drop used octets)) limit (read ++ take used octets) now lead needs);
+        (where-led (λ (s : Senders) (p : Passage) (c : Before) (n : ℕ). NeedsMemoryAt now.gathering.wanted s c n (drop used octets)) limit (read ++ take used octets) now lead needs);
   }
 
 -- ---- as the loop meets them
@@ -174,19 +216,36 @@ sinks-led has before after old now octets used same = sinks-as has before after 
     let led = goes limit read lead in
     rw (sym led.1) (behind-led limit old.gathering.wanted read octets used now same led.0))
 
+-- and where the next block stops
+pub sinks-block : {S : Type 0} (has : S → S → List Made → Type 0) (before between after : S) (old now : Progress) (octets block : List ℕ) (used : ℕ) → now.gathering.wanted ≡ old.gathering.wanted
+    → BeginsBlock now.context now.at (rest_of used octets) block → Sinks has before between (LeadMore old now (take used octets)) → Sinks has between after (StopBlock now block)
+    → Sinks has before after (StopLead old octets)
+sinks-block has before between after old now octets block used same begins =
+    sinks-both has before between after (LeadMore old now (take used octets)) (StopBlock now block) (StopLead old octets) (λ one two goes stops limit read lead.
+    let led = goes limit read lead in
+    let n = used + length block in
+    let rest = drop n octets in
+    let whole : ((read ++ take used octets) ++ block) ++ rest ≡ read ++ octets =
+    ap (λ (t : List ℕ). t ++ rest) (append_assoc read (take used octets) block ∙ ap (λ (t : List ℕ). read ++ t) (taken-more now.context now.at used octets block begins))
+    ∙ append_assoc read (take n octets) rest ∙ ap (λ (t : List ℕ). read ++ t) (take-append-drop n octets) in
+    let made : led.0.gathered.made ++ two ≡ lead.gathered.made ++ (one ++ two) = ap (λ (m : List Made). m ++ two) led.1 ∙ append_assoc lead.gathered.made one two in
+    subst (λ (w : Wanted). StopsBehind limit w (read ++ octets) (lead.gathered.made ++ (one ++ two))) same
+    (subst (λ (t : List ℕ). StopsBehind limit now.gathering.wanted t (lead.gathered.made ++ (one ++ two))) whole
+    (subst (λ (m : List Made). StopsBehind limit now.gathering.wanted (((read ++ take used octets) ++ block) ++ rest) m) made (stops limit (read ++ take used octets) led.0 rest))))
+
 pub header-stops : (limit : Extent) (wanted : Wanted) (read octets : List ℕ) (used : ℕ) (now : Progress) (fault : Fault) → now.gathering.wanted ≡ wanted
     → HeaderFails now.context now.at (rest_of used octets) fault
     → LeadTo limit (read ++ take used octets) now → Stops limit wanted (read ++ octets) fault
 header-stops limit wanted read octets used now fault same header lead =
     stops-behind limit wanted read octets used now same lead fault
-    (subst (λ (t : List ℕ). StopsAt now.gathering.wanted now.gathering.senders now.context now.at t fault) (rest_is used octets) (inl header))
+    (subst (λ (t : List ℕ). StopsAt now.gathering.wanted now.gathering.senders (passage_in now) now.context now.at t fault) (rest_is used octets) (inl header))
 
 pub block-stops : (limit : Extent) (wanted : Wanted) (read octets block : List ℕ) (used : ℕ) (now : Progress) (fault : Fault) → now.gathering.wanted ≡ wanted
-    → BeginsBlock now.context now.at (rest_of used octets) block → BlockFails now.gathering.wanted now.gathering.senders now.context now.at block fault
+    → BeginsBlock now.context now.at (rest_of used octets) block → BlockFails now.gathering.wanted now.gathering.senders (passage_in now) now.context now.at block fault
     → LeadTo limit (read ++ take used octets) now → Stops limit wanted (read ++ octets) fault
 block-stops limit wanted read octets block used now fault same begins fails lead =
     stops-behind limit wanted read octets used now same lead fault
-    (subst (λ (t : List ℕ). StopsAt now.gathering.wanted now.gathering.senders now.context now.at t fault) (rest_is used octets) (inr (block, begins, fails)))
+    (subst (λ (t : List ℕ). StopsAt now.gathering.wanted now.gathering.senders (passage_in now) now.context now.at t fault) (rest_is used octets) (inr (block, begins, fails)))
 
 pub block-needs : (limit : Extent) (wanted : Wanted) (read octets block : List ℕ) (used : ℕ) (now : Progress) → now.gathering.wanted ≡ wanted
     → BeginsBlock now.context now.at (rest_of used octets) block

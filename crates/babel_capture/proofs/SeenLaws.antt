@@ -1,6 +1,6 @@
 -- What is seen as a packet is laid out in its frame, layer by layer.
 use Rattle.std.proofs.Common.{◌≡◌, ℕ, zero, suc, ◌+◌, ◌-◌, ◌*◌, ◌/◌, ◌%◌, ◌^◌, ◌<◌, ◌≤◌, ◌⊎◌, inl, inr, Bool, true, false, List, [], ◌∷◌, ◌++◌, length, take, drop, refl, sym, ap, subst, ◌∙◌}
-use Rattle.std.proofs.Common.{length-append, append_assoc, arith, nat_lt, slice_index, bit_and, not, ◌==◌, ◌&&◌, ◌||◌, if◌then◌else◌}
+use Rattle.std.proofs.Common.{length-append, append_assoc, arith, nat_lt, slice_index, bit_and, not, ◌==◌, ◌&&◌, ◌||◌, if◌then◌else◌, Option, None}
 use Rattle.std.specs.Prelude.{Contains}
 use Rattle.std.specs.List.{All}
 use Rattle.std.proofs.lemmas.Bool.Decides.{nat_tests}
@@ -12,14 +12,16 @@ use Rattle.byteorder.specs.Endian.{big_bytes}
 use Rattle.babel_capture.specs.declared.ends.Ends.{Ends}
 use Rattle.babel_capture.specs.declared.lack.Lack.TheVariants as lacks
 use Rattle.babel_capture.specs.declared.place.Place.{Place}
-use Rattle.babel_capture.specs.Headers.{NextHeader, has_len, has_more_fragments as flagged, header_len, is_first_fragment, is_unkept, past_header, past_headers, telling_len}
+use Rattle.babel_capture.specs.Headers.{NextHeader, fragment_offset as offset_in, has_len, has_more_fragments as flagged, header_len, is_atomic, is_unkept, past_header, past_headers, telling_len}
+use Rattle.babel_capture.specs.declared.fragment.UdpPlace.{UdpPlace}
+use Rattle.babel_capture.specs.IpFragments.{IpFragment, first_sight, fragment_sight, is_taken, taken, udp_place_in}
 use Rattle.babel_capture.specs.InFrame.{AreOctets}
-use Rattle.babel_capture.specs.Ipv4.{carries_udp, has_more_fragments, ipv4_carried_sight, ipv4_header_len, ipv4_ends, ipv4_sight, is_later_fragment, total_len}
-use Rattle.babel_capture.specs.Ipv6.{first_header, ipv6_carried_sight, ipv6_ends, ipv6_sight, payload_len, upper_sight}
+use Rattle.babel_capture.specs.Ipv4.{carries_udp, fragment_offset, has_more_fragments, ipv4_carried_sight, ipv4_fragment, ipv4_header_len, ipv4_ends, ipv4_sight, is_fragment, total_len}
+use Rattle.babel_capture.specs.Ipv6.{first_header, ipv6_carried_sight, ipv6_fragment, ipv6_fragment_sight, ipv6_ends, ipv6_sight, payload_len, upper_sight}
 use Rattle.babel_capture.specs.LaidOut.{Extension, HasFlags, IsBabel, IsExtension, IsWhole, Ipv4Header, Ipv6Header, UdpDatagram, extensions, first_number}
 use Rattle.babel_capture.specs.LaidOut.{ipv4_header, ipv4_octets, ipv6_header, ipv6_octets, udp_octets, udp_size}
 use Rattle.babel_capture.specs.Octets.{ip_version, network_number}
-use Rattle.babel_capture.specs.Sight.{Carried, Sight, carries, datagram, lacking, not_link_local, other, other_port, too_short}
+use Rattle.babel_capture.specs.Sight.{Carried, Sight, carries, datagram, fragmented, lacking, not_link_local, other, other_port, too_short}
 use Rattle.babel_capture.specs.Udp.{destination_port, is_babel, is_of_routers, len_sight, may_send, source_port, udp_len, udp_sight, unkept_sight}
 use Rattle.babel_capture.proofs.LaidOutLaws.{past-first_header}
 use Rattle.babel_capture.proofs.ReadBack.{field_is, number_fits, octet_is, part_is}
@@ -35,6 +37,7 @@ OnCarried P (carries payload) = P payload
 abbrev pub OnPacket : (Place → Ends → List ℕ → Type 0) → Sight → Type 0
 OnPacket P other = Unit {0}
 OnPacket P too_short = Unit {0}
+OnPacket P (fragmented fragment) = Unit {0}
 OnPacket P (datagram place ends carried) = OnCarried (P place ends) carried
 
 module _ (P Q : Place → Ends → List ℕ → Type 0) (follows : (place : Place) (ends : Ends) (payload : List ℕ) → P place ends payload → Q place ends payload) where
@@ -47,6 +50,7 @@ module _ (P Q : Place → Ends → List ℕ → Type 0) (follows : (place : Plac
   pub on-map : (sight : Sight) → OnPacket P sight → OnPacket Q sight
   on-map other holds = tt
   on-map too_short holds = tt
+  on-map (fragmented fragment) holds = tt
   on-map (datagram place ends carried) holds = carried-map place ends carried holds
 
 -- whichever of the two is seen
@@ -59,6 +63,25 @@ module _ (P : Place → Ends → List ℕ → Type 0) where
   choose true x y here there = here refl
   choose false x y here there = there refl
 
+-- a fragment is no packet
+module _ (P : Place → Ends → List ℕ → Type 0) (ip : IpFragment) where
+  first_seen : (upper : NextHeader) → OnPacket P (first_sight ip upper)
+  first_seen upper =
+      let at : Option UdpPlace = udp_place_in ip upper in
+      let ports : Sight = if nat_lt (length upper.octets) 4 then too_short else taken ip at in
+      let udp : Sight = if nat_lt upper.whole 8 then taken ip None else ports in
+      let again : Sight = if upper.number == 44 then other else taken ip None in
+      let others : Sight = if is_unkept upper then too_short else again in
+      choose P (upper.number == 17) udp others
+      (λ _. unless P (nat_lt upper.whole 8) (taken ip None) ports tt (λ _. unless P (nat_lt (length upper.octets) 4) too_short (taken ip at) tt (λ _. tt)))
+      (λ _. unless P (is_unkept upper) too_short again tt (λ _. unless P (upper.number == 44) other (taken ip None) tt (λ _. tt)))
+
+  fragment_seen : OnPacket P (fragment_sight ip)
+  fragment_seen =
+      let first : Sight = first_sight ip (past_headers 8 ip.carried) in
+      let each : Sight = if ip.offset == 0 then first else taken ip None in
+      unless P (not (is_taken ip)) other each tt (λ _. choose P (ip.offset == 0) first (taken ip None) (λ _. first_seen (past_headers 8 ip.carried)) (λ _. tt))
+
 pub room : (whole needed : ℕ) → nat_lt whole needed ≡ false → needed ≤ whole
 room whole needed enough = grind (arith, nat_tests)
 
@@ -68,6 +91,14 @@ not_not false is = cc
 
 pub number_is : (a b : ℕ) → (a == b) ≡ true → a ≡ b
 number_is a b is = grind (arith, nat_tests)
+
+or_left : (a b : Bool) → (a || b) ≡ false → a ≡ false
+or_left true b is = is
+or_left false b is = refl
+
+or_right : (a b : Bool) → (a || b) ≡ false → b ≡ false
+or_right true b is = absurd cc
+or_right false b is = is
 
 -- ---- UDP
 
@@ -81,9 +112,9 @@ record IsUdp (ends : Ends) (octets : List ℕ) (all : ℕ) (payload : List ℕ) 
   whole : octets ≡ udp_octets udp ++ rest
   fits : udp_size udp ≤ all
 
-abbrev UdpSeen : Place → Ends → Bool → Bool → List ℕ → ℕ → Place → Ends → List ℕ → Type 0
-UdpSeen place ends is_fragment is_cut octets all there from payload =
-    (there ≡ place) × (from ≡ ends) × (is_fragment ≡ false) × (is_cut ≡ false) × IsUdp ends octets all payload
+abbrev UdpSeen : Place → Ends → Bool → List ℕ → ℕ → Place → Ends → List ℕ → Type 0
+UdpSeen place ends is_cut octets all there from payload =
+    (there ≡ place) × (from ≡ ends) × (is_cut ≡ false) × IsUdp ends octets all payload
 
 udp_in : (ends : Ends) (octets : List ℕ) (all : ℕ) → AreOctets octets → is_of_routers octets ≡ true → may_send ends.sender ≡ true → udp_len octets ≤ all → 8 ≤ udp_len octets
     → udp_len octets ≤ length octets → IsUdp ends octets all (take (udp_len octets - 8) (drop 8 octets))
@@ -113,7 +144,7 @@ udp_in ends octets all are routers may fits header kept =
 
 module _ (place : Place) (ends : Ends) (octets : List ℕ) (all : ℕ) (are : AreOctets octets) where
   abbrev Whole : Place → Ends → List ℕ → Type 0
-  Whole = UdpSeen place ends false false octets all
+  Whole = UdpSeen place ends false octets all
 
   len_seen : is_of_routers octets ≡ true → may_send ends.sender ≡ true → OnPacket Whole (len_sight place ends octets all)
   len_seen routers may =
@@ -130,16 +161,15 @@ module _ (place : Place) (ends : Ends) (octets : List ℕ) (all : ℕ) (are : Ar
       unless Whole (nat_lt all len) cut long tt (λ fits.
       unless Whole (nat_lt len 8) other kept tt (λ header.
       unless Whole (nat_lt (length octets) len) snapped payload tt (λ there.
-      (refl, refl, refl, refl, udp_in ends octets all are routers may (room all len fits) (room len 8 header) (room (length octets) len there)))))))
+      (refl, refl, refl, udp_in ends octets all are routers may (room all len fits) (room len 8 header) (room (length octets) len there)))))))
 
-  udp_seen : (is_fragment is_cut : Bool) → OnPacket (UdpSeen place ends is_fragment is_cut octets all) (udp_sight place ends is_fragment is_cut octets all)
+  udp_seen : (is_cut : Bool) → OnPacket (UdpSeen place ends is_cut octets all) (udp_sight place ends is_cut octets all)
   unfolding udp_sight
-  udp_seen is_fragment is_cut =
-      let P = UdpSeen place ends is_fragment is_cut octets all in
+  udp_seen is_cut =
+      let P = UdpSeen place ends is_cut octets all in
       let len : Sight = len_sight place ends octets all in
       let cut : Sight = if is_cut then datagram place ends (lacking lacks.CutShort) else len in
-      let joined : Sight = if is_fragment then datagram place ends (lacking lacks.Fragment) else cut in
-      let local : Sight = if not (may_send ends.sender) then datagram place ends not_link_local else joined in
+      let local : Sight = if not (may_send ends.sender) then datagram place ends not_link_local else cut in
       let babel : Sight = if not (is_of_routers octets) then datagram place ends other_port else local in
       let ports : Sight = if not (is_babel octets) then other else babel in
       let kept : Sight = if nat_lt (length octets) 4 then too_short else ports in
@@ -147,11 +177,10 @@ module _ (place : Place) (ends : Ends) (octets : List ℕ) (all : ℕ) (are : Ar
       unless P (nat_lt (length octets) 4) too_short ports tt (λ _.
       unless P (not (is_babel octets)) other babel tt (λ _.
       unless P (not (is_of_routers octets)) (datagram place ends other_port) local tt (λ routers.
-      unless P (not (may_send ends.sender)) (datagram place ends not_link_local) joined tt (λ may.
-      unless P is_fragment (datagram place ends (lacking lacks.Fragment)) cut tt (λ whole.
+      unless P (not (may_send ends.sender)) (datagram place ends not_link_local) cut tt (λ may.
       unless P is_cut (datagram place ends (lacking lacks.CutShort)) len tt (λ fits.
-      on-map Whole P (λ there from payload seen. (seen.0, seen.1, whole, fits, seen.4)) len
-      (len_seen (not_not (is_of_routers octets) routers) (not_not (may_send ends.sender) may)))))))))
+      on-map Whole P (λ there from payload seen. (seen.0, seen.1, fits, seen.3)) len
+      (len_seen (not_not (is_of_routers octets) routers) (not_not (may_send ends.sender) may))))))))
 
 -- ---- IP
 
@@ -177,10 +206,10 @@ first_octet octet version long =
     (omega arith, omega arith)
 
 -- no fragment by its flags
-flags_in : (flags : ℕ) → flags < 2 ^ 16 → not (bit_and flags 0x1fff == 0) ≡ false → not (bit_and flags 0x2000 == 0) ≡ false → HasFlags 0 flags
+flags_in : (flags : ℕ) → flags < 2 ^ 16 → not (8 * bit_and flags 0x1fff == 0) ≡ false → not (bit_and flags 0x2000 == 0) ≡ false → HasFlags 0 flags
 flags_in flags fits offset last =
     let low : bit_and flags 0x1fff ≡ flags % 2 ^ 13 = and_mask flags 13 in
-    let none : bit_and flags 0x1fff ≡ 0 = number_is (bit_and flags 0x1fff) 0 (not_not (bit_and flags 0x1fff == 0) offset) in
+    let none : 8 * bit_and flags 0x1fff ≡ 0 = number_is (8 * bit_and flags 0x1fff) 0 (not_not (8 * bit_and flags 0x1fff == 0) offset) in
     let bit : bit_and flags 0x2000 ≡ flags / 2 ^ 13 % 2 * 2 ^ 13 = and_pow flags 13 in
     let unset : bit_and flags 0x2000 ≡ 0 = number_is (bit_and flags 0x2000) 0 (not_not (bit_and flags 0x2000 == 0) last) in
     record { bits = flags / 2 ^ 14; bits_fit = omega arith; are_flags = omega arith }
@@ -233,10 +262,10 @@ within_is header total octets front rest fits is =
     part_is m (drop header octets) ∙ ap (λ (t : List ℕ). t ++ drop m (drop header octets)) part ∙ append_assoc front rest (drop m (drop header octets))
 
 ipv4_in : (octets : List ℕ) (all : ℕ) (payload : List ℕ) → AreOctets octets → 20 ≤ length octets → ip_version octets ≡ 4 → 20 ≤ ipv4_header_len octets → slice_index octets 9 ≡ 17
-    → is_later_fragment octets ≡ false → has_more_fragments octets ≡ false → total_len octets ≤ all
+    → is_fragment octets ≡ false → total_len octets ≤ all
     → IsUdp (ipv4_ends octets) (drop (ipv4_header_len octets) (take (total_len octets) octets)) (total_len octets - ipv4_header_len octets) payload
     → IsIp 0x0800 (ipv4_ends octets) octets all payload
-ipv4_in octets all payload are long version header udp later last there is =
+ipv4_in octets all payload are long version header udp whole_one there is =
     let n = words octets are in
     let ip = ip_of octets are in
     let h = 20 + 4 * n in
@@ -267,7 +296,8 @@ ipv4_in octets all payload are long version header udp later last there is =
           is_type = refl;
           ip = ip;
           fits = record { words_fit = omega arith; options_len = options_len; sender_fits = number_fits 12 4 octets are; destination_fits = number_fits 16 4 octets are; len_fits = omega (arith, number, total_is) };
-          no_fragment = flags_in (network_number 6 2 octets) (number_fits 6 2 octets are) later last;
+          no_fragment = flags_in (network_number 6 2 octets) (number_fits 6 2 octets are) (or_left (not (fragment_offset octets == 0)) (has_more_fragments octets) whole_one)
+              (or_right (not (fragment_offset octets == 0)) (has_more_fragments octets) whole_one);
           are_ends = refl;
           is_packet = refl;
         }),
@@ -283,20 +313,21 @@ module _ (place : Place) (octets : List ℕ) (all : ℕ) (are : AreOctets octets
   abbrev Over4 : Place → Ends → List ℕ → Type 0
   Over4 = IpSeen place 0x0800 octets all
 
-  ipv4_carried_seen : 20 ≤ length octets → ip_version octets ≡ 4 → 20 ≤ ipv4_header_len octets → slice_index octets 9 ≡ 17 → is_later_fragment octets ≡ false
-      → OnPacket Over4 (ipv4_carried_sight place octets all)
-  ipv4_carried_seen long version header udp later =
+  ipv4_carried_seen : 20 ≤ length octets → ip_version octets ≡ 4 → 20 ≤ ipv4_header_len octets → slice_index octets 9 ≡ 17 → OnPacket Over4 (ipv4_carried_sight place octets all)
+  ipv4_carried_seen long version header udp =
       let total = total_len octets in
       let carried = drop (ipv4_header_len octets) (take total octets) in
       let bytes = All-drop (λ (octet : ℕ). octet < 256) (ipv4_header_len octets) (take total octets) (All-take (λ (octet : ℕ). octet < 256) total octets are) in
-      on-map (UdpSeen place (ipv4_ends octets) (has_more_fragments octets) (nat_lt all total) carried (total - ipv4_header_len octets)) Over4
+      let of_udp : Sight = udp_sight place (ipv4_ends octets) (nat_lt all total) carried (total - ipv4_header_len octets) in
+      let ip = ipv4_fragment place octets all in
+      choose Over4 (is_fragment octets) (fragment_sight ip) of_udp (λ _. fragment_seen Over4 ip) (λ whole_one.
+      on-map (UdpSeen place (ipv4_ends octets) (nat_lt all total) carried (total - ipv4_header_len octets)) Over4
       (λ there from payload seen. (
         seen.0,
         subst (λ (s : Ends). IsIp 0x0800 s octets all payload) (sym seen.1)
-            (ipv4_in octets all payload are long version header udp later seen.2 (room all total seen.3) seen.4),
+            (ipv4_in octets all payload are long version header udp whole_one (room all total seen.2) seen.3),
       ))
-      (ipv4_carried_sight place octets all)
-      (udp_seen place (ipv4_ends octets) carried (total - ipv4_header_len octets) bytes (has_more_fragments octets) (nat_lt all total))
+      of_udp (udp_seen place (ipv4_ends octets) carried (total - ipv4_header_len octets) bytes (nat_lt all total)))
 
   neither : (a b : Bool) → (not a || b) ≡ false → (a ≡ true) × (b ≡ false)
   neither true b is = (refl, is)
@@ -308,25 +339,17 @@ module _ (place : Place) (octets : List ℕ) (all : ℕ) (are : AreOctets octets
       let carried : Sight = ipv4_carried_sight place octets all in
       let whole_header : Sight = if nat_lt (length octets) 20 then too_short else carried in
       let of_udp : Sight = if not (carries_udp octets) then other else whole_header in
-      let protocol : Sight = if nat_lt (length octets) 10 then too_short else of_udp in
-      let first : Sight = if is_later_fragment octets then other else protocol in
-      let header : Sight = if nat_lt (length octets) 8 then too_short else first in
-      let fitting : Sight = if nat_lt (total_len octets) (ipv4_header_len octets + 4) then other else header in
-      let told : Sight = if nat_lt (length octets) 4 then too_short else fitting in
+      let told : Sight = if nat_lt (length octets) 10 then too_short else of_udp in
       let is_other = not (ip_version octets == 4) || nat_lt (ipv4_header_len octets) 20 in
       let ip : Sight = if is_other then other else told in
       unless Over4 (nat_lt (length octets) 1) too_short ip tt (λ _.
       unless Over4 is_other other told tt (λ version.
-      unless Over4 (nat_lt (length octets) 4) too_short fitting tt (λ _.
-      unless Over4 (nat_lt (total_len octets) (ipv4_header_len octets + 4)) other header tt (λ _.
-      unless Over4 (nat_lt (length octets) 8) too_short first tt (λ _.
-      unless Over4 (is_later_fragment octets) other protocol tt (λ later.
       unless Over4 (nat_lt (length octets) 10) too_short of_udp tt (λ _.
       unless Over4 (not (carries_udp octets)) other whole_header tt (λ udp.
       unless Over4 (nat_lt (length octets) 20) too_short carried tt (λ long.
       (let is = neither (ip_version octets == 4) (nat_lt (ipv4_header_len octets) 20) version in
       ipv4_carried_seen (room (length octets) 20 long) (number_is (ip_version octets) 4 is.0) (room (ipv4_header_len octets) 20 is.1)
-      (number_is (slice_index octets 9) 17 (not_not (carries_udp octets) udp)) later))))))))))
+      (number_is (slice_index octets 9) 17 (not_not (carries_udp octets) udp))))))))
 
 -- ---- extension headers
 
@@ -335,7 +358,6 @@ module _ (header : NextHeader) where
   abbrev options_next : NextHeader
   options_next = record {
     number = slice_index header.octets 0;
-    is_fragment = header.is_fragment;
     octets = drop (header_len header.octets) header.octets;
     whole = header.whole - header_len header.octets;
   }
@@ -343,7 +365,6 @@ module _ (header : NextHeader) where
   abbrev fragment_next : NextHeader
   fragment_next = record {
     number = slice_index header.octets 0;
-    is_fragment = header.is_fragment || flagged header.octets;
     octets = drop 8 header.octets;
     whole = header.whole - 8;
   }
@@ -353,9 +374,9 @@ module _ (header : NextHeader) where
       (next ≡ header)
       ⊎ ((nat_lt (length header.octets) (telling_len header.number) ≡ false) × (has_len header.number ≡ true) × (next ≡ options_next))
       ⊎ ((nat_lt (length header.octets) (telling_len header.number) ≡ false) × (has_len header.number ≡ false)
-      × (is_first_fragment header.number header.octets ≡ true) × (next ≡ fragment_next))
+      × ((header.number == 44 && is_atomic header.octets) ≡ true) × (next ≡ fragment_next))
 
-  step_by : (a b c : Bool) → nat_lt (length header.octets) (telling_len header.number) ≡ a → has_len header.number ≡ b → is_first_fragment header.number header.octets ≡ c
+  step_by : (a b c : Bool) → nat_lt (length header.octets) (telling_len header.number) ≡ a → has_len header.number ≡ b → (header.number == 44 && is_atomic header.octets) ≡ c
       → Steps (if a then header else if b then options_next else if c then fragment_next else header)
   step_by true b c is_a is_b is_c = inl refl
   step_by false true c is_a is_b is_c = inr (inl (is_a, is_b, refl))
@@ -364,27 +385,7 @@ module _ (header : NextHeader) where
 
   step_of : Steps (past_header header)
   unfolding past_header
-  step_of = step_by (nat_lt (length header.octets) (telling_len header.number)) (has_len header.number) (is_first_fragment header.number header.octets) refl refl refl
-
-or_left : (a b : Bool) → (a || b) ≡ false → a ≡ false
-or_left true b is = is
-or_left false b is = refl
-
-or_right : (a b : Bool) → (a || b) ≡ false → b ≡ false
-or_right true b is = absurd cc
-or_right false b is = is
-
--- a packet that is no fragment at the end is none before
-whole_before : (header next : NextHeader) → Steps header next → next.is_fragment ≡ false → header.is_fragment ≡ false
-whole_before header next (inl same) is = ap (λ (h : NextHeader). h.is_fragment) (sym same) ∙ is
-whole_before header next (inr (inl (kept, has, same))) is = ap (λ (h : NextHeader). h.is_fragment) (sym same) ∙ is
-whole_before header next (inr (inr (kept, has, first, same))) is =
-    or_left header.is_fragment (flagged header.octets) (ap (λ (h : NextHeader). h.is_fragment) (sym same) ∙ is)
-
-whole-before : (n : ℕ) (header : NextHeader) → (past_headers n header).is_fragment ≡ false → header.is_fragment ≡ false
-unfolding past_headers
-whole-before zero header is = is
-whole-before (suc n) header is = whole-before n header (whole_before (past_headers n header) (past_header (past_headers n header)) (step_of (past_headers n header)) is)
+  step_of = step_by (nat_lt (length header.octets) (telling_len header.number)) (has_len header.number) (header.number == 44 && is_atomic header.octets) refl refl refl
 
 -- octets past headers are octets
 bytes_after : (header next : NextHeader) → Steps header next → AreOctets header.octets → AreOctets next.octets
@@ -451,6 +452,10 @@ and_right : (a b : Bool) → (a && b) ≡ true → b ≡ true
 and_right true b is = is
 and_right false b is = absurd cc
 
+is_not : (b : Bool) → not b ≡ true → b ≡ false
+is_not true is = absurd cc
+is_not false is = refl
+
 options_past : (n : ℕ) (header upper : NextHeader) → has_len header.number ≡ true → 2 ≤ length header.octets → 0 < length (drop (header_len header.octets) header.octets)
     → IsPast n (options_next header) upper → IsPast (suc n) header upper
 options_past n header upper has told some past =
@@ -476,15 +481,18 @@ bits_in bits fits offset last =
     let even : bit_and bits 0x0001 ≡ 0 = number_is (bit_and bits 0x0001) 0 (not_not (bit_and bits 0x0001 == 0) last) in
     (omega arith, omega arith)
 
-fragment_past : (n : ℕ) (header upper : NextHeader) → AreOctets header.octets → is_first_fragment header.number header.octets ≡ true → flagged header.octets ≡ false
+fragment_past : (n : ℕ) (header upper : NextHeader) → AreOctets header.octets → (header.number == 44 && is_atomic header.octets) ≡ true
     → 0 < length (drop 8 header.octets) → IsPast n (fragment_next header) upper → IsPast (suc n) header upper
-fragment_past n header upper are first last some past =
+fragment_past n header upper are one some past =
     let octets = header.octets in
     let bits = network_number 2 2 octets in
+    let atomic : is_atomic octets ≡ true = and_right (header.number == 44) (is_atomic octets) one in
+    let first : (offset_in octets == 0) ≡ true = and_left (offset_in octets == 0) (not (flagged octets)) atomic in
+    let last : flagged octets ≡ false = is_not (flagged octets) (and_right (offset_in octets == 0) (not (flagged octets)) atomic) in
     let id = take 4 (drop 4 octets) in
     let long : 8 < length octets = omega (arith, some, length-drop 8 octets) in
-    let number : header.number ≡ 44 = number_is header.number 44 (and_left (header.number == 44) (bit_and bits 0xfff8 == 0) first) in
-    let in_bits = bits_in bits (number_fits 2 2 octets are) (and_right (header.number == 44) (bit_and bits 0xfff8 == 0) first) last in
+    let number : header.number ≡ 44 = number_is header.number 44 (and_left (header.number == 44) (is_atomic octets) one) in
+    let in_bits = bits_in bits (number_fits 2 2 octets are) first last in
     let sized : length id ≡ 4 = length-take-le 4 (drop 4 octets) (omega (arith, length-drop 4 octets)) in
     let rest : drop 4 octets ≡ id ++ drop 8 octets = part_is 4 (drop 4 octets) ∙ ap (λ (t : List ℕ). id ++ t) (drop-drop 4 4 octets) in
     let laid : octets ≡ slice_index octets 0 ∷ slice_index octets 1 ∷ (big_bytes 2 (2 * (bits / 2) + 0) ++ (id ++ drop 8 octets)) =
@@ -510,28 +518,27 @@ some_before k next upper past more = omega (arith, ap length past.laid, length-a
 
 -- the next header is passed over, and then those after it
 module _ (n : ℕ) (header : NextHeader) (are : AreOctets header.octets)
-    (later : (next : NextHeader) → AreOctets next.octets → (past_headers n next).number ≡ 17 → (past_headers n next).is_fragment ≡ false → 0 < length (past_headers n next).octets
+    (later : (next : NextHeader) → AreOctets next.octets → (past_headers n next).number ≡ 17 → 0 < length (past_headers n next).octets
     → IsPast n next (past_headers n next)) where
-  past_by : (next : NextHeader) → Steps header next → (past_headers n next).number ≡ 17 → (past_headers n next).is_fragment ≡ false → 0 < length (past_headers n next).octets
+  past_by : (next : NextHeader) → Steps header next → (past_headers n next).number ≡ 17 → 0 < length (past_headers n next).octets
       → IsPast (suc n) header (past_headers n next)
-  past_by next (inl is) udp last some =
+  past_by next (inl is) udp some =
       let upper = past_headers n next in
-      more-past n header upper (subst (λ (h : NextHeader). IsPast n h upper) is (later next (bytes_after header next (inl is) are) udp last some))
-  past_by next (inr (inl (kept, has, is))) udp last some =
+      more-past n header upper (subst (λ (h : NextHeader). IsPast n h upper) is (later next (bytes_after header next (inl is) are) udp some))
+  past_by next (inr (inl (kept, has, is))) udp some =
       let upper = past_headers n next in
-      let past = subst (λ (h : NextHeader). IsPast n h upper) is (later next (bytes_after header next (inr (inl (kept, has, is))) are) udp last some) in
+      let past = subst (λ (h : NextHeader). IsPast n h upper) is (later next (bytes_after header next (inr (inl (kept, has, is))) are) udp some) in
       options_past n header upper has (subst (λ (k : ℕ). k ≤ length header.octets) (telling_options header.number has) (room (length header.octets) (telling_len header.number) kept))
       (some_before n (options_next header) upper past some) past
-  past_by next (inr (inr (kept, has, first, is))) udp last some =
+  past_by next (inr (inr (kept, has, first, is))) udp some =
       let upper = past_headers n next in
-      let none = or_right header.is_fragment (flagged header.octets) (ap (λ (h : NextHeader). h.is_fragment) (sym is) ∙ whole-before n next last) in
-      let past = subst (λ (h : NextHeader). IsPast n h upper) is (later next (bytes_after header next (inr (inr (kept, has, first, is))) are) udp last some) in
-      fragment_past n header upper are first none (some_before n (fragment_next header) upper past some) past
+      let past = subst (λ (h : NextHeader). IsPast n h upper) is (later next (bytes_after header next (inr (inr (kept, has, first, is))) are) udp some) in
+      fragment_past n header upper are first (some_before n (fragment_next header) upper past some) past
 
-past-in : (n : ℕ) (header : NextHeader) → AreOctets header.octets → (past_headers n header).number ≡ 17 → (past_headers n header).is_fragment ≡ false
+past-in : (n : ℕ) (header : NextHeader) → AreOctets header.octets → (past_headers n header).number ≡ 17
     → 0 < length (past_headers n header).octets → IsPast n header (past_headers n header)
 unfolding past_headers
-past-in zero header are udp last some = record {
+past-in zero header are udp some = record {
   headers = [];
   few = omega arith;
   are = All-nil IsExtension;
@@ -539,11 +546,11 @@ past-in zero header are udp last some = record {
   laid = refl;
   left = omega arith;
 }
-past-in (suc n) header are udp last some =
+past-in (suc n) header are udp some =
     let same = past-first_header n header in
     subst (IsPast (suc n) header) (sym same)
-    (past_by n header are (λ next bytes of_udp whole more. past-in n next bytes of_udp whole more) (past_header header) (step_of header)
-    (ap (λ (h : NextHeader). h.number) (sym same) ∙ udp) (ap (λ (h : NextHeader). h.is_fragment) (sym same) ∙ last) (subst (λ (h : NextHeader). 0 < length h.octets) same some))
+    (past_by n header are (λ next bytes of_udp more. past-in n next bytes of_udp more) (past_header header) (step_of header)
+    (ap (λ (h : NextHeader). h.number) (sym same) ∙ udp) (subst (λ (h : NextHeader). 0 < length h.octets) same some))
 
 -- ---- IPv6
 
@@ -638,24 +645,34 @@ module _ (place : Place) (octets : List ℕ) (all : ℕ) (are : AreOctets octets
       let upper = past_headers 8 (first_header octets) in
       let cut = nat_lt all (40 + total) in
       let bytes = All-take (λ (octet : ℕ). octet < 256) total (drop 40 octets) (All-drop (λ (octet : ℕ). octet < 256) 40 octets are) in
-      let carried : Sight = udp_sight place (ipv6_ends octets) upper.is_fragment cut upper.octets upper.whole in
+      let carried : Sight = udp_sight place (ipv6_ends octets) cut upper.octets upper.whole in
       let none : Sight = unkept_sight upper.whole in
       choose Over6 (nat_lt (length octets) 40) none carried (λ _. unless Over6 (nat_lt upper.whole 4) other too_short tt (λ _. tt)) (λ long.
-      on-map (UdpSeen place (ipv6_ends octets) upper.is_fragment cut upper.octets upper.whole) Over6
+      on-map (UdpSeen place (ipv6_ends octets) cut upper.octets upper.whole) Over6
       (λ there from payload seen. (
         seen.0,
         subst (λ (s : Ends). IsIp 0x86dd s octets all payload) (sym seen.1)
-            (ipv6_in octets all payload upper are (room (length octets) 40 long) version (room all (40 + total) seen.3)
-            (past-in 8 (first_header octets) bytes udp seen.2 (some_udp (ipv6_ends octets) upper.octets upper.whole payload seen.4)) seen.4),
+            (ipv6_in octets all payload upper are (room (length octets) 40 long) version (room all (40 + total) seen.2)
+            (past-in 8 (first_header octets) bytes udp (some_udp (ipv6_ends octets) upper.octets upper.whole payload seen.3)) seen.3),
       ))
-      carried (udp_seen place (ipv6_ends octets) upper.octets upper.whole (past-bytes 8 (first_header octets) bytes) upper.is_fragment cut))
+      carried (udp_seen place (ipv6_ends octets) upper.octets upper.whole (past-bytes 8 (first_header octets) bytes) cut))
+
+  ipv6_fragment_seen : OnPacket Over6 (ipv6_fragment_sight place octets all (past_headers 8 (first_header octets)))
+  ipv6_fragment_seen =
+      let header = past_headers 8 (first_header octets) in
+      let ip = ipv6_fragment place octets all header in
+      let is_short = nat_lt (length octets) 40 || nat_lt (length header.octets) 8 in
+      let kept : Sight = if is_short then too_short else fragment_sight ip in
+      unless Over6 (nat_lt header.whole 8) other kept tt (λ _. unless Over6 is_short too_short (fragment_sight ip) tt (λ _. fragment_seen Over6 ip))
 
   pub ipv6_seen : OnPacket Over6 (ipv6_sight place octets all)
   unfolding ipv6_sight
   ipv6_seen =
       let upper = past_headers 8 (first_header octets) in
       let carried : Sight = ipv6_carried_sight place octets all upper in
+      let fragment : Sight = ipv6_fragment_sight place octets all upper in
       let unkept : Sight = if is_unkept upper then too_short else other in
+      let no_udp : Sight = if upper.number == 44 then fragment else unkept in
       let of_upper : Sight = upper_sight place octets all upper in
       let told : Sight = if nat_lt (length octets) 7 then too_short else of_upper in
       let is_other = not (ip_version octets == 6) in
@@ -663,6 +680,6 @@ module _ (place : Place) (octets : List ℕ) (all : ℕ) (are : AreOctets octets
       unless Over6 (nat_lt (length octets) 1) too_short ip tt (λ _.
       unless Over6 is_other other told tt (λ version.
       unless Over6 (nat_lt (length octets) 7) too_short of_upper tt (λ _.
-      choose Over6 (upper.number == 17) carried unkept
+      choose Over6 (upper.number == 17) carried no_udp
       (λ udp. ipv6_carried_seen (number_is (ip_version octets) 6 (not_not (ip_version octets == 6) version)) (number_is upper.number 17 udp))
-      (λ _. unless Over6 (is_unkept upper) too_short other tt (λ _. tt)))))
+      (λ _. choose Over6 (upper.number == 44) fragment unkept (λ _. ipv6_fragment_seen) (λ _. unless Over6 (is_unkept upper) too_short other tt (λ _. tt))))))

@@ -5,13 +5,15 @@ use Rattle.std.proofs.lemmas.List.{append-nil, take-append-drop, take-append-le,
 use Rattle.babel_capture.specs.declared.fault.Fault.{Fault}
 use Rattle.babel_capture.specs.declared.fault.Fault.TheVariants as faults
 use Rattle.babel_capture.specs.declared.wanted.Wanted.{Wanted}
-use Rattle.babel_capture.specs.Blocks.{IsEnd, IsPartial, header_of, octets_of, start, context_behind}
-use Rattle.babel_capture.specs.Capture.{CaptureFault, HasFailed, HasRead, HasReadTo, IsRead, IsReadToCut, IsShortBy, State}
+use Rattle.babel_capture.specs.Blocks.{BlockAt, IsEnd, IsPartial, header_of, octets_of, passage_of, sightings_of, sightings_to_end, start, context_behind}
+use Rattle.babel_capture.specs.Capture.{CaptureFault, EndsLost, HasFailed, HasRead, HasReadTo, IsRead, IsReadToCut, IsShortBy, State}
 use Rattle.babel_capture.specs.Context.{Before}
+use Rattle.babel_capture.specs.Gathering.{AreTaken, Gathering, IsGathered, IsRefused}
+use Rattle.babel_capture.specs.Passage.{Passage, Sighting, missing_in}
 use Rattle.babel_capture.specs.Lengths.{header_len, block_len}
 use Rattle.babel_capture.specs.Reading.{Progress, LeadTo, HasStarted, HasTaken, IsPending, NeedsMemory, PieceFails, PieceNeedsMemory, Stops, StopsAt}
 use Rattle.babel_capture.specs.Counts.{Made}
-use Rattle.babel_capture.specs.Sinking.{FeedMore, LeadMore, Sinks, StopLead, StopMore}
+use Rattle.babel_capture.specs.Sinking.{EndMore, FeedMore, GatherMore, LeadMore, Sinks, StopLead, StopMore}
 use Rattle.babel_capture.specs.Tallies.{Senders, senders_listed}
 use Rattle.babel_capture.proofs.OneCapture.{some_header}
 use Rattle.babel_capture.proofs.SinkLaws.{sinks-as, sinks-none}
@@ -81,6 +83,7 @@ module _ (limit : Extent) (old : Progress) (pending fed piece : List ℕ) (told 
         context = taken.leads.context;
         gathered = taken.leads.gathered;
         names = taken.leads.names;
+        passage = taken.leads.passage;
       };
       partial = inr (inr (end-now, omega (arith, few, size-now)));
       kept = (inr (end-now, told), size-now);
@@ -117,6 +120,9 @@ stop-none old pending piece limit fed taken = rw (append-nil taken.leads.gathere
   rest = taken.rest ++ piece;
   whole = ap (λ (t : List ℕ). t ++ piece) (taken.whole ∙ ap (λ (t : List ℕ). t ++ taken.rest) taken.leads.whole) ∙ append_assoc (octets_of taken.leads.blocks) taken.rest piece;
   are_blocks = taken.leads.are_blocks;
+  front = sightings_of taken.leads.blocks;
+  back = [];
+  parts = sym (append-nil (sightings_of taken.leads.blocks));
   taken = taken.leads.gathered.taken;
 })
 
@@ -143,8 +149,8 @@ needs-fed state fault piece is needs memory = elim (needs memory) [
 
 -- ---- a fault stays, however the octets go on
 
-module _ (wanted : Wanted) (senders : Senders) (before : Before) (at : ℕ) (rest more : List ℕ) (fault : Fault) where
-  stops-more-at : StopsAt wanted senders before at rest fault → StopsAt wanted senders before at (rest ++ more) fault
+module _ (wanted : Wanted) (senders : Senders) (passage : Passage) (before : Before) (at : ℕ) (rest more : List ℕ) (fault : Fault) where
+  stops-more-at : StopsAt wanted senders passage before at rest fault → StopsAt wanted senders passage before at (rest ++ more) fault
   stops-more-at (inl (inr (end, past, told))) = inl (inr (end-longer before at rest more end, omega (arith, past, length-append rest more), told))
   stops-more-at (inl (inl (header, refused))) =
       let same : header_of before (rest ++ more) ≡ header_of before rest = take-append-le (header_len before.layout) rest more header in
@@ -171,7 +177,7 @@ stops-more limit wanted octets more fault stops = record {
   whole = ap (λ (t : List ℕ). t ++ more) stops.whole ∙ append_assoc (octets_of stops.blocks) stops.rest more;
   are_blocks = stops.are_blocks;
   taken = stops.taken;
-  stops = stops-more-at wanted (senders_listed wanted.are_listed stops.made) (context_behind (start limit) stops.blocks) (length (octets_of stops.blocks)) stops.rest more fault stops.stops;
+  stops = stops-more-at wanted (senders_listed wanted.are_listed stops.made) (passage_of stops.blocks) (context_behind (start limit) stops.blocks) (length (octets_of stops.blocks)) stops.rest more fault stops.stops;
 }
 
 -- ---- a piece in two parts, one after the other
@@ -233,6 +239,9 @@ module _ (front back piece : List ℕ) (whole : front ++ back ≡ piece) where
         rest = at_front.rest ++ back;
         whole = sym (behind fed) ∙ ap (λ (t : List ℕ). t ++ back) at_front.whole ∙ append_assoc (octets_of at_front.blocks) at_front.rest back;
         are_blocks = at_front.are_blocks;
+        front = at_front.front;
+        back = at_front.back;
+        parts = at_front.parts;
         taken = at_front.taken;
       }
 
@@ -248,73 +257,122 @@ split-whole n front back piece is_front is_back = ap (λ (t : List ℕ). t ++ ba
 -- ---- the end
 
 module _ (limit : Extent) (progress : Progress) (pending fed : List ℕ) (taken : HasTaken limit progress pending fed) where
-  place_is : progress.at ≡ length (octets_of taken.leads.blocks)
+  abbrev blocks : List BlockAt
+  blocks = taken.leads.blocks
+
+  whole-blocks : fed ≡ octets_of blocks ++ taken.rest
+  whole-blocks = taken.whole ∙ ap (λ (t : List ℕ). t ++ taken.rest) taken.leads.whole
+
+  place_is : progress.at ≡ length (octets_of blocks)
   place_is = taken.leads.place ∙ ap length taken.leads.whole
 
-  context_started : HasStarted progress.context → HasStarted (context_behind (start limit) taken.leads.blocks)
-  context_started started = subst HasStarted taken.leads.context started
+  partial-behind : IsPartial (context_behind (start limit) blocks) (length (octets_of blocks)) taken.rest
+  partial-behind = subst (λ (n : ℕ). IsPartial (context_behind (start limit) blocks) n taken.rest) place_is
+      (subst (λ (c : Before). IsPartial c progress.at taken.rest) taken.leads.context taken.partial)
 
-  ends-short : (fault : Fault) → IsShortBy progress.context progress.at taken.rest fault → CaptureFault limit progress.gathering.wanted fed fault
-  ends-short fault short = inr (record {
-    blocks = taken.leads.blocks;
+  missing-here : missing_in progress.known ≡ missing_in (passage_of blocks).known
+  missing-here = ap (λ (p : Passage). missing_in p.known) taken.leads.passage
+
+  pub lost-here : (fault : Fault) → IsRefused progress.gathering.wanted progress.gathering.senders (missing_in progress.known) fault → EndsLost limit progress.gathering.wanted fed fault
+  lost-here fault refuses = record {
+    blocks = blocks;
     rest = taken.rest;
     made = taken.leads.gathered.made;
-    whole = taken.whole ∙ ap (λ (t : List ℕ). t ++ taken.rest) taken.leads.whole;
+    whole = whole-blocks;
     are_blocks = taken.leads.are_blocks;
     taken = taken.leads.gathered.taken;
-    partial = subst (λ (n : ℕ). IsPartial (context_behind (start limit) taken.leads.blocks) n taken.rest) place_is
-        (subst (λ (c : Before). IsPartial c progress.at taken.rest) taken.leads.context taken.partial);
-    short = subst (λ (n : ℕ). IsShortBy (context_behind (start limit) taken.leads.blocks) n taken.rest fault) place_is
-        (subst (λ (c : Before). IsShortBy c progress.at taken.rest fault) taken.leads.context short);
-  })
-
-  read-before : HasStarted progress.context → IsRead limit taken.read progress.gathering
-  read-before started = record {
-    blocks = taken.leads.blocks;
-    whole = taken.leads.whole;
-    are_blocks = taken.leads.are_blocks;
-    started = context_started started;
-    gathered = taken.leads.gathered;
-    names = taken.leads.names;
+    partial = partial-behind;
+    lost = subst (λ (s : Senders). IsRefused progress.gathering.wanted s (missing_in (passage_of blocks).known) fault) taken.leads.gathered.senders
+        (subst (λ (s : List Sighting). IsRefused progress.gathering.wanted progress.gathering.senders s fault) missing-here refuses);
   }
 
-pub not-started : (limit : Extent) (progress : Progress) (pending fed : List ℕ) → ¬ HasStarted progress.context → HasTaken limit progress pending fed
+  pub ends-lost : (fault : Fault) → IsRefused progress.gathering.wanted progress.gathering.senders (missing_in progress.known) fault → CaptureFault limit progress.gathering.wanted fed fault
+  ends-lost fault refuses = inr (inr (lost-here fault refuses))
+
+  -- where the datagrams that are known are taken, of which fragments are missing
+  module _ (new : Gathering) (more : List Made) (goes : GatherMore progress.gathering new (missing_in progress.known) more) where
+    at-end : (now : IsGathered (sightings_to_end blocks) new) × (now.made ≡ taken.leads.gathered.made ++ more)
+    at-end = subst (λ (s : List Sighting). (now : IsGathered (sightings_of blocks ++ s) new) × (now.made ≡ taken.leads.gathered.made ++ more)) missing-here
+        (goes (sightings_of blocks) taken.leads.gathered)
+
+    pub ends-short : (fault : Fault) → new.wanted ≡ progress.gathering.wanted → IsShortBy progress.context progress.at taken.rest fault → CaptureFault limit progress.gathering.wanted fed fault
+    ends-short fault same short = inr (inl (record {
+      blocks = blocks;
+      rest = taken.rest;
+      made = at-end.0.made;
+      whole = whole-blocks;
+      are_blocks = taken.leads.are_blocks;
+      taken = subst (λ (w : Wanted). AreTaken w (sightings_to_end blocks) at-end.0.made) same at-end.0.taken;
+      partial = partial-behind;
+      short = subst (λ (n : ℕ). IsShortBy (context_behind (start limit) blocks) n taken.rest fault) place_is
+          (subst (λ (c : Before). IsShortBy c progress.at taken.rest fault) taken.leads.context short);
+    }))
+
+    pub read-to-end : (cut : Option ℕ) → HasStarted progress.context → new.names ≡ progress.gathering.names → ((pending ≡ []) × (cut ≡ None)) ⊎ ((pending ≢ []) × (cut ≡ Some progress.at))
+        → (now : IsReadToCut limit fed new cut) × (now.is_read.gathered.made ≡ taken.leads.gathered.made ++ more)
+    read-to-end cut started names which = (
+      record {
+        read = taken.read;
+        rest = taken.rest;
+        whole = taken.whole;
+        is_read = record {
+          blocks = blocks;
+          whole = taken.leads.whole;
+          are_blocks = taken.leads.are_blocks;
+          started = subst HasStarted taken.leads.context started;
+          gathered = at-end.0;
+          names = names ∙ taken.leads.names;
+        };
+        partial = subst (λ (n : ℕ). IsPartial (context_behind (start limit) blocks) n taken.rest) taken.leads.place
+            (subst (λ (c : Before). IsPartial c progress.at taken.rest) taken.leads.context taken.partial);
+        where_cut = subst (λ (n : ℕ). ((taken.rest ≡ []) × (cut ≡ None)) ⊎ ((taken.rest ≢ []) × (cut ≡ Some n))) taken.leads.place (elim which [
+          | inl none ↦ inl (none-left progress taken.rest pending taken.kept none.0, none.1)
+          | inr some ↦ inr ((λ none. some.0 (none-kept progress taken.rest pending taken.kept none)), some.1)
+        ]);
+      },
+      at-end.1,
+    )
+
+pub told-to-end : (progress : Progress) (pending : List ℕ) (new : Gathering) (cut : Option ℕ) → HasStarted progress.context → new.names ≡ progress.gathering.names
+    → ((pending ≡ []) × (cut ≡ None)) ⊎ ((pending ≢ []) × (cut ≡ Some progress.at)) → (more : List Made) → GatherMore progress.gathering new (missing_in progress.known) more
+    → EndMore progress pending new cut more
+told-to-end progress pending new cut started names which more goes limit fed taken = read-to-end limit progress pending fed taken new more goes cut started names which
+
+pub not-started : (progress : Progress) (pending : List ℕ) (new : Gathering) → ¬ HasStarted progress.context → new.wanted ≡ progress.gathering.wanted
+    → (more : List Made) → GatherMore progress.gathering new (missing_in progress.known) more → (limit : Extent) (fed : List ℕ) → HasTaken limit progress pending fed
     → CaptureFault limit progress.gathering.wanted fed faults.NotCapture
-not-started limit progress pending fed not taken = ends-short limit progress pending fed taken faults.NotCapture (inl (not, refl))
+not-started progress pending new not same more goes limit fed taken = ends-short limit progress pending fed taken new more goes faults.NotCapture same (inl (not, refl))
 
-pub cut-short : (limit : Extent) (progress : Progress) (pending fed : List ℕ) → HasStarted progress.context → pending ≢ [] → HasTaken limit progress pending fed
-    → CaptureFault limit progress.gathering.wanted fed (faults.CutShort progress.at)
-cut-short limit progress pending fed started some taken = ends-short limit progress pending fed taken (faults.CutShort progress.at)
-    (inr (started, (λ none. some (none-kept progress taken.rest pending taken.kept none)), refl))
+-- what is read to its end
+none_cut : (rest : List ℕ) (cut : Option ℕ) (at : ℕ) → cut ≡ None → ((rest ≡ []) × (cut ≡ None)) ⊎ ((rest ≢ []) × (cut ≡ Some at)) → rest ≡ []
+none_cut rest cut at is (inl (none, told)) = none
+none_cut rest cut at is (inr (some, told)) = (let both : None ≡ Some at = sym is ∙ told in absurd cc)
 
-pub all-read : (limit : Extent) (progress : Progress) (pending fed : List ℕ) → HasStarted progress.context → pending ≡ [] → HasTaken limit progress pending fed
-    → IsRead limit fed progress.gathering
-all-read limit progress pending fed started none taken =
-    subst (λ (t : List ℕ). IsRead limit t progress.gathering) (sym (append-nil taken.read) ∙ ap (λ (t : List ℕ). taken.read ++ t) (sym (none-left progress taken.rest pending taken.kept none)) ∙ sym taken.whole)
-    (read-before limit progress pending fed taken started)
+pub all_read : (limit : Extent) (fed : List ℕ) (gathering : Gathering) → IsReadToCut limit fed gathering None → IsRead limit fed gathering
+all_read limit fed gathering is =
+    let none : is.rest ≡ [] = none_cut is.rest None (length is.read) refl is.where_cut in
+    subst (λ (t : List ℕ). IsRead limit t gathering) (sym (append-nil is.read) ∙ ap (λ (t : List ℕ). is.read ++ t) (sym none) ∙ sym is.whole) is.is_read
 
-pub read-to-cut : (limit : Extent) (progress : Progress) (pending fed : List ℕ) (cut : Option ℕ) → HasStarted progress.context
-    → ((pending ≡ []) × (cut ≡ None)) ⊎ ((pending ≢ []) × (cut ≡ Some progress.at)) → HasTaken limit progress pending fed
-    → IsReadToCut limit fed progress.gathering cut
-read-to-cut limit progress pending fed cut started which taken = record {
-  read = taken.read;
-  rest = taken.rest;
-  whole = taken.whole;
-  is_read = record {
-    blocks = taken.leads.blocks;
-    whole = taken.leads.whole;
-    are_blocks = taken.leads.are_blocks;
-    started = subst HasStarted taken.leads.context started;
-    gathered = taken.leads.gathered;
-    names = taken.leads.names;
-  };
-  partial = subst (λ (n : ℕ). IsPartial (context_behind (start limit) taken.leads.blocks) n taken.rest) taken.leads.place
-      (subst (λ (c : Before). IsPartial c progress.at taken.rest) taken.leads.context taken.partial);
-  where_cut = subst (λ (n : ℕ). ((taken.rest ≡ []) × (cut ≡ None)) ⊎ ((taken.rest ≢ []) × (cut ≡ Some n))) taken.leads.place (elim which [
-    | inl none ↦ inl (none-left progress taken.rest pending taken.kept none.0, none.1)
-    | inr some ↦ inr ((λ none. some.0 (none-kept progress taken.rest pending taken.kept none)), some.1)
-  ]);
-}
+-- or is cut short within a block
+some_cut : (rest : List ℕ) (cut : Option ℕ) (at place : ℕ) → cut ≡ Some at → ((rest ≡ []) × (cut ≡ None)) ⊎ ((rest ≢ []) × (cut ≡ Some place)) → (rest ≢ []) × (at ≡ place)
+some_cut rest cut at place is (inl (none, told)) = (let both : None ≡ Some at = sym told ∙ is in absurd cc)
+some_cut rest cut at place is (inr (some, told)) = (let both : Some at ≡ Some place = sym is ∙ told in (some, cc))
+
+pub cut_short : (limit : Extent) (fed : List ℕ) (gathering : Gathering) (at : ℕ) → IsReadToCut limit fed gathering (Some at) → CaptureFault limit gathering.wanted fed (faults.CutShort at)
+cut_short limit fed gathering at is =
+    let blocks = is.is_read.blocks in
+    let size : length is.read ≡ length (octets_of blocks) = ap length is.is_read.whole in
+    let told = some_cut is.rest (Some at) at (length is.read) refl is.where_cut in
+    inr (inl (record {
+      blocks = blocks;
+      rest = is.rest;
+      made = is.is_read.gathered.made;
+      whole = is.whole ∙ ap (λ (t : List ℕ). t ++ is.rest) is.is_read.whole;
+      are_blocks = is.is_read.are_blocks;
+      taken = is.is_read.gathered.taken;
+      partial = subst (λ (n : ℕ). IsPartial (context_behind (start limit) blocks) n is.rest) size is.partial;
+      short = inr (is.is_read.started, told.0, ap faults.CutShort (told.1 ∙ size));
+    }))
 
 -- ---- after a fault
 

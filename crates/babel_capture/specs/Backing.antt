@@ -1,9 +1,9 @@
 -- What is seen of a frame is in the frame.
-use Rattle.std.specs.Prelude.{◌≡◌, ℕ, ◌<◌, List, drop, length, ◌++◌, true}
+use Rattle.std.specs.Prelude.{◌≡◌, ℕ, ◌+◌, ◌<◌, ◌^◌, List, drop, length, ◌++◌, true}
 use Rattle.babel_prefix.specs.Address.{Address}
 use Rattle.babel_capture.specs.declared.lack.Lack.{Lack}
 use Rattle.babel_capture.specs.declared.lack.Lack.TheVariants as lacks
-use Rattle.babel_capture.specs.Sight.{Sight, Carried, other, too_short, datagram}
+use Rattle.babel_capture.specs.Sight.{Sight, Carried, other, too_short, fragmented, datagram}
 use Rattle.babel_capture.specs.Sight.{other_port, not_link_local, lacking, carries}
 use Rattle.babel_capture.specs.Udp.{source_port, destination_port, udp_len, may_send}
 
@@ -39,4 +39,6 @@ BacksCarried sender octets all (carries payload) =
 abbrev pub Backs : List ℕ → ℕ → Sight → Type 0
 Backs octets all other = Unit {0}
 Backs octets all too_short = Unit {0}
+Backs octets all (fragmented fragment) =
+    StandIn fragment.octets octets × (fragment.offset + fragment.len < 2 ^ 16)
 Backs octets all (datagram place ends carried) = BacksCarried ends.sender octets all carried

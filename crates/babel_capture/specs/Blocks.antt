@@ -1,19 +1,17 @@
 -- A capture as its blocks, one after another: draft-ietf-opsawg-pcap, 3; draft-ietf-opsawg-pcapng,
 -- 3.1, 3.2.
-use Rattle.std.specs.Prelude.{◌≡◌, ℕ, ◌+◌, ◌-◌, ◌<◌, ◌≤◌, max, List, [], ◌∷◌, ◌++◌, length, take, Ok}
-use Rattle.std.specs.Prelude.{◌⊎◌, Option, None, Some}
+use Rattle.std.specs.Prelude.{◌≡◌, ℕ, ◌+◌, ◌-◌, ◌<◌, ◌≤◌, List, [], ◌∷◌, ◌++◌, length, take, Ok}
+use Rattle.std.specs.Prelude.{◌⊎◌, None}
 use Rattle.std.specs.List.{flat_map}
 use Rattle.std.specs.Result.{IsOkAnd}
 use Rattle.babel_capture.specs.declared.layout.Layout.TheVariants as layouts
-use Rattle.babel_capture.specs.declared.link.Link.{Link}
-use Rattle.babel_capture.specs.Contents.{Captured, Content, file, section, describes, holds, skips}
+use Rattle.babel_capture.specs.Contents.{Content, file, section, describes, holds, skips}
 use Rattle.babel_capture.specs.Contents.{names_in}
 use Rattle.babel_capture.specs.Contents.{nothing, block_said, context_after}
 use Rattle.babel_capture.specs.Context.{Before}
-use Rattle.babel_capture.specs.Frame.{frame_sight}
 use Rattle.babel_capture.specs.Lengths.{header_len, block_len}
-use Rattle.babel_capture.specs.Sight.{Sight, carries, datagram, other}
-use Rattle.babel_capture.specs.Times.{Came, kept, skipped, time_in}
+use Rattle.babel_capture.specs.Passage.{Passage, Sighting, missing_in, passed_at, sightings_at}
+use Rattle.babel_capture.specs.Passage.{sightings_skipped}
 use Rattle.babel_capture.specs.Window.{Extent}
 
 -- ---- one block
@@ -91,63 +89,41 @@ names_of blocks = flat_map (λ block. names_in block.content) blocks
 
 -- ---- packets
 
--- a packet of a capture: its number among the packets, from 1, the offset of its block, its link
--- type, and what its frame is
-pub record Sighting : Type 0 where
-  pub number : ℕ
-  pub at : ℕ
-  pub link : Link
-  pub came : Came
-  pub what : Sight
+-- what is seen at the packet of a block, if it has one, and the passage after it
+abbrev pub sightings_in : Passage → ℕ → Content → List Sighting
+sightings_in before at (file order interface) = []
+sightings_in before at (section order) = []
+sightings_in before at (describes interface name) = []
+sightings_in before at (holds packet) = sightings_at before at packet
+sightings_in before at (skips packet) = sightings_skipped before at packet
+sightings_in before at nothing = []
 
--- what the frame of a packet is, which had at least the octets that were kept
-abbrev pub sight_in : Captured → Sight
-sight_in packet =
-    frame_sight packet.interface packet.link packet.frame (max packet.whole_len (length
-    packet.frame))
+abbrev pub passage_after : Passage → ℕ → Content → Passage
+passage_after before at (holds packet) = passed_at before at packet
+passage_after before at (skips packet) = passed_at before at packet
+passage_after before at content = before
 
--- the section of a datagram of Babel that a router may read
-abbrev pub section_with : ℕ → Sight → Option ℕ
-section_with first (datagram place ends (carries payload)) = Some first
-section_with first what = None
+-- what is seen at the packets of blocks, in order, and the passage after them
+abbrev pub sightings_behind : Passage → List BlockAt → List Sighting
+sightings_behind before [] = []
+sightings_behind before (block ∷ blocks) =
+    sightings_in before block.at block.content
+    ++ sightings_behind (passage_after before block.at block.content) blocks
 
--- when the packet came, and in which section, which is seen so
-abbrev pub came_with : Captured → Sight → Came
-came_with packet what = kept (time_in packet.moment) (section_with packet.section what)
+abbrev pub passage_behind : Passage → List BlockAt → Passage
+passage_behind before [] = before
+passage_behind before (block ∷ blocks) =
+    passage_behind (passage_after before block.at block.content) blocks
 
-abbrev pub sighting_of : ℕ → ℕ → Captured → Sighting
-sighting_of number at packet = record {
-  number = number;
-  at = at;
-  link = packet.link;
-  came = came_with packet (sight_in packet);
-  what = sight_in packet;
-}
-
--- nothing is seen of one that is skipped
-abbrev pub skipped_of : ℕ → ℕ → Captured → Sighting
-skipped_of number at packet = record {
-  number = number;
-  at = at;
-  link = packet.link;
-  came = skipped;
-  what = other;
-}
-
-abbrev pub sightings_in : ℕ → ℕ → Content → List Sighting
-sightings_in number at (file order interface) = []
-sightings_in number at (section order) = []
-sightings_in number at (describes interface name) = []
-sightings_in number at (holds packet) = sighting_of number at packet ∷ []
-sightings_in number at (skips packet) = skipped_of number at packet ∷ []
-sightings_in number at nothing = []
-
--- the packets of blocks, in order, after so many
-abbrev pub sightings_behind : ℕ → List BlockAt → List Sighting
-sightings_behind count [] = []
-sightings_behind count (block ∷ blocks) =
-    let here : List Sighting = sightings_in (count + 1) block.at block.content in
-    here ++ sightings_behind (count + length here) blocks
+abbrev pub no_passage : Passage
+no_passage = record { count = 0; clock = 0; known = [] }
 
 abbrev pub sightings_of : List BlockAt → List Sighting
-sightings_of blocks = sightings_behind 0 blocks
+sightings_of blocks = sightings_behind no_passage blocks
+
+abbrev pub passage_of : List BlockAt → Passage
+passage_of blocks = passage_behind no_passage blocks
+
+-- and where nothing comes after them, fragments are missing of the datagrams that are known still
+abbrev pub sightings_to_end : List BlockAt → List Sighting
+sightings_to_end blocks = sightings_of blocks ++ missing_in (passage_of blocks).known

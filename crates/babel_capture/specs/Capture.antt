@@ -6,11 +6,14 @@ use Rattle.babel_capture.specs.declared.fault.Fault.{Fault}
 use Rattle.babel_capture.specs.declared.fault.Fault.TheVariants as faults
 use Rattle.babel_capture.specs.declared.wanted.Wanted.{Wanted}
 use Rattle.babel_capture.specs.Blocks.{BlockAt, IsPartial, AreBlocks, start, context_behind}
-use Rattle.babel_capture.specs.Blocks.{names_of, octets_of, sightings_of}
+use Rattle.babel_capture.specs.Blocks.{names_of, octets_of, passage_of, sightings_of}
+use Rattle.babel_capture.specs.Blocks.{sightings_to_end}
 use Rattle.babel_capture.specs.Context.{Before}
 use Rattle.babel_capture.specs.Counts.{Made}
-use Rattle.babel_capture.specs.Gathering.{Gathering, IsGathered, AreTaken}
+use Rattle.babel_capture.specs.Gathering.{Gathering, IsGathered, AreTaken, IsRefused}
+use Rattle.babel_capture.specs.Passage.{missing_in}
 use Rattle.babel_capture.specs.Reading.{Progress, HasStarted, HasTaken, Stops}
+use Rattle.babel_capture.specs.Tallies.{senders_listed}
 use Rattle.babel_capture.specs.Window.{Extent, moment_up_to}
 use Rattle.babel_capture.specs.declared.timing.Timing.{Timing}
 
@@ -21,7 +24,7 @@ pub record IsRead (limit : Extent) (octets : List ℕ) (gathering : Gathering) :
   pub whole : octets ≡ octets_of blocks
   pub are_blocks : AreBlocks (start limit) 0 blocks
   pub started : HasStarted (context_behind (start limit) blocks)
-  pub gathered : IsGathered (sightings_of blocks) gathering
+  pub gathered : IsGathered (sightings_to_end blocks) gathering
   pub names : gathering.names ≡ names_of blocks
 
 -- the octets are a capture, and then less than a block, or its end before the last octet: it is cut
@@ -49,14 +52,27 @@ pub record EndsShort (limit : Extent) (wanted : Wanted) (octets : List ℕ)
   pub made : List Made
   pub whole : octets ≡ octets_of blocks ++ rest
   pub are_blocks : AreBlocks (start limit) 0 blocks
-  pub taken : AreTaken wanted (sightings_of blocks) made
+  pub taken : AreTaken wanted (sightings_to_end blocks) made
   pub partial : IsPartial (context_behind (start limit) blocks) (length (octets_of blocks)) rest
   pub short : IsShortBy (context_behind (start limit) blocks) (length (octets_of blocks)) rest fault
+
+-- or fragments of a datagram are missing at their end, which is refused
+pub record EndsLost (limit : Extent) (wanted : Wanted) (octets : List ℕ)
+    (fault : Fault) : Type 0 where
+  pub blocks : List BlockAt
+  pub rest : List ℕ
+  pub made : List Made
+  pub whole : octets ≡ octets_of blocks ++ rest
+  pub are_blocks : AreBlocks (start limit) 0 blocks
+  pub taken : AreTaken wanted (sightings_of blocks) made
+  pub partial : IsPartial (context_behind (start limit) blocks) (length (octets_of blocks)) rest
+  pub lost : IsRefused wanted (senders_listed wanted.are_listed made)
+      (missing_in (passage_of blocks).known) fault
 
 -- the fault of octets that are no capture, or none that can be read
 abbrev pub CaptureFault : Extent → Wanted → List ℕ → Fault → Type 0
 CaptureFault limit wanted octets fault = Stops limit wanted octets fault
-    ⊎ EndsShort limit wanted octets fault
+    ⊎ EndsShort limit wanted octets fault ⊎ EndsLost limit wanted octets fault
 
 -- ---- in pieces
 

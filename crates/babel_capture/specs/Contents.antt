@@ -1,7 +1,7 @@
 -- What the blocks of a capture say: draft-ietf-opsawg-pcap, 4 and 5; draft-ietf-opsawg-pcapng, 4.1
 -- to 4.4.
 use Rattle.std.specs.Prelude.{ℕ, ◌+◌, ◌-◌, ◌*◌, ◌^◌, ◌%◌, ℤ, pos, min, Bool, ◌==◌, ◌&&◌, ◌||◌}
-use Rattle.std.specs.Prelude.{nat_lt, nat_le}
+use Rattle.std.specs.Prelude.{nat_lt, nat_le, true}
 use Rattle.std.specs.Prelude.{if◌then◌else◌, List, []}
 use Rattle.std.specs.Prelude.{◌∷◌, ◌++◌, length, slice_get, slice_range, Option, Some, None, Result}
 use Rattle.std.specs.Prelude.{Ok, Err}
@@ -32,7 +32,7 @@ use Rattle.babel_capture.specs.Window.{is_empty, is_between}
 
 -- a captured packet: the number of its interface, and of its section's first one, the interface's
 -- link type, when it came in nanoseconds since the start of 1970, where its block has a time, the
--- octets kept, and how many it had
+-- octets kept, and how many it had; and whether the 60 seconds after it end within the window
 pub record Captured : Type 0 where
   pub interface : ℕ
   pub section : ℕ
@@ -40,6 +40,7 @@ pub record Captured : Type 0 where
   pub moment : Option ℤ
   pub frame : List ℕ
   pub whole_len : ℕ
+  pub ends_within : Bool
 
 -- the header of a pcap file, the header of a section, an interface with its name, which is empty
 -- where it has none, a packet, a packet that is skipped for its time, or a block that is ignored
@@ -83,8 +84,11 @@ abbrev pub by_time : Option Moment → Option Moment → Option ℕ → ℕ → 
 by_time since until start at packet (Err fault) = Err fault
 by_time since until start at packet (Ok time) =
     let first : ℕ = unwrap_or start time in
+    let kept : Captured = record packet {
+      ends_within = is_between since until first (time + 60000000000);
+    } in
     if is_empty since until first then Err (faults.EmptyWindow at)
-    else Ok (if is_between since until first time then holds packet else skips packet)
+    else Ok (if is_between since until first time then holds kept else skips kept)
 
 abbrev pub read_by : Window → Option ℕ → ℕ → Captured → Result Content Fault
 read_by windows.Whole start at packet = Ok (holds packet)
@@ -104,6 +108,7 @@ holds_by before at interface number moment frame whole (Some link) =
       moment = moment;
       frame = frame;
       whole_len = whole;
+      ends_within = true;
     })
 
 abbrev pub packet_of : Before → ℕ → ℕ → Option Stamp → List ℕ → ℕ → Option Interface
@@ -287,6 +292,7 @@ captured_of packet = record {
   moment = moment_in packet.clock packet.stamp;
   frame = packet.frame.now;
   whole_len = packet.whole_len;
+  ends_within = packet.ends_within;
 }
 
 abbrev pub content_of : Block → Content

@@ -1,7 +1,7 @@
 -- What a report says of the packets of a capture. It is this project's own.
-use Rattle.std.specs.Prelude.{ℕ, Bool, true, false, ◌==◌, List, [], ◌∷◌, length, map, slice_get}
-use Rattle.std.specs.Prelude.{Option, None, count_by, fold}
-use Rattle.std.specs.List.{find}
+use Rattle.std.specs.Prelude.{ℕ, Bool, true, false, not, ◌==◌, List, [], ◌∷◌, map, slice_get}
+use Rattle.std.specs.Prelude.{Option, None, Some, count_by, fold, length, min}
+use Rattle.std.specs.List.{filter}
 use Rattle.std.specs.Option.{option_map, option_flatten}
 use Rattle.babel_capture.specs.declared.link.Link.{Link}
 use Rattle.babel_capture.specs.declared.link.Link.TheVariants as links
@@ -11,7 +11,7 @@ use Rattle.babel_capture.specs.declared.sections.Sections.{Sections}
 use Rattle.babel_capture.specs.declared.timing.Timing.{Timing}
 use Rattle.babel_capture.specs.Findings.{Found, untold, left, found}
 use Rattle.babel_capture.specs.Sections.{no_sections, sectioned}
-use Rattle.babel_capture.specs.Times.{Came}
+use Rattle.babel_capture.specs.Times.{Came, missing}
 use Rattle.babel_capture.specs.Timing.{greatest, no_times, timed}
 use Rattle.babel_capture.specs.Updates.{interval_in}
 
@@ -23,13 +23,14 @@ pub record Made : Type 0 where
   pub came : Came
   pub what : Found
 
--- how many packets there are, and for each reason, in the order of the reasons, how many datagrams
--- were left out for it and the number of the first; how many frames were too short to tell; how
--- many Babel packets came in frames of Linux cooked, version 1, which name no interface, and how
--- many have octets after the body; in how many sections datagrams of Babel came; the times of the
--- packets; and the greatest Interval of the Updates that announce
+-- how many packets there are, and of how many datagrams fragments are missing; for each reason, in
+-- the order of the reasons, how many datagrams were left out for it and the lowest number; how many
+-- frames were too short to tell; how many Babel packets came in frames of Linux cooked, version 1,
+-- which name no interface, and how many have octets after the body; in how many sections datagrams
+-- of Babel came; the times of the packets; and the greatest Interval of the Updates that announce
 pub record Counts : Type 0 where
   pub packets : ℕ
+  pub missing : ℕ
   pub left_out : List (Option (ℕ × ℕ))
   pub short : ℕ
   pub cooked : ℕ
@@ -61,11 +62,17 @@ abbrev pub is_left_for : Reason → Found → Bool
 is_left_for reason (left other missed) = reason_place other == reason_place reason
 is_left_for reason what = false
 
--- how many datagrams were left out for the reason, and the number of the first
+-- the lowest of these numbers, if there are any
+abbrev pub lowest : List ℕ → Option ℕ
+lowest [] = None
+lowest (first ∷ rest) = Some (fold min first rest)
+
+-- how many datagrams were left out for the reason, and the lowest of their numbers
 abbrev pub left_for : List Made → Reason → Option (ℕ × ℕ)
 left_for made reason =
-    let is_one : Made → Bool = λ one. is_left_for reason one.what in
-    option_map (λ one. (count_by is_one made, one.number)) (find is_one made)
+    let left_out = filter (λ one. is_left_for reason one.what) made in
+    let numbers = map (λ one. one.number) left_out in
+    option_map (λ first. (length numbers, first)) (lowest numbers)
 
 -- its frame was too short to tell
 abbrev pub is_short : Found → Bool
@@ -100,9 +107,15 @@ interval_found what = None
 abbrev pub interval_made : List Made → Option ℕ
 interval_made made = fold (λ interval one. greatest interval (interval_found one.what)) None made
 
+-- it is a packet, and no datagram of which fragments are missing
+abbrev pub is_packet : Came → Bool
+is_packet missing = false
+is_packet other = true
+
 abbrev pub counts_of : List Made → Counts
 counts_of made = record {
-  packets = length made;
+  packets = count_by (λ one. is_packet one.came) made;
+  missing = count_by (λ one. not (is_packet one.came)) made;
   left_out = map (left_for made) all_reasons;
   short = count_by (λ one. is_short one.what) made;
   cooked = count_by (λ one. is_cooked one.link one.what) made;

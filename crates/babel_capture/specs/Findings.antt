@@ -16,7 +16,7 @@ use Rattle.babel_capture.specs.declared.reason.Reason.TheVariants as reasons
 use Rattle.babel_capture.specs.declared.tallies.Origin.{Origin}
 use Rattle.babel_capture.specs.declared.wanted.Wanted.{Wanted}
 use Rattle.babel_capture.specs.Lack.{lack_reason}
-use Rattle.babel_capture.specs.Sight.{Sight, Carried, other, too_short, datagram}
+use Rattle.babel_capture.specs.Sight.{Sight, Carried, other, too_short, fragmented, datagram}
 use Rattle.babel_capture.specs.Sight.{other_port, not_link_local, lacking, carries}
 
 -- nothing; a frame that is too short to tell; a datagram left out, for a reason, and whose it is
@@ -112,6 +112,7 @@ CarriedIs wanted place ends (carries payload) what = PayloadIs place ends payloa
 abbrev pub Finds : Wanted → Sight → Found → Type 0
 Finds wanted other what = what ≡ passed
 Finds wanted too_short what = what ≡ untold
+Finds wanted (fragmented fragment) what = what ≡ passed
 Finds wanted (datagram place ends carried) what =
     Either (IsWanted wanted ends.sender place) (CarriedIs wanted place ends carried what) (what
     ≡ passed)

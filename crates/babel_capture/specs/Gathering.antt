@@ -1,14 +1,15 @@
 -- What is gathered of the packets of a capture.
-use Rattle.std.specs.Prelude.{◌≡◌, ◌≤◌, ℕ, List, [], ◌∷◌, length, slice_get}
+use Rattle.std.specs.Prelude.{◌≡◌, ◌≤◌, ◌⊎◌, ℕ, List, [], ◌∷◌, length, slice_get}
 use Rattle.std.specs.Option.{unwrap_or}
 use Rattle.babel_capture.specs.declared.fault.Fault.{Fault}
 use Rattle.babel_capture.specs.declared.fault.Fault.TheVariants as faults
 use Rattle.babel_capture.specs.declared.wanted.Wanted.{Wanted}
-use Rattle.babel_capture.specs.Blocks.{Sighting, sight_in}
-use Rattle.babel_capture.specs.Contents.{Content, file, describes, holds}
+use Rattle.babel_capture.specs.Contents.{Content, file, describes, holds, skips}
 use Rattle.babel_capture.specs.Counts.{Counts, Made, counts_of}
-use Rattle.babel_capture.specs.Findings.{Found, refused, found, Finds}
+use Rattle.babel_capture.specs.Findings.{Found, passed, left, refused, found, Finds}
 use Rattle.babel_capture.specs.Lack.{lack_fault}
+use Rattle.babel_capture.specs.Passage.{Sighting, sight_in}
+use Rattle.babel_capture.specs.Sight.{Sight, fragmented}
 use Rattle.babel_capture.specs.Tallies.{CountNeedsMemory, IsOneTooMany, Senders, senders_listed}
 use Rattle.babel_capture.specs.Tallies.{tally_of}
 
@@ -17,7 +18,8 @@ abbrev pub IsTaken : Found → Type 0
 IsTaken (refused lack) = ⊥
 IsTaken what = Unit {0}
 
--- What is made of each packet. No datagram of a sender that is named lacks something.
+-- What is made of each packet, and of each datagram of which fragments are missing. No datagram of
+-- a sender that is named lacks something.
 abbrev pub AreMade : Wanted → List Sighting → List Made → Type 0
 AreMade wanted [] made = made ≡ []
 AreMade wanted (sighting ∷ later) made =
@@ -58,11 +60,31 @@ RefusesFound senders at (found place ends packet has_trailer) fault =
     × IsOneTooMany senders (record { place = place; sender = ends.sender })
 RefusesFound senders at what fault = ⊥
 
--- the block at this offset holds a packet that is refused
-abbrev pub IsRefused : Wanted → Senders → ℕ → Content → Fault → Type 0
-IsRefused wanted senders at (holds packet) fault =
-    (what : Found) × Finds wanted (sight_in packet) what × RefusesFound senders at what fault
-IsRefused wanted senders at content fault = ⊥
+-- a packet that is seen so is refused
+abbrev pub RefusesSight : Wanted → Senders → ℕ → Sight → Fault → Type 0
+RefusesSight wanted senders at sight fault =
+    (what : Found) × Finds wanted sight what × RefusesFound senders at what fault
+
+-- it is taken, and no packet of it counts for a sender
+abbrev pub IsUncounted : Found → Type 0
+IsUncounted passed = Unit {0}
+IsUncounted (left reason missed) = Unit {0}
+IsUncounted what = ⊥
+
+abbrev pub IsLeft : Wanted → Sight → Type 0
+IsLeft wanted sight = (what : Found) × Finds wanted sight what × IsUncounted what
+
+abbrev pub AreLeft : Wanted → List Sighting → Type 0
+AreLeft wanted [] = Unit {0}
+AreLeft wanted (sighting ∷ later) = IsLeft wanted sighting.what × AreLeft wanted later
+
+-- one of these is refused, and those before it do not count
+abbrev pub IsRefused : Wanted → Senders → List Sighting → Fault → Type 0
+IsRefused wanted senders [] fault = ⊥
+IsRefused wanted senders (sighting ∷ later) fault =
+    (what : Found) × Finds wanted sighting.what what
+    × (RefusesFound senders sighting.at what fault
+    ⊎ (IsUncounted what × IsRefused wanted senders later fault))
 
 -- memory is needed to list the sender of the packet, if one was found
 abbrev pub FoundNeedsMemory : Senders → Found → Type 0
@@ -71,10 +93,19 @@ FoundNeedsMemory senders (found place ends packet has_trailer) =
     has_trailer
 FoundNeedsMemory senders what = ⊥
 
--- and for a block: it describes an interface, or holds such a packet
+-- or to keep a fragment, or to join those that came
+abbrev pub IsFragment : Sight → Type 0
+IsFragment (fragmented fragment) = Unit {0}
+IsFragment what = ⊥
+
+abbrev pub SightNeedsMemory : Wanted → Senders → Sight → Type 0
+SightNeedsMemory wanted senders sight =
+    IsFragment sight ⊎ ((what : Found) × Finds wanted sight what × FoundNeedsMemory senders what)
+
+-- and for a block: it describes an interface, or holds such a packet, or skips a fragment
 abbrev pub BlockNeedsMemory : Wanted → Senders → Content → Type 0
 BlockNeedsMemory wanted senders (file order interface) = Unit {0}
 BlockNeedsMemory wanted senders (describes interface name) = Unit {0}
-BlockNeedsMemory wanted senders (holds packet) =
-    (what : Found) × Finds wanted (sight_in packet) what × FoundNeedsMemory senders what
+BlockNeedsMemory wanted senders (holds packet) = SightNeedsMemory wanted senders (sight_in packet)
+BlockNeedsMemory wanted senders (skips packet) = IsFragment (sight_in packet)
 BlockNeedsMemory wanted senders content = ⊥

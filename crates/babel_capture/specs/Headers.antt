@@ -5,12 +5,10 @@ use Rattle.std.specs.Prelude.{bit_and}
 use Rattle.std.specs.Prelude.{if◌then◌else◌, List, length, drop, slice_index}
 use Rattle.babel_capture.specs.Octets.{network_number}
 
--- a header after the fixed one: its number; whether the headers before it say that the packet is
--- the first of several fragments; the octets from its first one on that the recorder kept, and how
--- many there were
+-- a header after the fixed one: its number; the octets from its first one on that the recorder
+-- kept, and how many there were
 pub record NextHeader : Type 0 where
   pub number : ℕ
-  pub is_fragment : Bool
   pub octets : List ℕ
   pub whole : ℕ
 
@@ -22,13 +20,16 @@ has_len number = number == 0 || number == 43 || number == 60
 abbrev pub header_len : List ℕ → ℕ
 header_len octets = 8 * (slice_index octets 1 + 1)
 
--- RFC 8200, 4.5: the fragment header, of 8 octets, in the first fragment; whether there are more
--- fragments. An atomic fragment (RFC 6946) is the first one and has no more.
-abbrev pub is_first_fragment : ℕ → List ℕ → Bool
-is_first_fragment number octets = number == 44 && bit_and (network_number 2 2 octets) 0xfff8 == 0
+-- RFC 8200, 4.5: the fragment header, of 8 octets: where the fragment begins, in octets, and
+-- whether more come after it. An atomic one (RFC 6946) begins at 0, and is all that there is.
+abbrev pub fragment_offset : List ℕ → ℕ
+fragment_offset octets = bit_and (network_number 2 2 octets) 0xfff8
 
 abbrev pub has_more_fragments : List ℕ → Bool
 has_more_fragments octets = not (bit_and (network_number 2 2 octets) 0x0001 == 0)
+
+abbrev pub is_atomic : List ℕ → Bool
+is_atomic octets = fragment_offset octets == 0 && not (has_more_fragments octets)
 
 -- RFC 8200, 4.3 to 4.6: how many of its octets tell what comes after an extension header: number
 -- and length; or, of the fragment header, number and offset
@@ -47,13 +48,11 @@ past_header header =
     if nat_lt (length header.octets) (telling_len header.number) then header
     else if has_len header.number then record {
       number = slice_index header.octets 0;
-      is_fragment = header.is_fragment;
       octets = drop (header_len header.octets) header.octets;
       whole = header.whole - header_len header.octets;
     }
-    else if is_first_fragment header.number header.octets then record {
+    else if header.number == 44 && is_atomic header.octets then record {
       number = slice_index header.octets 0;
-      is_fragment = header.is_fragment || has_more_fragments header.octets;
       octets = drop 8 header.octets;
       whole = header.whole - 8;
     }

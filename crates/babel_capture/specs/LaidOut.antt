@@ -1,12 +1,13 @@
 -- Babel datagrams in IP packets, as their headers lay them out: RFC 768; RFC 791, 3.1; RFC 8200, 3.
 use Rattle.std.specs.Prelude.{◌≡◌, ℕ, ◌+◌, ◌*◌, ◌/◌, ◌^◌, ◌<◌, ◌≤◌, ◌⊎◌, List, [], ◌∷◌, ◌++◌}
-use Rattle.std.specs.Prelude.{length, Contains}
+use Rattle.std.specs.Prelude.{length, Contains, ◌==◌, false}
 use Rattle.std.specs.List.{All}
 use Rattle.byteorder.specs.Endian.{big_bytes}
 use Rattle.babel_prefix.specs.declared.family.Family.TheVariants.{V4, V6}
 use Rattle.babel_capture.specs.declared.ends.Ends.{Ends}
-use Rattle.babel_capture.specs.declared.lack.Lack.TheVariants.{Fragment}
-use Rattle.babel_capture.specs.Sight.{Carried, carries, lacking}
+use Rattle.babel_capture.specs.declared.place.Place.{Place}
+use Rattle.babel_capture.specs.IpFragments.{IpFragment}
+use Rattle.babel_capture.specs.Sight.{Carried, carries}
 
 -- ---- UDP
 
@@ -71,15 +72,24 @@ pub record IsFragment (flag : ℕ) (header : Extension) : Type 0 where
 abbrev pub IsExtension : Extension → Type 0
 IsExtension header = IsOptions header ⊎ IsFragment 0 header
 
--- the number of what comes first, an extension header if there are any, and else UDP; and the
--- octets of these headers, each of which begins with the number of what comes after it
+-- the number of what comes first, an extension header if there are any, and else what is after
+-- them, of this number; and the octets of these headers, each of which begins with the number of
+-- what comes after it
+abbrev pub first_before : List Extension → (last : ℕ) → ℕ
+first_before [] last = last
+first_before (header ∷ headers) last = header.number
+
+abbrev pub extensions_before : List Extension → (last : ℕ) → List ℕ
+extensions_before [] last = []
+extensions_before (header ∷ headers) last =
+    first_before headers last ∷ (header.holds ++ extensions_before headers last)
+
+-- the same before UDP
 abbrev pub first_number : List Extension → ℕ
-first_number [] = 17
-first_number (header ∷ headers) = header.number
+first_number headers = first_before headers 17
 
 abbrev pub extensions : List Extension → List ℕ
-extensions [] = []
-extensions (header ∷ headers) = first_number headers ∷ (header.holds ++ extensions headers)
+extensions headers = extensions_before headers 17
 
 -- RFC 8200, 3: the fixed header, before so many octets, which begin with the header of this number
 abbrev pub ipv6_header : Ipv6Header → ℕ → ℕ → List ℕ
@@ -185,46 +195,102 @@ abbrev pub IsOverIp : ℕ → Ends → UdpDatagram → List ℕ → (more : ℕ)
 IsOverIp ether_type ends udp packet more =
     OverIpv4 ether_type ends udp packet more ⊎ OverIpv6 ether_type ends udp packet more
 
--- the first of several fragments, up to the end of its ports, and how many octets more it has
-abbrev pub ports : List ℕ
-ports = big_bytes 2 6696 ++ big_bytes 2 6696
+-- ---- fragments of datagrams of UDP
 
-pub record FirstOverIpv4 (ether_type : ℕ) (ends : Ends) (packet : List ℕ)
-    (more : ℕ) : Type 0 where
+-- RFC 791, 3.1: a reserved bit and "don't fragment", whatever they are; this flag of more
+-- fragments, and the offset in units of 8 octets
+pub record HasOffset (flag units flags : ℕ) : Type 0 where
+  pub bits : ℕ
+  pub bits_fit : bits < 2 ^ 2
+  pub units_fit : units < 2 ^ 13
+  pub are_flags : flags ≡ (2 * bits + flag) * 2 ^ 13 + units
+
+-- it is one of several: more come after it, or it begins later
+abbrev pub IsOfSeveral : (flag units : ℕ) → Type 0
+IsOfSeveral flag units = (flag < 2) × (0 < flag + units)
+
+pub record PartOverIpv4 (ether_type : ℕ) (place : Place) (packet : List ℕ)
+    (fragment : IpFragment) : Type 0 where
   pub is_type : ether_type ≡ 0x0800
   pub ip : Ipv4Header
-  pub fits : IsIpv4 ip (length ports + more)
-  pub is_first : HasFlags 1 ip.flags
-  pub are_ends : ends ≡ ends4 ip
-  pub is_packet : packet ≡ ipv4_octets ip ports more
+  pub carried : List ℕ
+  pub flag : ℕ
+  pub units : ℕ
+  pub fits : IsIpv4 ip (length carried)
+  pub id_fits : ip.id < 2 ^ 16
+  pub of_several : IsOfSeveral flag units
+  pub offset : HasOffset flag units ip.flags
+  pub is_packet : packet ≡ ipv4_header ip (length carried) ++ carried
+  pub is_fragment : fragment ≡ record {
+    id = record {
+      origin = record { place = place; sender = record { family = V4; bits = ip.sender } };
+      destination = record { family = V4; bits = ip.destination };
+      identification = ip.id;
+    };
+    offset = 8 * units;
+    more = flag == 1;
+    is_cut = false;
+    carried = record { number = 17; octets = carried; whole = length carried };
+  }
 
--- RFC 8200, 4.5: the fragment header stands among the others
-pub record FirstOverIpv6 (ether_type : ℕ) (ends : Ends) (packet : List ℕ)
-    (more : ℕ) : Type 0 where
+-- RFC 8200, 4.5: the header of fragments: the number of what the datagram begins with, a reserved
+-- octet, the offset in units of 8 octets, two reserved bits, this flag of more fragments, and the
+-- identification
+pub record PartHeader : Type 0 where
+  pub next : ℕ
+  pub reserved : ℕ
+  pub units : ℕ
+  pub bits : ℕ
+  pub flag : ℕ
+  pub id : ℕ
+
+abbrev pub part_header : PartHeader → List ℕ
+part_header part =
+    part.next ∷ part.reserved
+    ∷ (big_bytes 2 (8 * part.units + (2 * part.bits + part.flag)) ++ big_bytes 4 part.id)
+
+pub record IsPartHeader (part : PartHeader) : Type 0 where
+  pub units_fit : part.units < 2 ^ 13
+  pub bits_fit : part.bits < 2 ^ 2
+  pub id_fits : part.id < 2 ^ 32
+  pub of_several : IsOfSeveral part.flag part.units
+
+pub record PartOverIpv6 (ether_type : ℕ) (place : Place) (packet : List ℕ)
+    (fragment : IpFragment) : Type 0 where
   pub is_type : ether_type ≡ 0x86dd
   pub ip : Ipv6Header
-  pub are_ends : ends ≡ ends6 ip
-  pub front : List Extension
-  pub fragment : Extension
-  pub back : List Extension
-  pub few : length front + length back ≤ 7
-  pub are_front : All IsExtension front
-  pub is_fragment : IsFragment 1 fragment
-  pub are_back : All IsExtension back
-  pub fits : IsIpv6 ip (length (extensions (front ++ fragment ∷ back)) + (length ports + more))
-  pub is_packet : packet ≡ ipv6_octets ip (front ++ fragment ∷ back) ports more
+  pub headers : List Extension
+  pub few : length headers ≤ 8
+  pub are_headers : All IsExtension headers
+  pub part : PartHeader
+  pub is_part : IsPartHeader part
+  pub carried : List ℕ
+  pub class_fits : ip.class < 2 ^ 4
+  pub sender_fits : ip.sender < 2 ^ 128
+  pub destination_fits : ip.destination < 2 ^ 128
+  pub len_fits : length (extensions_before headers 44) + (8 + length carried) < 2 ^ 16
+  pub is_packet : packet
+      ≡ ipv6_header ip (length (extensions_before headers 44) + (8 + length carried))
+      (first_before headers 44)
+      ++ (extensions_before headers 44 ++ (part_header part ++ carried))
+  pub is_fragment : fragment ≡ record {
+    id = record {
+      origin = record { place = place; sender = record { family = V6; bits = ip.sender } };
+      destination = record { family = V6; bits = ip.destination };
+      identification = part.id;
+    };
+    offset = 8 * part.units;
+    more = part.flag == 1;
+    is_cut = false;
+    carried = record { number = part.next; octets = carried; whole = length carried };
+  }
 
-abbrev pub IsFirstFragment : ℕ → Ends → List ℕ → (more : ℕ) → Type 0
-IsFirstFragment ether_type ends packet more =
-    FirstOverIpv4 ether_type ends packet more ⊎ FirstOverIpv6 ether_type ends packet more
+abbrev pub IsPartOverIp : ℕ → Place → List ℕ → IpFragment → Type 0
+IsPartOverIp ether_type place packet fragment =
+    PartOverIpv4 ether_type place packet fragment ⊎ PartOverIpv6 ether_type place packet fragment
 
 -- what such a packet is seen as
 abbrev pub IsWhole : ℕ → Ends → List ℕ → (more : ℕ) → Carried → Type 0
 IsWhole ether_type ends packet more carried =
     (udp : UdpDatagram) × IsBabel udp × IsOverIp ether_type ends udp packet more
     × (carried ≡ carries udp.payload)
-
-abbrev pub HasBabel : ℕ → Ends → List ℕ → (more : ℕ) → Carried → Type 0
-HasBabel ether_type ends packet more carried =
-    IsWhole ether_type ends packet more carried
-    ⊎ (IsFirstFragment ether_type ends packet more × (carried ≡ lacking Fragment))

@@ -1,9 +1,11 @@
 -- Headers and payloads as the code holds them, without where their octets lie in memory.
 use Rattle.babel_capture.specs.declared.ethernet.Payload.{Payload as HeldPayload}
 use Rattle.babel_capture.specs.declared.headers.NextHeader.{NextHeader as HeldHeader}
+use Rattle.babel_capture.specs.declared.ip_fragment.IpFragment.{IpFragment as HeldFragment}
 use Rattle.babel_capture.specs.declared.options.Options.{Options as HeldOptions}
 use Rattle.babel_capture.specs.Ethernet.{Payload}
 use Rattle.babel_capture.specs.Headers.{NextHeader}
+use Rattle.babel_capture.specs.IpFragments.{IpFragment}
 use Rattle.babel_capture.specs.Options.{Options}
 
 abbrev pub payload : HeldPayload → Payload
@@ -17,9 +19,17 @@ payload held = record {
 abbrev pub next_header : HeldHeader → NextHeader
 next_header held = record {
   number = held.number;
-  is_fragment = held.is_fragment;
   octets = held.part.octets.now;
   whole = held.part.whole;
+}
+
+abbrev pub ip_fragment : HeldFragment → IpFragment
+ip_fragment held = record {
+  id = held.id;
+  offset = held.offset;
+  more = held.more;
+  is_cut = held.is_cut;
+  carried = next_header held.carried;
 }
 
 abbrev pub options : HeldOptions → Options

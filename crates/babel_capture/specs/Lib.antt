@@ -8,12 +8,16 @@ pub mod Counting
 pub mod Dumps
 pub mod Ethernet
 pub mod Findings
+pub mod Fragments
 pub mod Frame
 pub mod Gathering
 pub mod Headers
 pub mod InFrame
+pub mod Indexing
+pub mod IpFragments
 pub mod Ipv4
 pub mod Ipv6
+pub mod Keeping
 pub mod Lack
 pub mod LaidOut
 pub mod Layers
@@ -27,9 +31,13 @@ pub mod OneFault
 pub mod OneOrigin
 pub mod Octets
 pub mod Packets
+pub mod Passage
+pub mod Passing
 pub mod PcapFiles
 pub mod PcapngFiles
+pub mod Pieces
 pub mod Place
+pub mod PutTogether
 pub mod Reading
 pub mod Sections
 pub mod Senders
@@ -39,5 +47,6 @@ pub mod Tallies
 pub mod Times
 pub mod Timing
 pub mod Udp
+pub mod Unfragmented
 pub mod Updates
 pub mod Window

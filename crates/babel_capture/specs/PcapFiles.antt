@@ -1,6 +1,6 @@
 -- pcap files, as they are laid out, and what they are read as: draft-ietf-opsawg-pcap, 4 and 5.
 use Rattle.std.specs.Prelude.{◌≡◌, ℕ, ◌+◌, ◌*◌, ◌^◌, ◌<◌, ◌≤◌, List, [], ◌∷◌, ◌++◌, length, map}
-use Rattle.std.specs.Prelude.{Contains, Some, ℤ, pos, ◌==◌, if◌then◌else◌}
+use Rattle.std.specs.Prelude.{Contains, Some, ℤ, pos, ◌==◌, if◌then◌else◌, true}
 use Rattle.std.specs.List.{All, flat_map}
 use Rattle.byteorder.specs.Endian.{big_bytes, little_bytes}
 use Rattle.babel_capture.specs.declared.link.Link.{Link}
@@ -87,6 +87,7 @@ packets_in pcap link = map (λ packet. record {
   moment = Some (record_moment pcap.magic packet);
   frame = packet.frame;
   whole_len = packet.whole_len;
+  ends_within = true;
 }) pcap.records
 
 -- the octets are a capture, whole blocks to the last, which hold exactly these packets

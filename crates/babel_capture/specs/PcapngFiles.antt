@@ -1,7 +1,7 @@
 -- pcapng files, as they are laid out, and what they are read as: draft-ietf-opsawg-pcapng, 3.1 and
 -- 4.1 to 4.4.
 use Rattle.std.specs.Prelude.{◌≡◌, ◌≢◌, ℕ, ◌+◌, ◌%◌, ◌^◌, ◌<◌, ◌≤◌, ◌⊎◌, List, [], ◌∷◌, ◌++◌}
-use Rattle.std.specs.Prelude.{◌*◌, length, slice_get, false, Option, None, Some, ℤ}
+use Rattle.std.specs.Prelude.{◌*◌, length, slice_get, true, false, Option, None, Some, ℤ}
 use Rattle.babel_capture.specs.declared.clock.Stamp.{Stamp}
 use Rattle.babel_capture.specs.declared.layout.Interface.{Interface}
 use Rattle.babel_capture.specs.declared.link.Link.{Link}
@@ -106,6 +106,7 @@ packet_at first number link moment frame whole = record {
   moment = moment;
   frame = frame;
   whole_len = whole;
+  ends_within = true;
 }
 
 -- 4.3: the time of a packet, in two halves

@@ -8,23 +8,36 @@ use Rattle.babel_capture.specs.declared.layout.Layout.TheVariants as layouts
 use Rattle.babel_capture.specs.declared.wanted.Wanted.{Wanted}
 use Rattle.babel_capture.specs.Blocks.{BlockAt, HasHeader, IsEnd, IsPartial, header_of, BeginsBlock}
 use Rattle.babel_capture.specs.Blocks.{AreBlocks, start, context_behind, names_of, octets_of}
-use Rattle.babel_capture.specs.Blocks.{sightings_of}
+use Rattle.babel_capture.specs.Blocks.{passage_of, sightings_in, sightings_of}
 use Rattle.babel_capture.specs.Contents.{Content, block_said}
 use Rattle.babel_capture.specs.Context.{Before}
 use Rattle.babel_capture.specs.Counts.{Made}
+use Rattle.babel_capture.specs.Fragments.{Known}
 use Rattle.babel_capture.specs.Gathering.{AreTaken, BlockNeedsMemory, Gathering, IsGathered}
 use Rattle.babel_capture.specs.Gathering.{IsRefused}
 use Rattle.babel_capture.specs.Lengths.{block_len}
+use Rattle.babel_capture.specs.Passage.{Passage}
 use Rattle.babel_capture.specs.Tallies.{Senders, senders_listed}
 use Rattle.babel_capture.specs.Window.{Extent}
 
--- what the blocks so far say of the capture, what was gathered of their packets, where the next
--- block begins, and how many octets after the end of what is read were passed over
+-- what the blocks so far say of the capture, what was gathered of their packets, the latest time of
+-- those, 0 before any, and the datagrams that are known by their fragments; where the next block
+-- begins, and how many octets after the end of what is read were passed over
 pub record Progress : Type 0 where
   pub context : Before
   pub gathering : Gathering
+  pub clock : ℕ
+  pub known : Known
   pub at : ℕ
   pub passed : ℕ
+
+-- how far the packets were passed
+abbrev pub passage_in : Progress → Passage
+passage_in progress = record {
+  count = progress.gathering.report.packets;
+  clock = progress.clock;
+  known = progress.known;
+}
 
 -- the octets are blocks, and this is how far they lead
 pub record LeadTo (limit : Extent) (octets : List ℕ) (progress : Progress) : Type 0 where
@@ -35,13 +48,14 @@ pub record LeadTo (limit : Extent) (octets : List ℕ) (progress : Progress) : T
   pub context : progress.context ≡ context_behind (start limit) blocks
   pub gathered : IsGathered (sightings_of blocks) progress.gathering
   pub names : progress.gathering.names ≡ names_of blocks
+  pub passage : passage_in progress ≡ passage_of blocks
 
 -- a whole block that can't be read, or whose packet is refused
-abbrev pub BlockFails : Wanted → Senders → Before → ℕ → List ℕ → Fault → Type 0
-BlockFails wanted senders before at block fault =
+abbrev pub BlockFails : Wanted → Senders → Passage → Before → ℕ → List ℕ → Fault → Type 0
+BlockFails wanted senders passage before at block fault =
     (block_said before at block ≡ Err fault)
     ⊎ ((content : Content) × (block_said before at block ≡ Ok content)
-    × IsRefused wanted senders at content fault)
+    × IsRefused wanted senders (sightings_in passage at content) fault)
 
 -- octets of which the header tells that they begin with no block; or that go on after the end of
 -- what is read, past the limit
@@ -51,11 +65,11 @@ HeaderFails before at octets fault =
     ⊎ (IsEnd before at octets × (before.limit - at < length octets) × (fault ≡ faults.TooLong at))
 
 -- octets that begin with no block that is taken: their header tells, or the whole block
-abbrev pub StopsAt : Wanted → Senders → Before → ℕ → List ℕ → Fault → Type 0
-StopsAt wanted senders before at octets fault =
+abbrev pub StopsAt : Wanted → Senders → Passage → Before → ℕ → List ℕ → Fault → Type 0
+StopsAt wanted senders passage before at octets fault =
     HeaderFails before at octets fault
     ⊎ ((block : List ℕ) × BeginsBlock before at octets block
-    × BlockFails wanted senders before at block fault)
+    × BlockFails wanted senders passage before at block fault)
 
 -- the octets are blocks that are taken, and then octets that are not: their fault
 pub record Stops (limit : Extent) (wanted : Wanted) (octets : List ℕ) (fault : Fault) : Type 0 where
@@ -65,8 +79,8 @@ pub record Stops (limit : Extent) (wanted : Wanted) (octets : List ℕ) (fault :
   pub whole : octets ≡ octets_of blocks ++ rest
   pub are_blocks : AreBlocks (start limit) 0 blocks
   pub taken : AreTaken wanted (sightings_of blocks) made
-  pub stops : StopsAt wanted (senders_listed wanted.are_listed made) (context_behind (start limit) blocks)
-      (length (octets_of blocks)) rest fault
+  pub stops : StopsAt wanted (senders_listed wanted.are_listed made) (passage_of blocks)
+      (context_behind (start limit) blocks) (length (octets_of blocks)) rest fault
 
 -- octets for which memory is needed: what is left of them is less than a block, and is kept; or the
 -- block that they begin with needs it

@@ -2,7 +2,7 @@
 -- sections: each describes its interfaces anew. A pcap file is one. It is this project's own.
 use Rattle.std.specs.Prelude.{ℕ, Bool, true, not, ◌+◌, ◌==◌, if◌then◌else◌, Option, None, Some}
 use Rattle.babel_capture.specs.declared.sections.Sections.{Sections}
-use Rattle.babel_capture.specs.Times.{Came, skipped, kept}
+use Rattle.babel_capture.specs.Times.{Came, skipped, missing, kept}
 
 abbrev pub no_sections : Sections
 no_sections = record { count = 0; last = None }
@@ -21,7 +21,8 @@ with_section sections (Some section) =
       last = Some section;
     } else sections
 
--- one that is skipped does not count
+-- one that is skipped does not count, and neither does a datagram of which fragments are missing
 abbrev pub sectioned : Sections → Came → Sections
 sectioned sections skipped = sections
+sectioned sections missing = sections
 sectioned sections (kept time section) = with_section sections section

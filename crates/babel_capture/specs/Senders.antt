@@ -1,6 +1,6 @@
 -- The senders of a capture, as what has to hold of them. It is this project's own.
-use Rattle.std.specs.Prelude.{◌≡◌, ℕ, Bool, false, List, [], ◌∷◌, length, map, fold, sum_by, count_by}
-use Rattle.std.specs.Prelude.{Option, None, Some}
+use Rattle.std.specs.Prelude.{◌≡◌, ℕ, Bool, false, List, [], ◌∷◌, length, map, fold, sum_by}
+use Rattle.std.specs.Prelude.{count_by, Option, None, Some}
 use Rattle.std.specs.List.{filter}
 use Rattle.std.specs.List.Sorted.{IsStrictlySortedBy}
 use Rattle.std.specs.BTreeMap.{is_at}
@@ -42,8 +42,8 @@ abbrev pub packets_from : Origin → List Made → List Sent
 packets_from origin made = map sent_of (made_from origin made)
 
 -- how many packets these are, of how many octets and with how many Updates in all, how many have
--- octets after the body, the greatest Interval of the Updates, and the earliest and the latest time;
--- nothing where there are no packets
+-- octets after the body, the greatest Interval of the Updates, and the earliest and the latest
+-- time; nothing where there are no packets
 abbrev pub tally_for : List Sent → Option Tally
 tally_for [] = None
 tally_for (packet ∷ packets) = Some (record {

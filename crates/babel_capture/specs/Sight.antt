@@ -7,6 +7,7 @@ use Rattle.babel_capture.specs.declared.lack.Lack.{Lack}
 use Rattle.babel_capture.specs.declared.place.Place.{Place}
 use Rattle.babel_capture.specs.declared.seen.Seen.{Seen}
 use Rattle.babel_capture.specs.declared.seen.Seen.TheVariants as seens
+use Rattle.babel_capture.specs.Pieces.{Fragment, fragment_of}
 
 -- what there is of a datagram from or to the port of Babel: it is none that a router reads, for its
 -- ports or its sender; or it lacks something; or it is whole, with its payload
@@ -16,11 +17,12 @@ pub data Carried : Type 0 where
   lacking : (lack : Lack) → Carried
   carries : (payload : List ℕ) → Carried
 
--- nothing of Babel; too short to tell; or a datagram from or to the port of Babel, captured at this
--- place, and between which addresses
+-- nothing of Babel; too short to tell; a fragment of a datagram that may be Babel's; or a datagram
+-- from or to the port of Babel, captured at this place, and between which addresses
 pub data Sight : Type 0 where
   other : Sight
   too_short : Sight
+  fragmented : (fragment : Fragment) → Sight
   datagram : (place : Place) (ends : Ends) (carried : Carried) → Sight
 
 -- what `look` answers, without where the payload lies in memory
@@ -32,5 +34,6 @@ flaw_of (flaws.Lacking lack) = lacking lack
 abbrev pub sight_of : Seen → Sight
 sight_of seens.Other = other
 sight_of seens.Short = too_short
+sight_of (seens.Fragment fragment) = fragmented (fragment_of fragment)
 sight_of (seens.Flawed place ends flaw) = datagram place ends (flaw_of flaw)
 sight_of (seens.Datagram place ends payload) = datagram place ends (carries payload.now)

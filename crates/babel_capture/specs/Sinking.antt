@@ -7,11 +7,13 @@ use Rattle.babel_capture.specs.declared.sink.Record.{Record}
 use Rattle.babel_capture.specs.declared.sink.Said.{Said}
 use Rattle.babel_capture.specs.declared.sink.Said.TheVariants as saids
 use Rattle.babel_capture.specs.declared.wanted.Wanted.{Wanted}
-use Rattle.babel_capture.specs.Blocks.{AreBlocks, BlockAt, Sighting, octets_of, sightings_of, start}
+use Rattle.babel_capture.specs.Blocks.{AreBlocks, BlockAt, octets_of, sightings_of, start}
+use Rattle.babel_capture.specs.Capture.{IsReadToCut}
 use Rattle.babel_capture.specs.Counts.{Made}
 use Rattle.babel_capture.specs.Findings.{Found, destination_found, missed_in, octets_found}
 use Rattle.babel_capture.specs.Findings.{origin_found, reason_left}
 use Rattle.babel_capture.specs.Gathering.{AreTaken, Gathering, IsGathered}
+use Rattle.babel_capture.specs.Passage.{Sighting}
 use Rattle.babel_capture.specs.Reading.{HasTaken, LeadTo, Progress}
 use Rattle.babel_capture.specs.Times.{time_of}
 use Rattle.babel_capture.specs.Window.{Extent}
@@ -59,6 +61,14 @@ GatherMore old new sightings more =
     (before : List Sighting) (was : IsGathered before old)
     → (now : IsGathered (before ++ sightings) new) × (now.made ≡ was.made ++ more)
 
+-- and with some of them, the first ones, before one that is refused or needs memory that is not
+-- there
+abbrev pub GatherSome : (old : Gathering) → List Sighting → List Made → Type 0
+GatherSome old sightings more =
+    (before : List Sighting) (was : IsGathered before old)
+    → (front : List Sighting) × (back : List Sighting) × (sightings ≡ front ++ back)
+    × AreTaken old.wanted (before ++ front) (was.made ++ more)
+
 -- and with the blocks of these octets
 abbrev pub LeadMore : (old new : Progress) → List ℕ → List Made → Type 0
 LeadMore old new octets more =
@@ -73,14 +83,31 @@ FeedMore old before new after piece more =
     → (now : HasTaken limit new after (fed ++ piece))
     × (now.leads.gathered.made ≡ was.leads.gathered.made ++ more)
 
--- octets begin with blocks whose packets are these, and are taken
+-- and at the end of the octets, where they may be cut short
+abbrev pub EndMore : (old : Progress) (before : List ℕ) (new : Gathering) (cut : Option ℕ)
+    → List Made → Type 0
+EndMore old before new cut more =
+    (limit : Extent) (fed : List ℕ) (was : HasTaken limit old before fed)
+    → (now : IsReadToCut limit fed new cut)
+    × (now.is_read.gathered.made ≡ was.leads.gathered.made ++ more)
+
+-- octets begin with blocks whose first packets are these, and are taken
 pub record StopsBehind (limit : Extent) (wanted : Wanted) (octets : List ℕ)
     (made : List Made) : Type 0 where
   pub blocks : List BlockAt
   pub rest : List ℕ
   pub whole : octets ≡ octets_of blocks ++ rest
   pub are_blocks : AreBlocks (start limit) 0 blocks
-  pub taken : AreTaken wanted (sightings_of blocks) made
+  pub front : List Sighting
+  pub back : List Sighting
+  pub parts : sightings_of blocks ≡ front ++ back
+  pub taken : AreTaken wanted front made
+
+-- or with some packets of a whole block, up to a fault
+abbrev pub StopBlock : (old : Progress) → List ℕ → List Made → Type 0
+StopBlock old block more =
+    (limit : Extent) (read : List ℕ) (was : LeadTo limit read old) (rest : List ℕ)
+    → StopsBehind limit old.gathering.wanted ((read ++ block) ++ rest) (was.gathered.made ++ more)
 
 -- up to a fault of these octets
 abbrev pub StopLead : (old : Progress) → List ℕ → List Made → Type 0

@@ -48,14 +48,17 @@ abbrev pub time_in : Option ℤ → Option ℕ
 time_in None = None
 time_in (Some moment) = in_years moment
 
--- a packet was skipped for its time; or it came then, where it has a time of these years, and in the
--- section whose first interface has this number, where it is a datagram of Babel
+-- a packet was skipped for its time; or it is a datagram of which fragments are missing, and no
+-- packet; or it came then, where it has a time of these years, and in the section whose first
+-- interface has this number, where it is a datagram of Babel
 pub data Came : Type 0 where
   skipped : Came
+  missing : Came
   kept : (time section : Option ℕ) → Came
 
 abbrev pub time_of : Came → Option ℕ
 time_of skipped = None
+time_of missing = None
 time_of (kept time section) = time
 
 -- where a time is asked for: the time of the packet in the block at this offset, or the fault

@@ -3,7 +3,7 @@ use Rattle.std.specs.Prelude.{ℕ, true, false, min, max, nat_lt, if◌then◌el
 use Rattle.std.specs.Prelude.{Some}
 use Rattle.std.specs.Option.{option_or}
 use Rattle.babel_capture.specs.declared.timing.Timing.{Timing}
-use Rattle.babel_capture.specs.Times.{Came, skipped, kept}
+use Rattle.babel_capture.specs.Times.{Came, skipped, missing, kept}
 
 -- the least and the greatest number, where there is one
 abbrev pub least : Option ℕ → Option ℕ → Option ℕ
@@ -39,7 +39,8 @@ with_time timing number (Some time) = record {
   backwards = option_or timing.backwards (backwards_at number time timing.latest);
 }
 
--- one that is skipped does not count
+-- one that is skipped does not count, and neither does a datagram of which fragments are missing
 abbrev pub timed : Timing → ℕ → Came → Timing
 timed timing number skipped = timing
+timed timing number missing = timing
 timed timing number (kept time section) = with_time timing number time

@@ -50,23 +50,29 @@ len_sight place ends octets all =
     else datagram place ends (carries (take (udp_len octets - 8) (drop 8 octets)))
 
 -- a datagram from or to the port of Babel: the first of these that applies
-abbrev pub babel_sight : Place → Ends → Bool → Bool → List ℕ → ℕ → Sight
-babel_sight place ends is_fragment is_cut octets all =
+abbrev pub babel_sight : Place → Ends → Bool → List ℕ → ℕ → Sight
+babel_sight place ends is_cut octets all =
     if not (is_of_routers octets) then datagram place ends other_port
     else if not (may_send ends.sender) then datagram place ends not_link_local
-    else if is_fragment then datagram place ends (lacking lacks.Fragment)
     else if is_cut then datagram place ends (lacking lacks.CutShort)
     else len_sight place ends octets all
+
+-- one of which fragments are missing: RFC 8200, 4.5
+abbrev pub missing_sight : Place → Ends → (is_of_routers : Bool) → Sight
+missing_sight place ends of_routers =
+    if not of_routers then datagram place ends other_port
+    else if not (may_send ends.sender) then datagram place ends not_link_local
+    else datagram place ends (lacking lacks.Fragment)
 
 -- what has no ports to be read: IP carries so many octets, too few for ports, or more
 abbrev pub unkept_sight : ℕ → Sight
 unkept_sight all = if nat_lt all 4 then other else too_short
 
--- RFC 768: what IP carries, which are `all` octets, of which the recorder kept these; whether this
--- is the first of several fragments, and whether IP says more octets than its frame had
-unfoldable pub udp_sight : Place → Ends → Bool → Bool → List ℕ → ℕ → Sight
-udp_sight place ends is_fragment is_cut octets all =
+-- RFC 768: what IP carries, which are `all` octets, of which the recorder kept these; whether IP
+-- says more octets than its frame had
+unfoldable pub udp_sight : Place → Ends → Bool → List ℕ → ℕ → Sight
+udp_sight place ends is_cut octets all =
     if nat_lt all 4 then other
     else if nat_lt (length octets) 4 then too_short
     else if not (is_babel octets) then other
-    else babel_sight place ends is_fragment is_cut octets all
+    else babel_sight place ends is_cut octets all

@@ -1,6 +1,6 @@
 ghost use Rattle.std.specs.Prelude.{◌≡◌, ◌≤◌, ◌<◌, ◌+◌, ◌^◌, length, ◌-◌, ◌==◌, IfOk, IfErr, Ok};
 ghost use Rattle.std.specs.Prelude.{Err};
-ghost use Rattle.babel_capture.specs.Blocks.{section_with, sight_in};
+ghost use Rattle.babel_capture.specs.Passage.{section_with, sight_in};
 ghost use Rattle.babel_capture.specs.Numbers.{number_at};
 ghost use Rattle.babel_capture.specs.Lengths.{header_len};
 ghost use Rattle.babel_capture.specs.Contents.{block_said, captured_of, content_of, file_said};
@@ -15,6 +15,7 @@ ghost use Rattle.babel_capture.specs.Sight.{sight_of};
 use crate::clock::{Clock, Resolution, Stamp};
 use crate::context::Context;
 use crate::fault::Fault;
+use crate::fragments::LIFETIME;
 use crate::frame::look;
 use crate::layout::{Interface, Layout};
 use crate::length::{PCAP_NANOSECONDS, SECTION, pcap_order, section_order};
@@ -69,6 +70,8 @@ pub struct Packet<'a> {
     pub whole_len: u32,
     /// The interface's link type.
     pub link: Link,
+    /// Whether the time for which a datagram is known that begins with it ends within the window.
+    pub ends_within: bool,
 }
 
 impl<'a> Packet<'a> {
@@ -86,7 +89,7 @@ impl<'a> Packet<'a> {
     {
         match seen {
             Seen::Datagram { .. } => Some(self.section),
-            Seen::Other | Seen::Short | Seen::Flawed { .. } => None,
+            Seen::Other | Seen::Short | Seen::Fragment(_) | Seen::Flawed { .. } => None,
         }
     }
 
@@ -174,6 +177,7 @@ fn read_packet<'a>(
         frame,
         whole_len,
         link,
+        ends_within: true,
     };
     read_by(before, at, packet)
 }
@@ -200,7 +204,7 @@ fn read_between<'a>(
     at: u64,
     since: &Option<Moment>,
     until: &Option<Moment>,
-    packet: Packet<'a>,
+    mut packet: Packet<'a>,
 ) -> Result<Block<'a>, Fault>
     ensures ok { IfOk result (λ block. read_by (Between since.now until.now) before.now.start at
         (captured_of packet.entry) ≡ Ok (content_of block)) }
@@ -215,6 +219,8 @@ fn read_between<'a>(
     if is_empty(since, until, &first) {
         return Err(Fault::EmptyWindow { at });
     }
+    let time = time.nanoseconds();
+    packet.ends_within = is_between(*since, *until, first, time + LIFETIME);
     if is_between(*since, *until, first, time) {
         Ok(Block::Packet(packet))
     } else {

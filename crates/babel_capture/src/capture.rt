@@ -2,8 +2,10 @@ ghost use Rattle.std.specs.Prelude.{◌≡◌, ◌≢◌, ◌++◌, ◌⊎◌, �
 ghost use Rattle.std.specs.Prelude.{IfSome, OnOk};
 ghost use Rattle.babel_capture.specs.Capture.{CaptureFault, HasRead, IsRead, IsReadToCut};
 ghost use Rattle.babel_capture.specs.Capture.{moment_read};
+ghost use Rattle.babel_capture.specs.Gathering.{IsRefused};
+ghost use Rattle.babel_capture.specs.Passage.{missing_in};
 ghost use Rattle.babel_capture.specs.Reading.{NeedsMemory};
-ghost use Rattle.babel_capture.specs.Sinking.{FeedMore, Sinks, StopMore};
+ghost use Rattle.babel_capture.specs.Sinking.{EndMore, FeedMore, GatherSome, Sinks, StopMore};
 ghost use Rattle.babel_capture.specs.Window.{all_times};
 
 use crate::fault::Fault;
@@ -51,10 +53,13 @@ impl Capture {
         Capture::within(alloc, limit, Window::Whole, false, wanted)
     }
 
-    /// The same of the packets of this window alone: the others are skipped. Where the window is
-    /// not whole, a packet that has no time, or one before 1970 or after the year 9999, is a fault.
-    /// With `to_cut` a record of a pcap file that had no octets, as a full disk leaves it, is no
-    /// fault: the capture is cut short there, and what comes after it is passed over.
+    /// The same of the packets of this window alone: the others are skipped. A datagram that was
+    /// put together came when the last of its fragments did, whenever the others came; one of which
+    /// fragments are missing counts where the 60 seconds after the first of them end within the
+    /// window. Where the window is not whole, a packet that has no time, or one before 1970 or
+    /// after the year 9999, is a fault. With `to_cut` a record of a pcap file that had no octets,
+    /// as a full disk leaves it, is no fault: the capture is cut short there, and what comes after
+    /// it is passed over.
     pub fn within(
         alloc: Global,
         limit: u64,
@@ -79,8 +84,8 @@ impl Capture {
 
     /// Takes the next octets of the capture. A fault is answered as soon as the octets so far have
     /// it, whatever comes after them; after any fault every later call answers that fault. Each
-    /// packet before that is told to the sink, in order. Of the piece only octets of a block that is
-    /// not whole in it are copied, so that the memory taken goes with the largest block.
+    /// packet before that is told to the sink, in order. Of the piece only octets of a block that
+    /// is not whole in it are copied, so that the memory taken goes with the largest block.
     pub fn feed<S: Sink>(&mut self, piece: &[u8], sink: &mut S) -> Result<(), Fault>
         // The reader stands where the octets that it was fed before, and these, lead it.
         ensures fed { (fed : List ℕ) → HasRead self.old fed → HasRead self.new (fed ++ piece.now) }
@@ -99,7 +104,7 @@ impl Capture {
 
         // Out of memory was answered before, or a block did not come in one piece, or memory is
         // needed for a block of this piece: it is not whole, or describes an interface, or has a
-        // packet whose sender is listed.
+        // fragment, or a packet whose sender is listed.
         ensures memory { IfErr result (λ fault. fault ≡ Fault.Memory
             → (self.old.fault ≡ Some Fault.Memory) ⊎ (self.old.pending ≢ [])
             ⊎ ((fed : List ℕ) → HasRead self.old fed → NeedsMemory self.old.limit
@@ -162,9 +167,11 @@ impl Capture {
     }
 
     /// What the packets of all octets that were fed give; the fault that was answered before if
-    /// there was one, `NotCapture` if the octets end before their first block is whole, `CutShort`
-    /// if they end within a later one.
-    pub fn finish(self) -> Result<Gathered, Fault>
+    /// there was one, `Fragment` if fragments of a datagram of the named sender are missing at
+    /// their end, `NotCapture` if they end before their first block is whole, `CutShort` if they
+    /// end within a later one.
+    #[tactic(auto, using(crate::proofs::StreamLaws::all_read, crate::proofs::StreamLaws::cut_short))]
+    pub fn finish<S: Sink>(self, sink: &mut S) -> Result<Gathered, Fault>
         ensures ok { IfOk result (λ gathered. (fed : List ℕ) → HasRead self fed
             → IsRead self.limit fed gathered) }
         ensures wanted { IfOk result (λ gathered. gathered.wanted
@@ -178,53 +185,82 @@ impl Capture {
         ensures memory { IfErr result (λ fault. fault ≡ Fault.Memory
             → self.fault ≡ Some Fault.Memory) }
     {
-        if let Some(fault) = self.fault {
-            return Err(fault);
+        match self.finish_at_cut(sink) {
+            Ok((gathered, None)) => Ok(gathered),
+            Ok((_, Some(at))) => Err(Fault::CutShort { at }),
+            Err(fault) => Err(fault),
         }
-        self.stream.finish()
     }
 
-    /// Where the octets that were fed end within a block: its offset. The fault that was answered
-    /// before if there was one, `NotCapture` if they end before their first block is whole.
-    pub fn cut(&self) -> Result<Option<u64>, Fault>
-        ensures ok { IfOk result (λ cut. (fed : List ℕ) → HasRead self.now fed
-            → IsReadToCut self.now.limit fed self.now.progress.gathering cut) }
-        ensures not_cut { self.now.fault ≡ None
-            → IfErr result (λ fault. fault ≡ Fault.NotCapture) }
+    /// Ends the capture, whose last block may be cut short: tells the sink of datagrams of which
+    /// fragments are missing. Where the octets that were fed end within a block: its offset. The
+    /// fault that was answered before if there was one, `Fragment` if such a datagram is of the
+    /// sender that is named, `NotCapture` if the octets end before their first block is whole.
+    pub fn end<S: Sink>(&mut self, sink: &mut S) -> Result<Option<u64>, Fault>
+        ensures wanted { self.new.progress.gathering.wanted
+            ≡ self.old.progress.gathering.wanted }
+        ensures same { (self.new.limit ≡ self.old.limit)
+            × (self.new.progress.context ≡ self.old.progress.context) }
+        ensures senders { OnOk result
+            (self.new.progress.gathering.senders ≡ self.old.progress.gathering.senders) }
+        ensures ok { IfOk result (λ cut. (fed : List ℕ) → HasRead self.old fed
+            → IsReadToCut self.old.limit fed self.new.progress.gathering cut) }
+        ensures not_cut { self.old.fault ≡ None
+            → IfErr result (λ fault. (fault ≡ Fault.NotCapture)
+            ⊎ IsRefused self.old.progress.gathering.wanted self.old.progress.gathering.senders
+            (missing_in self.old.progress.known) fault) }
         ensures fault { IfErr result (λ fault. fault ≢ Fault.Memory → (fed : List ℕ)
-            → HasRead self.now fed
-            → CaptureFault self.now.limit self.now.progress.gathering.wanted fed fault) }
-        ensures stays { IfSome self.now.fault (λ fault. result ≡ Err fault) }
+            → HasRead self.old fed
+            → CaptureFault self.old.limit self.old.progress.gathering.wanted fed fault) }
+        ensures stays { IfSome self.old.fault (λ fault. result ≡ Err fault) }
+
+        // The sink took the datagrams of which fragments are missing besides, or some of them.
+        ensures sunk { IfOk result (λ cut. Sinks S.has sink.old sink.new (EndMore
+            self.old.progress self.old.pending self.new.progress.gathering cut)) }
+        ensures stopped { self.old.fault ≡ None → IfErr result (λ _. Sinks S.has sink.old sink.new
+            (GatherSome self.old.progress.gathering (missing_in self.old.progress.known))) }
 
         // It takes no memory.
         ensures memory { IfErr result (λ fault. fault ≡ Fault.Memory
-            → self.now.fault ≡ Some Fault.Memory) }
+            → self.old.fault ≡ Some Fault.Memory) }
     {
         if let Some(fault) = self.fault {
             return Err(fault);
         }
-        self.stream.cut()
+        self.stream.end(sink)
     }
 
-    /// The same of a capture whose last block may be cut short: what its whole blocks give, and the
-    /// offset of the block that is not whole, if there is one.
-    pub fn finish_at_cut(self) -> Result<(Gathered, Option<u64>), Fault>
+    /// The same, with what the whole blocks give.
+    pub fn finish_at_cut<S: Sink>(mut self, sink: &mut S) -> Result<(Gathered, Option<u64>), Fault>
         ensures ok { IfOk result (λ given. (fed : List ℕ) → HasRead self fed
             → IsReadToCut self.limit fed given.0 given.1) }
         ensures wanted { IfOk result (λ given. given.0.wanted
             ≡ self.progress.gathering.wanted) }
         ensures not_cut { self.fault ≡ None
-            → IfErr result (λ fault. fault ≡ Fault.NotCapture) }
+            → IfErr result (λ fault. (fault ≡ Fault.NotCapture)
+            ⊎ IsRefused self.progress.gathering.wanted self.progress.gathering.senders
+            (missing_in self.progress.known) fault) }
         ensures fault { IfErr result (λ fault. fault ≢ Fault.Memory → (fed : List ℕ)
             → HasRead self fed
             → CaptureFault self.limit self.progress.gathering.wanted fed fault) }
         ensures stays { IfSome self.fault (λ fault. result ≡ Err fault) }
+        ensures sunk { IfOk result (λ given. Sinks S.has sink.old sink.new (EndMore
+            self.progress self.pending given.0 given.1)) }
+        ensures stopped { self.fault ≡ None → IfErr result (λ _. Sinks S.has sink.old sink.new
+            (GatherSome self.progress.gathering (missing_in self.progress.known))) }
 
         // It takes no memory.
         ensures memory { IfErr result (λ fault. fault ≡ Fault.Memory
             → self.fault ≡ Some Fault.Memory) }
     {
-        let cut = self.cut()?;
-        Ok((self.stream.reader.into_gathered(), cut))
+        let cut = self.end(sink)?;
+        Ok((self.into_gathered(), cut))
+    }
+
+    /// What the packets give that were read.
+    pub fn into_gathered(self) -> Gathered
+        ensures { result ≡ self.progress.gathering }
+    {
+        self.stream.reader.into_gathered()
     }
 }

@@ -34,8 +34,9 @@ pub enum Fault {
     /// The recorder kept only a part of the sender's datagram in the block that begins here.
     #[error("datagram cut by the recorder at {at}")]
     Snapped { at: u64 },
-    /// The sender's datagram in the block that begins here came in fragments.
-    #[error("datagram in fragments at {at}")]
+    /// Fragments are missing of a datagram of the sender, the first of which to come is in the
+    /// block that begins here.
+    #[error("fragments of a datagram missing at {at}")]
     Fragment { at: u64 },
     /// The sender's datagram in the block that begins here says more octets than there were.
     #[error("datagram cut short at {at}")]

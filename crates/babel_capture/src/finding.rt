@@ -108,6 +108,7 @@ impl Wanted {
     {
         match seen {
             Seen::Other => Finding::Passed,
+            Seen::Fragment(_) => Finding::Passed,
             Seen::Short => Finding::Short,
             Seen::Flawed { place, ends, flaw } => {
                 if self.takes(ends.sender, *place) {

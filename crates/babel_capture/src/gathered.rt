@@ -1,11 +1,15 @@
-ghost use Rattle.std.specs.Prelude.{◌≡◌, ◌+◌, ◌^◌, ◌<◌, ◌≤◌, ◌++◌, ◌∷◌, [], ◌⊎◌, ℕ, OnOk, IfErr};
-ghost use Rattle.babel_capture.specs.Blocks.{sight_in, sighting_of, sightings_in, skipped_of};
-ghost use Rattle.babel_capture.specs.Contents.{captured_of, content_of, holds, names_in};
-ghost use Rattle.babel_capture.specs.Gathering.{BlockNeedsMemory, IsGathered, IsRefused, name_of};
-ghost use Rattle.babel_capture.specs.Sight.{other};
+ghost use Rattle.std.specs.Prelude.{◌≡◌, ◌≢◌, ◌+◌, ◌^◌, ◌<◌, ◌≤◌, ◌++◌, ◌∷◌, [], ◌⊎◌, ℕ, OnOk};
+ghost use Rattle.std.specs.Prelude.{IfErr};
+ghost use Rattle.babel_capture.specs.Contents.{captured_of};
+ghost use Rattle.babel_capture.specs.Fragments.{lost_sight};
+ghost use Rattle.babel_capture.specs.Gathering.{IsGathered, IsLeft, RefusesSight, SightNeedsMemory};
+ghost use Rattle.babel_capture.specs.Gathering.{name_of};
+ghost use Rattle.babel_capture.specs.Passage.{missing_of, sighting_as, skipped_of};
+ghost use Rattle.babel_capture.specs.Sight.{other, sight_of};
 ghost use Rattle.babel_capture.specs.Sinking.{GatherMore, Sinks};
 
-use crate::block::{Block, Packet};
+use crate::block::Packet;
+use crate::datagram::Datagram;
 use crate::fault::Fault;
 use crate::finding::Finding;
 use crate::outside::Outside;
@@ -99,42 +103,47 @@ impl Gathered {
         self.outside.first()
     }
 
-    /// Takes the packet in the block at this offset, and tells the sink what is found in it.
-    fn take_packet<S: Sink>(
+    /// Takes the packet in the block at this offset, which is seen so, and tells the sink what is
+    /// found in it.
+    pub(crate) fn take_seen<S: Sink>(
         &mut self,
         at: u64,
         packet: &Packet<'_>,
+        seen: &Seen<'_>,
         sink: &mut S,
     ) -> Result<(), Fault>
-        requires { self.old.report.packets + 1 < 2 ^ 64 }
+        requires { self.old.report.packets + 1 + self.old.report.missing < 2 ^ 64 }
         ensures wanted { self.new.wanted ≡ self.old.wanted }
         ensures names { self.new.names ≡ self.old.names }
+        ensures packets { OnOk result
+            (self.new.report.packets ≡ self.old.report.packets + 1) }
+        ensures missing { self.new.report.missing ≡ self.old.report.missing }
+        ensures no_less { self.old.report.packets ≤ self.new.report.packets }
         ensures report { self.new.report.packets ≤ self.old.report.packets + 1 }
         ensures ok { OnOk result (Sinks S.has sink.old sink.new (GatherMore self.old self.new
-            (sighting_of (self.old.report.packets + 1) at (captured_of packet.now) ∷ []))) }
+            (sighting_as (self.old.report.packets + 1) at (captured_of packet.now)
+            (sight_of seen.now) ∷ []))) }
         ensures stopped { IfErr result (λ _. sink.new ≡ sink.old) }
         ensures err { IfErr result (λ fault. (fault ≡ Fault.Memory)
-            ⊎ IsRefused self.old.wanted self.old.senders at
-            (holds (captured_of packet.now)) fault) }
-        ensures memory { IfErr result (λ fault. fault ≡ Fault.Memory → BlockNeedsMemory
-            self.old.wanted self.old.senders (holds (captured_of packet.now))) }
+            ⊎ RefusesSight self.old.wanted self.old.senders at (sight_of seen.now) fault) }
+        ensures memory { IfErr result (λ fault. fault ≡ Fault.Memory → SightNeedsMemory
+            self.old.wanted self.old.senders (sight_of seen.now)) }
     {
-        let seen = packet.look();
         // Nearly all packets of most captures end here.
         if let Seen::Other = seen {
             self.pass(packet, sink);
             return Ok(());
         }
-        let finding = self.wanted.finding(&seen);
+        let finding = self.wanted.finding(seen);
         if let Finding::Refused(lack) = finding {
             return Err(lack.fault(at));
         }
-        self.outside.note(&self.wanted, packet, &seen, &finding);
+        self.outside.note(&self.wanted, packet, seen, &finding);
         let came = packet.time();
         let (counted, time) = (came, came);
         let are_listed = self.wanted.are_listed;
         let interval = self.senders.take(at, came, &finding, are_listed)?;
-        let section = packet.babel_section(&seen);
+        let section = packet.babel_section(seen);
         self.report
             .count(packet.link, counted, section, &finding, interval);
         let told = Record {
@@ -146,47 +155,54 @@ impl Gathered {
         Ok(())
     }
 
-    /// Takes what the block at this offset says, and tells the sink of its packet, if it says one.
-    pub fn take_said<S: Sink>(
+    /// Tells the sink of a datagram of which fragments are missing, the first of which to come had
+    /// this number.
+    pub(crate) fn miss<S: Sink>(
         &mut self,
-        at: u64,
-        said: &Block<'_>,
+        number: u64,
+        datagram: &Datagram,
         sink: &mut S,
     ) -> Result<(), Fault>
-        requires { self.old.report.packets + 1 < 2 ^ 64 }
-        ensures wanted { self.new.wanted ≡ self.old.wanted }
-        ensures names { OnOk result (self.new.names
-            ≡ self.old.names ++ names_in (content_of said.now)) }
-        ensures report { self.new.report.packets ≤ self.old.report.packets + 1 }
-        ensures ok { OnOk result (Sinks S.has sink.old sink.new (GatherMore self.old self.new
-            (sightings_in (self.old.report.packets + 1) at (content_of said.now)))) }
-        ensures stopped { IfErr result (λ _. sink.new ≡ sink.old) }
-        ensures err { IfErr result (λ fault. (fault ≡ Fault.Memory)
-            ⊎ IsRefused self.old.wanted self.old.senders at (content_of said.now) fault) }
-        ensures memory { IfErr result (λ fault. fault ≡ Fault.Memory → BlockNeedsMemory
-            self.old.wanted self.old.senders (content_of said.now)) }
-    {
-        match said {
-            Block::Packet(packet) => self.take_packet(at, packet, sink),
-            Block::Skipped(packet) => {
-                self.skip(packet, sink);
-                Ok(())
-            }
-            Block::File { .. } => self.add_name(&[]),
-            Block::Interface { name, .. } => self.add_name(name),
-            Block::Section(_) | Block::Other => Ok(()),
-        }
-    }
-
-    /// Takes a packet that is no datagram of Babel, and tells the sink of it.
-    fn pass<S: Sink>(&mut self, packet: &Packet<'_>, sink: &mut S)
-        requires room { self.old.report.packets + 1 < 2 ^ 64 }
-        requires other { sight_in (captured_of packet.now) ≡ other }
+        requires { self.old.report.packets + self.old.report.missing + 1 < 2 ^ 64 }
         ensures wanted { self.new.wanted ≡ self.old.wanted }
         ensures names { self.new.names ≡ self.old.names }
-        ensures report { self.new.report.packets ≤ self.old.report.packets + 1 }
+        ensures senders { self.new.senders ≡ self.old.senders }
+        ensures packets { self.new.report.packets ≡ self.old.report.packets }
+        ensures missing { OnOk result
+            (self.new.report.missing ≡ self.old.report.missing + 1) }
+        ensures not_missed { IfErr result
+            (λ _. self.new.report.missing ≡ self.old.report.missing) }
+        ensures ok { OnOk result (Sinks S.has sink.old sink.new (GatherMore self.old self.new
+            (missing_of (number, datagram.now) ∷ []))) }
+        ensures taken { OnOk result (IsLeft self.old.wanted (lost_sight datagram.now)) }
+        ensures stopped { IfErr result (λ _. sink.new ≡ sink.old) }
+        ensures err { IfErr result (λ fault. RefusesSight self.old.wanted self.old.senders
+            datagram.now.at (lost_sight datagram.now) fault) }
+        ensures memory { IfErr result (λ fault. fault ≢ Fault.Memory) }
+    {
+        let seen = datagram.look_lost();
+        let finding = self.wanted.finding(&seen);
+        if let Finding::Refused(lack) = finding {
+            return Err(lack.fault(datagram.at));
+        }
+        self.report.count_missing(number, &finding);
+        sink.take(&Record {
+            number,
+            time: None,
+            said: finding.said(),
+        });
+        Ok(())
+    }
+
+    /// Takes a packet at which nothing of Babel is seen, and tells the sink of it.
+    pub(crate) fn pass<S: Sink>(&mut self, packet: &Packet<'_>, sink: &mut S)
+        requires { self.old.report.packets + 1 < 2 ^ 64 }
+        ensures wanted { self.new.wanted ≡ self.old.wanted }
+        ensures names { self.new.names ≡ self.old.names }
+        ensures packets { self.new.report.packets ≡ self.old.report.packets + 1 }
+        ensures missing { self.new.report.missing ≡ self.old.report.missing }
         ensures passed { (at : ℕ) → Sinks S.has sink.old sink.new (GatherMore self.old self.new
-            (sighting_of (self.old.report.packets + 1) at (captured_of packet.now) ∷ [])) }
+            (sighting_as (self.old.report.packets + 1) at (captured_of packet.now) other ∷ [])) }
     {
         let time = packet.time();
         self.report.count_other(&time);
@@ -197,16 +213,18 @@ impl Gathered {
         });
     }
 
-    /// Skips a packet, of which the sink is told no more than that it is one of the capture.
-    fn skip<S: Sink>(&mut self, packet: &Packet<'_>, sink: &mut S)
+    /// Skips a packet, which is seen so, and of which the sink is told no more than that it is one
+    /// of the capture.
+    pub(crate) fn skip<S: Sink>(&mut self, packet: &Packet<'_>, seen: &Seen<'_>, sink: &mut S)
         requires { self.old.report.packets + 1 < 2 ^ 64 }
         ensures wanted { self.new.wanted ≡ self.old.wanted }
         ensures names { self.new.names ≡ self.old.names }
-        ensures report { self.new.report.packets ≤ self.old.report.packets + 1 }
+        ensures packets { self.new.report.packets ≡ self.old.report.packets + 1 }
+        ensures missing { self.new.report.missing ≡ self.old.report.missing }
         ensures skipped { (at : ℕ) → Sinks S.has sink.old sink.new (GatherMore self.old self.new
             (skipped_of (self.old.report.packets + 1) at (captured_of packet.now) ∷ [])) }
     {
-        self.outside.pass_skipped(&self.wanted, packet);
+        self.outside.pass(&self.wanted, packet, seen);
         self.report.count_skipped();
         sink.take(&Record {
             number: self.report.packets(),
@@ -216,7 +234,7 @@ impl Gathered {
     }
 
     /// Keeps the name of an interface.
-    fn add_name(&mut self, name: &[u8]) -> Result<(), Fault>
+    pub(crate) fn add_name(&mut self, name: &[u8]) -> Result<(), Fault>
         ensures wanted { self.new.wanted ≡ self.old.wanted }
         ensures names { OnOk result (self.new.names ≡ self.old.names ++ name.now ∷ []) }
         ensures report { self.new.report ≡ self.old.report }

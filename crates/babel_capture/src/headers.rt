@@ -1,4 +1,5 @@
-ghost use Rattle.std.specs.Prelude.{◌≡◌};
+ghost use Rattle.std.specs.Prelude.{◌≡◌, ◌≤◌, length};
+ghost use Rattle.babel_capture.specs.Headers.{fragment_offset, has_more_fragments, is_atomic};
 ghost use Rattle.babel_capture.specs.Headers.{telling_len};
 
 use crate::field::number16;
@@ -12,7 +13,7 @@ const HOP_BY_HOP_OPTIONS: u8 = 0;
 
 const ROUTING: u8 = 43;
 
-const FRAGMENT: u8 = 44;
+pub(crate) const FRAGMENT: u8 = 44;
 
 const DESTINATION_OPTIONS: u8 = 60;
 
@@ -35,13 +36,35 @@ fn telling_len(number: u8) -> usize
     }
 }
 
+/// Where in the datagram the fragment with this header begins, in octets.
+pub(crate) fn fragment_offset(header: &[u8]) -> u16
+    requires { 4 ≤ length header.now }
+    ensures { result ≡ fragment_offset header.now }
+{
+    number16(header, 2) & FRAGMENT_OFFSET
+}
+
+/// Whether more fragments come after the one with this header.
+pub(crate) fn has_more_fragments(header: &[u8]) -> bool
+    requires { 4 ≤ length header.now }
+    ensures { result ≡ has_more_fragments header.now }
+{
+    number16(header, 2) & MORE_FRAGMENTS != 0
+}
+
+/// Whether the fragment with this header is all that there is.
+fn is_atomic(header: &[u8]) -> bool
+    requires { 4 ≤ length header.now }
+    ensures { result ≡ is_atomic header.now }
+{
+    fragment_offset(header) == 0 && !has_more_fragments(header)
+}
+
 /// A header of an IPv6 packet after the fixed one, and what comes after it: RFC 8200, 4.
 #[derive(Clone, Copy)]
 pub(crate) struct NextHeader<'a> {
     /// The number of the header.
     pub number: u8,
-    /// Whether the headers before it say that the packet is the first of several fragments.
-    pub is_fragment: bool,
     /// The octets from the header's first one on.
     pub part: Part<'a>,
 }
@@ -75,8 +98,8 @@ impl<'a> NextHeader<'a> {
         len <= self.part.whole && self.part.octets.len() < len
     }
 
-    /// The header after this extension header; the same header where it is another or stands in a
-    /// later fragment.
+    /// The header after this extension header; the same header where it is another, or that of one
+    /// of several fragments.
     #[tactic(auto, unfolding(crate::specs::Headers::past_header))]
     fn past_one(self) -> NextHeader<'a>
         ensures { next_header result ≡ past_header (next_header self.entry) }
@@ -88,12 +111,10 @@ impl<'a> NextHeader<'a> {
         match self.number {
             HOP_BY_HOP_OPTIONS | ROUTING | DESTINATION_OPTIONS => NextHeader {
                 number: octets[0],
-                is_fragment: self.is_fragment,
                 part: self.part.after(UNIT * (octets[1] as usize + 1)),
             },
-            FRAGMENT if number16(octets, 2) & FRAGMENT_OFFSET == 0 => NextHeader {
+            FRAGMENT if is_atomic(octets) => NextHeader {
                 number: octets[0],
-                is_fragment: self.is_fragment || number16(octets, 2) & MORE_FRAGMENTS != 0,
                 part: self.part.after(UNIT),
             },
             _ => self,

@@ -1,20 +1,27 @@
 ghost use Rattle.std.specs.Prelude.{◌≡◌, ◌≤◌, length};
-ghost use Rattle.babel_capture.specs.Ipv6.{ipv6_carried_sight, ipv6_sight, upper_sight};
+ghost use Rattle.babel_capture.specs.Ipv6.{ipv6_carried_sight, ipv6_fragment_sight, ipv6_sight};
+ghost use Rattle.babel_capture.specs.Ipv6.{is_cut, upper_sight};
 ghost use Rattle.babel_capture.specs.Layers.{next_header};
 ghost use Rattle.babel_capture.specs.Sight.{sight_of};
 
 use crate::ends::Ends;
-use crate::field::{ipv6_address, number16};
-use crate::headers::NextHeader;
+use crate::field::{ipv6_address, number16, number32};
+use crate::fragment::DatagramId;
+use crate::headers::{FRAGMENT, NextHeader, fragment_offset, has_more_fragments};
+use crate::ip_fragment::IpFragment;
 use crate::part::Part;
 use crate::place::Place;
 use crate::seen::Seen;
+use crate::tallies::Origin;
 use crate::udp::{UDP, look_at_none, look_into_udp};
 
 /// The octets of the fixed header, and of its fields up to the next header: RFC 8200, 3.
 const HEADER_LEN: usize = 40;
 
 const NEXT_HEADER_END: usize = 7;
+
+/// The octets of the header of fragments: RFC 8200, 4.5.
+const FRAGMENT_LEN: usize = 8;
 
 /// What an IPv6 packet is: RFC 8200.
 #[tactic(auto, unfolding(crate::specs::Ipv6::ipv6_sight))]
@@ -33,7 +40,6 @@ pub(crate) fn look_into_ipv6(place: Place, packet: Part<'_>) -> Seen<'_>
     }
     let first = NextHeader {
         number: octets[6],
-        is_fragment: false,
         part: packet.after(HEADER_LEN).first(number16(octets, 4) as usize),
     };
     look_at_upper(place, packet, first.past_all())
@@ -45,12 +51,16 @@ fn look_at_upper<'a>(place: Place, packet: Part<'a>, upper: NextHeader<'a>) -> S
     ensures { sight_of result ≡ upper_sight place packet.entry.octets.now packet.entry.whole
         (next_header upper.entry) }
 {
-    if upper.number == UDP {
-        look_at_carried(place, packet, upper)
-    } else if upper.is_unkept() {
-        Seen::Short
-    } else {
-        Seen::Other
+    match upper.number {
+        UDP => look_at_carried(place, packet, upper),
+        FRAGMENT => look_at_fragment(place, packet, upper),
+        _ => {
+            if upper.is_unkept() {
+                Seen::Short
+            } else {
+                Seen::Other
+            }
+        }
     }
 }
 
@@ -68,6 +78,46 @@ fn look_at_carried<'a>(place: Place, packet: Part<'a>, upper: NextHeader<'a>) ->
         sender: ipv6_address(octets, 8),
         destination: ipv6_address(octets, 24),
     };
-    let is_cut = packet.whole < HEADER_LEN + number16(octets, 4) as usize;
-    look_into_udp(place, &ends, upper.is_fragment, is_cut, upper.part)
+    look_into_udp(place, &ends, is_cut(packet), upper.part)
+}
+
+/// Whether a packet says more octets than its frame had.
+fn is_cut(packet: Part<'_>) -> bool
+    requires { 7 ≤ length packet.octets.now }
+    ensures { result ≡ is_cut packet.entry.octets.now packet.entry.whole }
+{
+    packet.whole < HEADER_LEN + number16(packet.octets, 4) as usize
+}
+
+/// What a packet is that is a fragment, by this header: RFC 8200, 4.5.
+fn look_at_fragment<'a>(place: Place, packet: Part<'a>, header: NextHeader<'a>) -> Seen<'a>
+    requires { 7 ≤ length packet.octets.now }
+    ensures { sight_of result ≡ ipv6_fragment_sight place packet.entry.octets.now
+        packet.entry.whole (next_header header.entry) }
+{
+    if header.part.whole < FRAGMENT_LEN {
+        return Seen::Other;
+    }
+    if packet.octets.len() < HEADER_LEN || header.part.octets.len() < FRAGMENT_LEN {
+        return Seen::Short;
+    }
+    let octets = header.part.octets;
+    let fragment = IpFragment {
+        id: DatagramId {
+            origin: Origin {
+                place,
+                sender: ipv6_address(packet.octets, 8),
+            },
+            destination: ipv6_address(packet.octets, 24),
+            identification: number32(octets, 4),
+        },
+        offset: fragment_offset(octets),
+        more: has_more_fragments(octets),
+        is_cut: is_cut(packet),
+        carried: NextHeader {
+            number: octets[0],
+            part: header.part.after(FRAGMENT_LEN),
+        },
+    };
+    fragment.look()
 }

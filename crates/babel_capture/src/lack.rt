@@ -7,8 +7,7 @@ use crate::reason::Reason;
 /// Why a datagram is not all there.
 #[derive(Clone, Copy)]
 pub enum Lack {
-    /// It is the first fragment of one: RFC 791, 3.2; RFC 8200, 4.5. Fragments are not put
-    /// together.
+    /// Fragments of it are missing: RFC 791, 3.2; RFC 8200, 4.5.
     Fragment,
     /// Its length, in the header of IP or of UDP, is more than what there was of it.
     CutShort,

@@ -17,6 +17,8 @@ ghost use Rattle.babel_capture.specs.Contents.{Captured};
 ghost use Rattle.babel_capture.specs.declared.order.Order.{Order};
 ghost use Rattle.babel_capture.specs.Reading.{Stops};
 ghost use Rattle.babel_capture.specs.Senders.{AreSenders};
+ghost use Rattle.babel_capture.specs.PutTogether.{PutTogetherIsRead, PutTogetherIsWhole};
+ghost use Rattle.babel_capture.specs.Unfragmented.{UnfragmentedIsOneByOne};
 ghost use Rattle.babel_capture.specs.Window.{Extent, all_times};
 ghost use Rattle.babel_tlv.specs.FrameFaults.{FrameFault};
 ghost use Rattle.babel_tlv.specs.declared.fault.Fault.{Fault as DumpFault};
@@ -26,12 +28,13 @@ ghost use Rattle.babel_capture.specs.declared.wanted.Wanted.{Wanted};
 ghost use Rattle.babel_capture.specs.Backing.{Backs};
 ghost use Rattle.babel_capture.specs.Frame.{frame_sight};
 ghost use Rattle.babel_capture.specs.InFrame.{AreOctets, IsInFrame};
-ghost use Rattle.babel_capture.specs.LaidOut.{HasBabel, IsBabel, IsOverIp, UdpDatagram};
+ghost use Rattle.babel_capture.specs.IpFragments.{IpFragment, fragment_sight};
+ghost use Rattle.babel_capture.specs.LaidOut.{IsBabel, IsOverIp, IsPartOverIp, UdpDatagram};
 ghost use Rattle.babel_capture.specs.LinkHeaders.{HasEtherType, HasFamily, IsHeader};
 ghost use Rattle.babel_capture.specs.LinkHeaders.{IsOtherFamily, IsOtherType};
 ghost use Rattle.byteorder.specs.Endian.{big_bytes, little_bytes};
 ghost use Rattle.babel_capture.specs.declared.ends.Ends.{Ends};
-ghost use Rattle.babel_capture.specs.Sight.{Carried, Sight, carries, datagram, lacking, other};
+ghost use Rattle.babel_capture.specs.Sight.{Sight, carries, datagram, lacking, other};
 ghost use Rattle.babel_capture.specs.declared.link.Link.{Link as LinkType};
 ghost use Rattle.babel_capture.specs.declared.lack.Lack.TheVariants.{Snapped};
 ghost use Rattle.babel_capture.specs.declared.place.Place.{Place};
@@ -48,16 +51,26 @@ pub fn sight_is_backed()
 /// A Babel datagram that is laid out as the RFCs say, over IPv4 with any options or over IPv6 with
 /// up to eight extension headers, in a frame of any link type that is read, with up to four VLAN
 /// tags where it has an EtherType, and with any padding, is seen as what it carries, between its
-/// addresses and at its place, whatever its IP packet has after it, kept or not; and the first of
-/// several fragments of one is seen as a fragment.
+/// addresses and at its place, whatever its IP packet has after it, kept or not.
 pub fn laid_out_is_seen()
     ensures { (link : LinkType) (interface ether_type : ℕ) (place : Place) (ends : Ends)
-        (carried : Carried) (header packet after : List ℕ) (more all : ℕ)
+        (udp : UdpDatagram) (header packet after : List ℕ) (more all : ℕ)
         → IsHeader link interface ether_type place header
-        → HasBabel ether_type ends packet more carried
+        → IsBabel udp → IsOverIp ether_type ends udp packet more
         → length header + (length packet + more) ≤ all
         → frame_sight interface link (header ++ (packet ++ after)) all
-        ≡ datagram place ends carried }
+        ≡ datagram place ends (carries udp.payload) }
+{}
+
+/// A fragment of a UDP datagram that is laid out as the RFCs say, over IPv4 with any options or
+/// over IPv6 with up to eight extension headers before that of fragments, is seen as that fragment.
+pub fn fragment_is_seen()
+    ensures { (link : LinkType) (interface ether_type : ℕ) (place : Place) (fragment : IpFragment)
+        (header packet after : List ℕ) (all : ℕ)
+        → IsHeader link interface ether_type place header
+        → IsPartOverIp ether_type place packet fragment
+        → length header + length packet ≤ all
+        → frame_sight interface link (header ++ (packet ++ after)) all ≡ fragment_sight fragment }
 {}
 
 /// And nothing else is: where the octets of a frame are seen as a packet, they are laid out so.
@@ -166,6 +179,20 @@ pub fn fault_is_of_octets()
 pub fn capture_is_one()
     ensures whole { CaptureIsOne }
     ensures cut { CutCaptureIsOne }
+{}
+
+/// Where no frame of a capture is seen as a fragment, its packets are read one by one, each as its
+/// frame is seen.
+pub fn unfragmented_is_one_by_one()
+    ensures { UnfragmentedIsOneByOne }
+{}
+
+/// However a datagram was cut into fragments that do not overlap, and in whatever order they came,
+/// the last of them makes it whole, and none before; and it is read as the same datagram sent
+/// whole.
+pub fn put_together_is_read()
+    ensures whole { PutTogetherIsWhole }
+    ensures read { PutTogetherIsRead }
 {}
 
 /// Octets have one outcome or one fault.

@@ -13,14 +13,14 @@
 //!   *sunk*, *stopped* (`Sinks`, `FeedMore`, `StopMore`); `Sink::take` (`IsTold`). A Babel packet
 //!   that is found is whole — `laws::found_is_a_packet`
 //! - Of a capture whose last block is cut short, `finish_at_cut` gives what the whole blocks before
-//!   it give, and where the cut is, as does `cut` of a reader that is kept; a cut in the first
+//!   it give, and where the cut is, as does `end` of a reader that is kept; a cut in the first
 //!   block is refused. With `to_cut` a record of pcap without octets is such a cut, whatever comes
 //!   after it, up to the limit (`record_len`, `IsEnd`, `IsPartial`). — `Capture::finish_at_cut`,
-//!   `cut` · *ok*, *not_cut*; `finish_at_cut`, `finish` · *wanted*
+//!   `end` · *ok*, *not_cut*; `finish_at_cut`, `finish` · *wanted*
 //! - Out of memory comes only where a block came in several pieces, or one that begins in this
 //!   piece is not whole, describes an interface, or has a packet of a sender not listed yet (or has
 //!   2^64 packets, octets or Updates); at the end only if answered before. — `Capture::feed`,
-//!   `finish`, `finish_at_cut`, `cut` · *memory*
+//!   `finish`, `finish_at_cut`, `end` · *memory*
 //! - Where nobody is named, the packets found of a sender at its place are those that the same
 //!   octets give where it alone is wanted, with number and time; they give nothing then if one is
 //!   missed. — `laws::alone_is_the_same` · *whole*, *missing*
@@ -35,17 +35,22 @@ mod block;
 mod capture;
 mod clock;
 mod context;
+mod datagram;
 mod ends;
 mod ethernet;
 mod fault;
 mod field;
 mod finding;
 mod flaw;
+mod fragment;
+mod fragments;
 mod frame;
 mod gathered;
 mod headers;
+mod ip_fragment;
 mod ipv4;
 mod ipv6;
+mod known;
 mod lack;
 pub mod laws;
 mod layout;
@@ -56,6 +61,8 @@ mod options;
 mod order;
 mod outside;
 mod part;
+mod passing;
+mod pieces;
 mod place;
 mod reader;
 mod reason;
@@ -76,6 +83,7 @@ pub use capture::Capture;
 pub use ends::Ends;
 pub use fault::Fault;
 pub use flaw::Flaw;
+pub use fragment::{DatagramId, Fragment, UdpPlace};
 pub use frame::look;
 pub use gathered::Gathered;
 pub use headers::MAX_EXTENSION_HEADERS;

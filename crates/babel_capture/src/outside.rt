@@ -35,16 +35,10 @@ impl Outside {
         }
     }
 
-    /// Notes a packet that was passed over for its time.
-    pub(crate) fn pass_skipped(&mut self, wanted: &Wanted, packet: &Packet<'_>) {
-        if self.first.is_none() && wanted.sender.is_some() {
-            self.pass(wanted, packet, &packet.look());
-        }
-    }
-
-    /// Notes a packet that is passed over.
-    fn pass(&mut self, wanted: &Wanted, packet: &Packet<'_>, seen: &Seen<'_>) {
-        if self.first.is_none() && wanted.names(seen) {
+    /// Notes a packet that is seen so, and passed over.
+    pub(crate) fn pass(&mut self, wanted: &Wanted, packet: &Packet<'_>, seen: &Seen<'_>) {
+        let sender = seen.sender();
+        if self.first.is_none() && sender.is_some() && sender == wanted.sender {
             self.first = packet.time();
         }
     }

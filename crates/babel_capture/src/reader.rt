@@ -1,13 +1,15 @@
 ghost use Rattle.std.specs.Prelude.{◌≡◌, ◌↔◌, IsTrue, ◌≤◌, ◌<◌, ◌+◌, ◌-◌, ◌^◌, ◌++◌, ◌⊎◌, ℕ, List};
 ghost use Rattle.std.specs.Prelude.{[], length, take, drop, OnOk, IfOk, IfErr, IfSome, IfNone, Err};
-ghost use Rattle.std.specs.Prelude.{Ok};
+ghost use Rattle.std.specs.Prelude.{◌≢◌, Ok};
 ghost use Rattle.babel_capture.specs.Blocks.{BeginsBlock, IsBlock, IsEnd, IsPartial};
 ghost use Rattle.babel_capture.specs.Blocks.{start};
 ghost use Rattle.babel_capture.specs.Contents.{Content, block_said, content_of};
-ghost use Rattle.babel_capture.specs.Gathering.{BlockNeedsMemory};
+ghost use Rattle.babel_capture.specs.Gathering.{BlockNeedsMemory, IsRefused};
+ghost use Rattle.babel_capture.specs.Passage.{missing_in};
 ghost use Rattle.babel_capture.specs.Reading.{BlockFails, HasStarted, HeaderFails, LeadTo};
-ghost use Rattle.babel_capture.specs.Reading.{NeedsMemory, Stops};
-ghost use Rattle.babel_capture.specs.Sinking.{LeadMore, Sinks, StopLead};
+ghost use Rattle.babel_capture.specs.Reading.{NeedsMemory, Stops, passage_in};
+ghost use Rattle.babel_capture.specs.Sinking.{GatherMore, GatherSome, LeadMore, Sinks};
+ghost use Rattle.babel_capture.specs.Sinking.{StopBlock, StopLead};
 ghost use Rattle.babel_capture.specs.Window.{Extent};
 
 use crate::block::read_block;
@@ -15,6 +17,7 @@ use crate::context::Context;
 use crate::fault::Fault;
 use crate::gathered::Gathered;
 use crate::layout::Layout;
+use crate::passing::Passing;
 use crate::sink::Sink;
 use crate::time::Time;
 use crate::wanted::Wanted;
@@ -26,13 +29,13 @@ use std::marker::Model;
 #[derive(Drop)]
 pub struct Reader {
     context: Context,
-    gathered: Gathered,
+    passing: Passing,
     at: u64,
     passed: u64,
 }
 
 impl Model for Reader {
-    ghost use Rattle.std.specs.Prelude.{◌≤◌};
+    ghost use Rattle.std.specs.Prelude.{◌≤◌, ◌*◌};
     ghost use Rattle.babel_capture.specs.Lengths.{block_len};
     ghost use Rattle.babel_capture.specs.Reading.{Progress};
 
@@ -40,12 +43,15 @@ impl Model for Reader {
 
     ghost view = { λ r. record {
       context = r.context;
-      gathering = r.gathered;
+      gathering = r.passing.gathering;
+      clock = r.passing.clock;
+      known = r.passing.known;
       at = r.at;
       passed = r.passed;
     } };
 
-    ghost invariant = { λ r. (r.gathered.report.packets ≤ r.at) × (r.at ≤ r.context.limit) };
+    ghost invariant = { λ r. (2 * r.passing.gathering.report.packets ≤ r.at)
+        × (r.at ≤ r.context.limit) };
 }
 
 impl Reader {
@@ -61,7 +67,7 @@ impl Reader {
     {
         Reader {
             context: Context::new(alloc, limit, window, to_cut),
-            gathered: Gathered::new(alloc, wanted),
+            passing: Passing::new(alloc, wanted),
             at: 0,
             passed: 0,
         }
@@ -85,10 +91,11 @@ impl Reader {
         ensures passed { self.new.passed ≡ self.old.passed }
         ensures ok { OnOk result (Sinks S.has sink.old sink.new
             (LeadMore self.old self.new block.now)) }
-        ensures stopped { IfErr result (λ _. sink.new ≡ sink.old) }
+        ensures stopped { IfErr result (λ _. Sinks S.has sink.old sink.new
+            (StopBlock self.old block.now)) }
         ensures err { IfErr result (λ fault. (fault ≡ Fault.Memory)
-            ⊎ BlockFails self.old.gathering.wanted self.old.gathering.senders self.old.context
-            self.old.at block.now fault) }
+            ⊎ BlockFails self.old.gathering.wanted self.old.gathering.senders
+            (passage_in self.old) self.old.context self.old.at block.now fault) }
         ensures memory { IfErr result (λ fault. fault ≡ Fault.Memory → (content : Content)
             × (block_said self.old.context self.old.at block.now ≡ Ok content)
             × BlockNeedsMemory self.old.gathering.wanted self.old.gathering.senders content) }
@@ -101,7 +108,7 @@ impl Reader {
         let at = self.at;
         self.at += block.len() as u64;
         self.context.take(said)?;
-        self.gathered.take_said(at, said, sink)
+        self.passing.take_said(at, said, sink)
     }
 
     /// The whole block that the octets begin with; `None` if they are less than a block.
@@ -183,6 +190,25 @@ impl Reader {
         Ok(used)
     }
 
+    /// Gives up the datagrams that are known, since no more octets come, and tells those of which
+    /// fragments are missing to the sink.
+    pub fn end<S: Sink>(&mut self, sink: &mut S) -> Result<(), Fault>
+        ensures wanted { self.new.gathering.wanted ≡ self.old.gathering.wanted }
+        ensures names { self.new.gathering.names ≡ self.old.gathering.names }
+        ensures same { (self.new.context ≡ self.old.context) × (self.new.at ≡ self.old.at) }
+        ensures senders { OnOk result
+            (self.new.gathering.senders ≡ self.old.gathering.senders) }
+        ensures ok { OnOk result (Sinks S.has sink.old sink.new
+            (GatherMore self.old.gathering self.new.gathering (missing_in self.old.known))) }
+        ensures stopped { IfErr result (λ _. Sinks S.has sink.old sink.new
+            (GatherSome self.old.gathering (missing_in self.old.known))) }
+        ensures err { IfErr result (λ fault. IsRefused self.old.gathering.wanted
+            self.old.gathering.senders (missing_in self.old.known) fault) }
+        ensures memory { IfErr result (λ fault. fault ≢ Fault.Memory) }
+    {
+        self.passing.end(sink)
+    }
+
     /// Whether the first block was read, so that the octets are a capture.
     pub fn has_started(&self) -> bool
         ensures { IsTrue result ↔ HasStarted self.now.context }
@@ -201,13 +227,13 @@ impl Reader {
     pub fn gathered(&self) -> &Gathered
         ensures { result.now ≡ self.now.gathering }
     {
-        &self.gathered
+        self.passing.gathered()
     }
 
     /// What was gathered.
     pub fn into_gathered(self) -> Gathered
         ensures { result ≡ self.gathering }
     {
-        self.gathered
+        self.passing.into_gathered()
     }
 }

@@ -7,7 +7,7 @@ pub enum Reason {
     BadMagic,
     /// Its second octet is not 2: RFC 8966, 4.2.
     BadVersion,
-    /// It was sent in fragments, which are not put together: RFC 791, 3.2; RFC 8200, 4.5.
+    /// Fragments of it are missing, or overlap: RFC 791, 3.2; RFC 8200, 4.5; RFC 5722, 4.
     Fragment,
     /// The recorder kept only a part of it.
     Snapped,

@@ -1,7 +1,8 @@
 ghost use Rattle.std.specs.Prelude.{◌≡◌, ◌+◌, ◌^◌, ◌<◌, [], IfSome, None};
 ghost use Rattle.babel_capture.specs.Counts.{Counts, count_at, counts_of, interval_found};
 ghost use Rattle.babel_capture.specs.Counts.{reason_place};
-ghost use Rattle.babel_capture.specs.Counting.{counted, counted_at, counted_with, one_more};
+ghost use Rattle.babel_capture.specs.Counting.{counted, counted_at, counted_missing};
+ghost use Rattle.babel_capture.specs.Counting.{counted_with, one_more};
 ghost use Rattle.babel_capture.specs.Findings.{finding_of};
 ghost use Rattle.babel_capture.specs.Times.{kept};
 
@@ -18,6 +19,7 @@ use std::marker::Model;
 #[derive(Clone, Copy)]
 pub struct Report {
     packets: u64,
+    missing: u64,
     left_out: [Option<(u64, u64)>; 8],
     short: u64,
     cooked: u64,
@@ -29,12 +31,13 @@ pub struct Report {
 
 impl Model for Report {
     ghost use Rattle.babel_capture.specs.Counts.{Counts, count_at};
-    ghost use Rattle.std.specs.Prelude.{◌≡◌, ◌≤◌, ℕ, length, IfSome};
+    ghost use Rattle.std.specs.Prelude.{◌≡◌, ◌≤◌, ◌+◌, ℕ, length, IfSome};
 
     ghost Value = { Counts };
 
     ghost view = { λ r. record {
       packets = r.packets;
+      missing = r.missing;
       left_out = r.left_out;
       short = r.short;
       cooked = r.cooked;
@@ -47,10 +50,11 @@ impl Model for Report {
     ghost invariant = { λ r. (length r.left_out ≡ 8)
         × (r.short ≤ r.packets) × (r.cooked ≤ r.packets) × (r.trailers ≤ r.packets)
         × (r.sections.count ≤ r.packets) × ((i : ℕ)
-        → IfSome (count_at r.left_out i) (λ counted. counted.0 ≤ r.packets)) };
+        → IfSome (count_at r.left_out i) (λ counted. counted.0 ≤ r.packets + r.missing)) };
 
     ghost inverse = { λ r. record {
       packets = r.packets;
+      missing = r.missing;
       left_out = r.left_out;
       short = r.short;
       cooked = r.cooked;
@@ -69,8 +73,8 @@ impl Report {
         self.packets
     }
 
-    /// How many wanted datagrams were left out for the reason, and the number of the first one's
-    /// packet, from 1; `None` if none was.
+    /// How many wanted datagrams were left out for the reason, and the lowest number of their
+    /// packets, from 1; `None` if none was.
     pub fn left_out(&self, reason: Reason) -> Option<(u64, u64)>
         ensures { result ≡ count_at self.now.left_out (reason_place reason) }
     {
@@ -127,6 +131,7 @@ impl Report {
     {
         Report {
             packets: 0,
+            missing: 0,
             left_out: [None; 8],
             short: 0,
             cooked: 0,
@@ -149,7 +154,7 @@ impl Report {
         finding: &Finding<'_>,
         interval: Option<u16>,
     )
-        requires room { self.old.packets + 1 < 2 ^ 64 }
+        requires room { self.old.packets + 1 + self.old.missing < 2 ^ 64 }
         requires interval { interval ≡ interval_found (finding_of finding.now) }
         ensures { self.new ≡ counted (counted_at self.old (kept time section)) link
             (finding_of finding.now) }
@@ -181,6 +186,19 @@ impl Report {
         self.timing.take(self.packets, *time);
     }
 
+    /// Counts a datagram of which fragments are missing, the first of which to come had this
+    /// number, and of which this is made.
+    pub(crate) fn count_missing(&mut self, number: u64, finding: &Finding<'_>)
+        requires { self.old.packets + self.old.missing + 1 < 2 ^ 64 }
+        ensures { self.new ≡ counted_missing self.old number (finding_of finding.now) }
+    {
+        self.missing += 1;
+        if let Finding::Left { reason, .. } = finding {
+            let place = place_of(*reason);
+            self.left_out[place] = one_more_of(self.left_out[place], number);
+        }
+    }
+
     /// Counts a packet that is skipped.
     pub(crate) fn count_skipped(&mut self)
         requires { self.old.packets + 1 < 2 ^ 64 }
@@ -197,7 +215,7 @@ fn one_more_of(counted: Option<(u64, u64)>, number: u64) -> Option<(u64, u64)>
 {
     match counted {
         None => Some((1, number)),
-        Some((count, first)) => Some((count + 1, first)),
+        Some((count, first)) => Some((count + 1, first.min(number))),
     }
 }
 

@@ -1,12 +1,13 @@
 ghost use Rattle.std.specs.Prelude.{◌≡◌, ◌≢◌, ◌≤◌, ◌++◌, ◌⊎◌, ℕ, List, [], drop, length, vec_len};
 ghost use Rattle.std.specs.Prelude.{OnOk, IfOk, IfErr};
-ghost use Rattle.babel_capture.specs.Capture.{CaptureFault, IsRead, IsReadToCut};
+ghost use Rattle.babel_capture.specs.Capture.{CaptureFault};
+ghost use Rattle.babel_capture.specs.Gathering.{IsRefused};
+ghost use Rattle.babel_capture.specs.Passage.{missing_in};
 ghost use Rattle.babel_capture.specs.Reading.{HasTaken, PieceFails, PieceNeedsMemory};
-ghost use Rattle.babel_capture.specs.Sinking.{FeedMore, Sinks, StopMore};
+ghost use Rattle.babel_capture.specs.Sinking.{EndMore, FeedMore, GatherSome, Sinks, StopMore};
 ghost use Rattle.babel_capture.specs.Window.{Extent};
 
 use crate::fault::Fault;
-use crate::gathered::Gathered;
 use crate::reader::Reader;
 use crate::sink::Sink;
 use crate::wanted::Wanted;
@@ -128,38 +129,27 @@ impl Stream {
         }
     }
 
-    /// What the packets of a whole capture give.
-    pub fn finish(self) -> Result<Gathered, Fault>
-        ensures ok { IfOk result (λ gathered. (limit : Extent) (fed : List ℕ)
-            → HasTaken limit self.reader self.pending.items fed
-            → IsRead limit fed gathered) }
-        ensures wanted { IfOk result (λ gathered. gathered.wanted ≡ self.reader.gathering.wanted) }
+    /// Gives up the datagrams that are known, since no more octets come, and tells those of which
+    /// fragments are missing to the sink: the offset of a block that is not whole, if the octets
+    /// end within one.
+    pub fn end<S: Sink>(&mut self, sink: &mut S) -> Result<Option<u64>, Fault>
+        ensures wanted { self.new.reader.gathering.wanted ≡ self.old.reader.gathering.wanted }
+        ensures context { self.new.reader.context ≡ self.old.reader.context }
+        ensures senders { OnOk result
+            (self.new.reader.gathering.senders ≡ self.old.reader.gathering.senders) }
+        ensures ok { IfOk result (λ cut. Sinks S.has sink.old sink.new (EndMore self.old.reader
+            self.old.pending.items self.new.reader.gathering cut)) }
+        ensures stopped { IfErr result (λ _. Sinks S.has sink.old sink.new
+            (GatherSome self.old.reader.gathering (missing_in self.old.reader.known))) }
+        ensures err { IfErr result (λ fault. (fault ≡ Fault.NotCapture)
+            ⊎ IsRefused self.old.reader.gathering.wanted self.old.reader.gathering.senders
+            (missing_in self.old.reader.known) fault) }
         ensures fault { IfErr result (λ fault. (limit : Extent) (fed : List ℕ)
-            → HasTaken limit self.reader self.pending.items fed
-            → CaptureFault limit self.reader.gathering.wanted fed fault) }
+            → HasTaken limit self.old.reader self.old.pending.items fed
+            → CaptureFault limit self.old.reader.gathering.wanted fed fault) }
         ensures memory { IfErr result (λ fault. fault ≢ Fault.Memory) }
     {
-        if !self.reader.has_started() {
-            return Err(Fault::NotCapture);
-        }
-        if !self.pending.is_empty() {
-            return Err(Fault::CutShort {
-                at: self.reader.at(),
-            });
-        }
-        Ok(self.reader.into_gathered())
-    }
-
-    /// The offset of a block that is not whole, if the octets end within one.
-    pub fn cut(&self) -> Result<Option<u64>, Fault>
-        ensures ok { IfOk result (λ cut. (limit : Extent) (fed : List ℕ)
-            → HasTaken limit self.now.reader self.now.pending.items fed
-            → IsReadToCut limit fed self.now.reader.gathering cut) }
-        ensures err { IfErr result (λ fault. fault ≡ Fault.NotCapture) }
-        ensures fault { IfErr result (λ fault. (limit : Extent) (fed : List ℕ)
-            → HasTaken limit self.now.reader self.now.pending.items fed
-            → CaptureFault limit self.now.reader.gathering.wanted fed fault) }
-    {
+        self.reader.end(sink)?;
         if !self.reader.has_started() {
             return Err(Fault::NotCapture);
         }

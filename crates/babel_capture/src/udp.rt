@@ -1,7 +1,7 @@
 ghost use Rattle.std.specs.Prelude.{◌≡◌, ◌≤◌, length};
 ghost use Rattle.babel_capture.specs.Sight.{sight_of};
 ghost use Rattle.babel_capture.specs.Udp.{babel_sight, is_babel, is_of_routers, len_sight};
-ghost use Rattle.babel_capture.specs.Udp.{may_send, udp_sight, unkept_sight};
+ghost use Rattle.babel_capture.specs.Udp.{may_send, missing_sight, udp_sight, unkept_sight};
 
 use crate::ends::Ends;
 use crate::field::number16;
@@ -17,9 +17,9 @@ const BABEL_PORT: u16 = 6696;
 /// The number of UDP in the headers of IP: RFC 768.
 pub(crate) const UDP: u8 = 17;
 /// The octets of UDP's header, of its two ports, and up to the end of its length: RFC 768.
-const HEADER_LEN: usize = 8;
+pub(crate) const HEADER_LEN: usize = 8;
 
-const PORTS_LEN: usize = 4;
+pub(crate) const PORTS_LEN: usize = 4;
 
 const LEN_END: usize = 6;
 
@@ -29,17 +29,11 @@ const LINK_LOCAL: u128 = 0x3fa;
 
 const LINK_LOCAL_REST: u32 = 118;
 
-/// What a UDP datagram is, or the first fragment of one, between these addresses: RFC 768.
-/// `is_cut` says whether IP says more octets than its frame had.
+/// What a UDP datagram is between these addresses: RFC 768. `is_cut` says whether IP says more
+/// octets than its frame had.
 #[tactic(auto, unfolding(crate::specs::Udp::udp_sight))]
-pub(crate) fn look_into_udp<'a>(
-    place: Place,
-    ends: &Ends,
-    is_fragment: bool,
-    is_cut: bool,
-    part: Part<'a>,
-) -> Seen<'a>
-    ensures { sight_of result ≡ udp_sight place ends.now is_fragment is_cut
+pub(crate) fn look_into_udp<'a>(place: Place, ends: &Ends, is_cut: bool, part: Part<'a>) -> Seen<'a>
+    ensures { sight_of result ≡ udp_sight place ends.now is_cut
         part.entry.octets.now part.entry.whole }
 {
     let octets = part.octets;
@@ -50,22 +44,16 @@ pub(crate) fn look_into_udp<'a>(
         return Seen::Short;
     }
     if is_babel(octets) {
-        look_at_babel(place, ends, is_fragment, is_cut, part)
+        look_at_babel(place, ends, is_cut, part)
     } else {
         Seen::Other
     }
 }
 
 /// What a datagram from or to the port of Babel is.
-fn look_at_babel<'a>(
-    place: Place,
-    ends: &Ends,
-    is_fragment: bool,
-    is_cut: bool,
-    part: Part<'a>,
-) -> Seen<'a>
+fn look_at_babel<'a>(place: Place, ends: &Ends, is_cut: bool, part: Part<'a>) -> Seen<'a>
     requires { 4 ≤ length part.octets.now }
-    ensures { sight_of result ≡ babel_sight place ends.now is_fragment is_cut
+    ensures { sight_of result ≡ babel_sight place ends.now is_cut
         part.entry.octets.now part.entry.whole }
 {
     if !is_of_routers(part.octets) {
@@ -82,13 +70,28 @@ fn look_at_babel<'a>(
             flaw: Flaw::NotLinkLocal,
         };
     }
-    if is_fragment {
-        return lacking(place, ends, Lack::Fragment);
-    }
     if is_cut {
         return lacking(place, ends, Lack::CutShort);
     }
     look_by_length(place, ends, part)
+}
+
+/// What a datagram from or to the port of Babel is of which fragments are missing.
+pub(crate) fn look_at_lost(place: Place, ends: &Ends, is_of_routers: bool) -> Seen<'static>
+    ensures { sight_of result ≡ missing_sight place ends.now is_of_routers }
+{
+    let flaw = if !is_of_routers {
+        Flaw::OtherPort
+    } else if !may_send(ends.sender) {
+        Flaw::NotLinkLocal
+    } else {
+        Flaw::Lacking(Lack::Fragment)
+    };
+    Seen::Flawed {
+        place,
+        ends: *ends,
+        flaw,
+    }
 }
 
 /// What a datagram that routers read is, by its length.
@@ -142,7 +145,7 @@ pub(crate) fn look_at_none(whole: usize) -> Seen<'static>
 }
 
 /// Whether the source port or the destination port is Babel's.
-fn is_babel(octets: &[u8]) -> bool
+pub(crate) fn is_babel(octets: &[u8]) -> bool
     requires { 4 ≤ length octets.now }
     ensures { result ≡ is_babel octets.now }
 {
@@ -150,7 +153,7 @@ fn is_babel(octets: &[u8]) -> bool
 }
 
 /// Whether both ports are Babel's, as those of routers are.
-fn is_of_routers(octets: &[u8]) -> bool
+pub(crate) fn is_of_routers(octets: &[u8]) -> bool
     requires { 4 ≤ length octets.now }
     ensures { result ≡ is_of_routers octets.now }
 {

@@ -2,7 +2,6 @@ ghost use Rattle.std.specs.Prelude.{◌≡◌, ◌↔◌, IsTrue};
 ghost use Rattle.babel_capture.specs.Findings.{IsWanted, everyone};
 
 use crate::place::Place;
-use crate::seen::Seen;
 use babel_prefix::Addr;
 
 /// Whose datagrams are wanted: those of each sender, or of one where it is named, at each place or
@@ -40,13 +39,5 @@ impl Wanted {
                 Some(place) => at == place,
                 None => true,
             }
-    }
-
-    /// Whether this is a datagram of the sender that is named, at whichever place.
-    pub fn names(&self, seen: &Seen<'_>) -> bool {
-        match seen {
-            Seen::Datagram { ends, .. } => self.sender == Some(ends.sender),
-            _ => false,
-        }
     }
 }

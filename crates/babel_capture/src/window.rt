@@ -54,16 +54,17 @@ pub(crate) fn is_empty(since: &Option<Moment>, until: &Option<Moment>, first: &T
     }
 }
 
-/// Whether a packet that came then is read, of a capture whose first one came at `first`.
-pub fn is_between(since: Option<Moment>, until: Option<Moment>, first: Time, time: Time) -> bool
+/// Whether what came then, in nanoseconds since the start of 1970, is read, of a capture whose
+/// first packet came at `first`.
+pub fn is_between(since: Option<Moment>, until: Option<Moment>, first: Time, time: u128) -> bool
     ensures { result ≡ is_between since until first time }
 {
     let is_since = match since {
-        Some(moment) => moment.from(first) <= time.nanoseconds(),
+        Some(moment) => moment.from(first) <= time,
         None => true,
     };
     let is_until = match until {
-        Some(moment) => time.nanoseconds() <= moment.from(first),
+        Some(moment) => time <= moment.from(first),
         None => true,
     };
     is_since && is_until

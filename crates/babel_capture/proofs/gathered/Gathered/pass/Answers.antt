@@ -1,13 +1,13 @@
-use Rattle.std.proofs.Common.{◌≡◌, ℕ, ◌+◌, ◌∷◌, [], refl, ap, sym, subst, ◌∙◌}
+use Rattle.std.proofs.Common.{◌≡◌, ℕ, ◌+◌, ◌∷◌, [], refl, ap, subst, ◌∙◌}
 use Rattle.std.specs.Prelude.{None, Option}
 use Rattle.babel_capture.specs.declared.sink.Record.{Record}
 use Rattle.babel_capture.specs.declared.sink.Said.TheVariants as saids
-use Rattle.babel_capture.specs.Blocks.{came_with, sighting_of}
 use Rattle.babel_capture.specs.Contents.{captured_of}
 use Rattle.babel_capture.specs.Counting.{counted, counted_at}
-use Rattle.babel_capture.specs.Findings.{Finds, passed}
+use Rattle.babel_capture.specs.Findings.{passed}
 use Rattle.babel_capture.specs.Gathering.{Gathering}
-use Rattle.babel_capture.specs.Sight.{Sight}
+use Rattle.babel_capture.specs.Passage.{sighting_as}
+use Rattle.babel_capture.specs.Sight.{other}
 use Rattle.babel_capture.specs.Sinking.{GatherMore, IsTold, Sinks}
 use Rattle.babel_capture.specs.Times.{Came, kept, time_of}
 use Rattle.babel_capture.specs.contracts.gathered.Gathered.{the_view}
@@ -27,7 +27,7 @@ returns-clause-passed g c at =
       outside = c.self.inside.outside;
     }) in
     let packet = captured_of c.args.packet.now in
-    let next = sighting_of (old.report.packets + 1) at packet in
+    let next = sighting_as (old.report.packets + 1) at packet other in
     let time = c.time-time.result in
     let telling : Record = record { number = c.packets.result; time = time; said = saids.Nothing } in
     let told : IsTold (made_of next passed) telling = record {
@@ -37,10 +37,8 @@ returns-clause-passed g c at =
       missed = refl;
       left = refl;
     } in
-    let is_other = sym c.requires.other in
-    let came : kept time None ≡ next.came = ap (λ (t : Option ℕ). kept t None) c.time-time.ensures ∙ ap (came_with packet) is_other in
+    let came : kept time None ≡ next.came = ap (λ (t : Option ℕ). kept t None) c.time-time.ensures in
     let report = c.count_other.ensures ∙ ap (λ (k : Came). counted (counted_at old.report k) packet.link passed) came in
-    let finds : Finds old.wanted next.what passed = subst (λ (s : Sight). Finds old.wanted s passed) is_other refl in
-    subst (λ (v : Gathering). Sinks g.S.Sink.has c.args.sink.now c.take.new.self (GatherMore v new (sighting_of (v.report.packets + 1) at packet ∷ []))) c.self.view_is
+    subst (λ (v : Gathering). Sinks g.S.Sink.has c.args.sink.now c.take.new.self (GatherMore v new (sighting_as (v.report.packets + 1) at packet other ∷ []))) c.self.view_is
     (sinks-told g.S.Sink.has c.args.sink.now c.take.new.self (GatherMore old new (next ∷ [])) telling (made_of next passed) told c.take.ensures
-    (gathered-push next old new passed refl report (passed-listed old.wanted.are_listed old.senders (time_of next.came)) (λ few. few) tt refl finds))
+    (gathered-push next old new passed refl report (passed-listed old.wanted.are_listed old.senders (time_of next.came)) (λ few. few) tt refl refl refl))

@@ -2,7 +2,7 @@ use Rattle.std.proofs.Common.{[], inr, refl, ◌∙◌, take, rules}
 use Rattle.std.proofs.lemmas.Result.{err_from_is_err_and}
 use Rattle.babel_capture.specs.Blocks.{BeginsBlock}
 use Rattle.babel_capture.specs.Sinking.{LeadMore}
-use Rattle.babel_capture.proofs.ReadingLaws.{rest_of, used-within, lead-both, lead-none-more, sinks-led, some_of, taken-more, header-stops, block-needs, block-stops, else-by}
+use Rattle.babel_capture.proofs.ReadingLaws.{rest_of, used-within, lead-both, lead-none-more, sinks-block, sinks-led, some_of, taken-more, header-stops, block-needs, block-stops, else-by}
 use Rattle.babel_capture.proofs.SinkLaws.{any-err, sinks-both, sinks-none}
 use Rattle.babel_capture.proofs.MemoryLaws.{header-other}
 use Rattle.babel_capture.proofs.reader.Reader.take_blocks.Goals as goal
@@ -44,8 +44,9 @@ returns-in_err-block-clause-stopped g c =
 pub returns-in_err-take_block-clause-stopped : goal.returns-in_err-take_block-clause-stopped
 returns-in_err-take_block-clause-stopped g c =
     any-err c.from_residual-in_err-take_block.result
-    (rw c.in_err-take_block.ensures.stopped
-    (sinks-led g.S.Sink.has c.args.sink.now c.loop-block.sink _ c.loop-block.self _ c.loop-block.used c.loop-block.invariant.wanted c.loop-block.invariant.took))
+    (sinks-block g.S.Sink.has c.args.sink.now c.loop-block.sink _ _ c.loop-block.self c.args.octets.now c.in-Some.block.now c.loop-block.used c.loop-block.invariant.wanted
+    (some_of c.in_ok-block.field-0 _ (λ block. BeginsBlock c.loop-block.self.context c.loop-block.self.at (rest_of c.loop-block.used c.args.octets.now) block.now) c.in-Some.is
+    c.in_ok-block.ensures.whole) c.loop-block.invariant.took c.in_err-take_block.ensures.stopped)
 
 pub loop-block-init : goal.loop-block-init
 loop-block-init g c = record {

@@ -1,0 +1,213 @@
+-- Datagrams that are put together of their fragments: RFC 791, 3.2; RFC 8200, 4.5; RFC 5722, 4. For
+-- how long a datagram is known after it is whole, and how much is kept, is this project's own.
+use Rattle.std.specs.Prelude.{ℕ, ◌-◌, Bool, not, true, false, ◌==◌, ◌&&◌, ◌||◌, nat_lt, is_some}
+use Rattle.std.specs.Prelude.{if◌then◌else◌, List, [], ◌∷◌, drop, length, max, sum_by, Option}
+use Rattle.std.specs.Prelude.{None, Some}
+use Rattle.std.specs.declared.cmp.Ordering.{Ordering}
+use Rattle.std.specs.BTreeMap.{insert_entry, is_at}
+use Rattle.std.specs.List.{find}
+use Rattle.std.specs.Map.{remove_entry, set_value, values_of}
+use Rattle.std.specs.Option.{option_map, option_or, unwrap_or}
+use Rattle.std.specs.Ordering.{nat_cmp, on, then_cmp}
+use Rattle.babel_prefix.specs.Order.{address_cmp}
+use Rattle.babel_capture.specs.declared.datagram.Datagram.{Datagram}
+use Rattle.babel_capture.specs.declared.datagram.Standing.{Standing}
+use Rattle.babel_capture.specs.declared.datagram.Standing.TheVariants as standings
+use Rattle.babel_capture.specs.declared.datagram.Step.{Step}
+use Rattle.babel_capture.specs.declared.datagram.Step.TheVariants as steps
+use Rattle.babel_capture.specs.declared.ends.Ends.{Ends}
+use Rattle.babel_capture.specs.declared.fragment.DatagramId.{DatagramId}
+use Rattle.babel_capture.specs.declared.fragment.UdpPlace.{UdpPlace}
+use Rattle.babel_capture.specs.declared.pieces.Meeting.{Meeting}
+use Rattle.babel_capture.specs.declared.pieces.Meeting.TheVariants as meetings
+use Rattle.babel_capture.specs.Pieces.{Fragment, KeptPieces, furthest, is_whole, joined, len_of}
+use Rattle.babel_capture.specs.Pieces.{meeting, piece_of}
+use Rattle.babel_capture.specs.Sight as sights
+use Rattle.babel_capture.specs.Sight.{Sight}
+use Rattle.babel_capture.specs.Tallies.{origin_cmp}
+use Rattle.babel_capture.specs.Udp.{missing_sight, udp_sight}
+
+-- ---- which datagram
+
+-- by sender and place, by destination and by identification; each of IPv4 is of UDP
+abbrev pub id_cmp : DatagramId → DatagramId → Ordering
+id_cmp =
+    then_cmp (on (λ i. i.origin) origin_cmp)
+    (then_cmp (on (λ i. i.destination) address_cmp) (on (λ i. i.identification) nat_cmp))
+
+-- the first fragment of a datagram that neither comes from the port of Babel nor goes to it
+abbrev pub is_of_another : Fragment → Bool
+is_of_another fragment = fragment.offset == 0 && not (is_some fragment.udp)
+
+-- ---- one datagram
+
+-- one fragment of it came then, in the block at this offset, and the 60 seconds after it end within
+-- the window or not
+abbrev pub begun : (at came : ℕ) → (ends_within : Bool) → Fragment → Datagram
+begun at came ends_within fragment = record {
+  id = fragment.id;
+  at = at;
+  came = came;
+  ends_within = ends_within;
+  is_to_group = fragment.is_to_group;
+  udp = fragment.udp;
+  standing = standings.Open;
+  pieces = (fragment.offset, piece_of fragment) ∷ [];
+}
+
+-- with one more
+abbrev pub with_fragment : Datagram → Fragment → Datagram
+with_fragment datagram fragment =
+    let pieces : KeptPieces =
+    insert_entry nat_cmp datagram.pieces fragment.offset (piece_of fragment) in
+    record datagram {
+      udp = option_or fragment.udp datagram.udp;
+      standing = if is_whole pieces then standings.Whole else standings.Open;
+      pieces = pieces;
+    }
+
+-- What a fragment is to a datagram of which some are missing: RFC 5722, 4, has one that overlaps
+-- drop it. The first one of a datagram that is not Babel's begins another.
+abbrev pub step_to_open : Datagram → Fragment → Meeting → Step
+step_to_open datagram fragment meetings.Repeats = steps.Ignored
+step_to_open datagram fragment meetings.Overlaps =
+    if is_of_another fragment then steps.Anew else steps.Overlaps
+step_to_open datagram fragment meetings.Apart =
+    if is_of_another fragment then steps.Anew
+    else if is_whole (with_fragment datagram fragment).pieces then steps.Completes
+    else steps.Added
+
+-- and to one that is whole: it repeats one, or begins another
+abbrev pub step_to_whole : Meeting → Step
+step_to_whole meetings.Repeats = steps.Ignored
+step_to_whole other = steps.Anew
+
+-- and to one that was dropped: it is dropped with it
+abbrev pub step_by : Datagram → Fragment → Standing → Step
+step_by datagram fragment standings.Open =
+    step_to_open datagram fragment (meeting datagram.pieces fragment)
+step_by datagram fragment standings.Whole = step_to_whole (meeting datagram.pieces fragment)
+step_by datagram fragment standings.Dropped = steps.Ignored
+
+abbrev pub step_in : Datagram → Fragment → Step
+step_in datagram fragment = step_by datagram fragment datagram.standing
+
+-- the datagram after that
+abbrev pub stepped : Datagram → Fragment → Step → Datagram
+stepped datagram fragment steps.Added = with_fragment datagram fragment
+stepped datagram fragment steps.Completes = with_fragment datagram fragment
+stepped datagram fragment steps.Overlaps = record datagram { standing = standings.Dropped }
+stepped datagram fragment steps.Ignored = datagram
+stepped datagram fragment steps.Anew = datagram
+
+-- between which addresses it is sent
+abbrev pub ends_of : DatagramId → Ends
+ends_of id = record { sender = id.origin.sender; destination = id.destination }
+
+-- What it is where fragments of it are missing: as its first one tells or, without that, as its
+-- group does.
+abbrev pub lost_by : Datagram → Option UdpPlace → Sight
+lost_by datagram (Some udp) =
+    missing_sight datagram.id.origin.place (ends_of datagram.id) udp.is_of_routers
+lost_by datagram None =
+    if datagram.is_to_group
+    then missing_sight datagram.id.origin.place (ends_of datagram.id) true
+    else sights.other
+
+abbrev pub lost_sight : Datagram → Sight
+lost_sight datagram = lost_by datagram datagram.udp
+
+-- and where it is whole: UDP in the octets of its fragments, as one that was sent so
+abbrev pub whole_by : Datagram → Option UdpPlace → Sight
+whole_by datagram (Some udp) =
+    udp_sight datagram.id.origin.place (ends_of datagram.id) false
+    (drop udp.at (joined (values_of datagram.pieces))) (furthest datagram.pieces - udp.at)
+whole_by datagram None = sights.other
+
+abbrev pub whole_sight : Datagram → Sight
+whole_sight datagram = whole_by datagram datagram.udp
+
+-- ---- all that are known
+
+-- each by the number of the packet that the first of its fragments to come came in, so that the
+-- oldest stands first
+abbrev pub Known : Type 0
+Known = List (ℕ × Datagram)
+
+abbrev pub of_id : DatagramId → Known → Option (ℕ × Datagram)
+of_id id known = find (λ one. is_at (id_cmp id) one.1.id) known
+
+abbrev pub octets_in : Known → ℕ
+octets_in known = sum_by (λ datagram. len_of datagram.pieces) (values_of known)
+
+-- what a fragment is to them
+abbrev pub step_with : Fragment → Option (ℕ × Datagram) → Step
+step_with fragment None = steps.Anew
+step_with fragment (Some one) = step_in one.1 fragment
+
+abbrev pub step_of : Known → Fragment → Step
+step_of known fragment = step_with fragment (of_id fragment.id known)
+
+-- they are so after that, but for a datagram that it begins anew
+abbrev pub changed_with : Known → Fragment → Option (ℕ × Datagram) → Known
+changed_with known fragment None = known
+changed_with known fragment (Some one) =
+    set_value (is_at (nat_cmp one.0)) known (stepped one.1 fragment (step_in one.1 fragment))
+
+abbrev pub changed : Known → Fragment → Known
+changed known fragment = changed_with known fragment (of_id fragment.id known)
+
+-- so that the one of its identification is then this
+abbrev pub of_id_after : Known → Fragment → Option (ℕ × Datagram)
+of_id_after known fragment =
+    option_map (λ one. (one.0, stepped one.1 fragment (step_in one.1 fragment)))
+    (of_id fragment.id known)
+
+-- without the one of this identification
+abbrev pub forgotten_with : Known → Option (ℕ × Datagram) → Known
+forgotten_with known None = known
+forgotten_with known (Some one) = remove_entry (is_at (nat_cmp one.0)) known
+
+abbrev pub forgotten : DatagramId → Known → Known
+forgotten id known = forgotten_with known (of_id id known)
+
+-- A datagram begins anew with a fragment, in place of one of the same identification. One that is
+-- not Babel's is dropped at once.
+abbrev pub begun_in : Known → (number at came : ℕ) → (ends_within : Bool) → Fragment → Known
+begun_in known number at came ends_within fragment =
+    if is_of_another fragment then known
+    else insert_entry nat_cmp known number (begun at came ends_within fragment)
+
+abbrev pub known_by : Step → Known → (number at came : ℕ) → (ends_within : Bool) → Fragment
+    → Known
+known_by steps.Anew known number at came ends_within fragment =
+    begun_in (forgotten fragment.id known) number at came ends_within fragment
+known_by other known number at came ends_within fragment = changed known fragment
+
+abbrev pub known_with : Known → (number at came : ℕ) → (ends_within : Bool) → Fragment → Known
+known_with known number at came ends_within fragment =
+    known_by (step_of known fragment) known number at came ends_within fragment
+
+-- ---- what is given up
+
+-- the latest time that was read, 0 before any; the number of the last packet that had a fragment;
+-- and the datagrams that are known
+pub record Reassembly : Type 0 where
+  pub clock : ℕ
+  pub last : ℕ
+  pub known : Known
+
+-- RFC 8200, 4.5: more than 60 seconds passed after its first fragment to come
+abbrev pub is_old : (clock : ℕ) → Datagram → Bool
+is_old clock datagram = nat_lt 60000000000 (clock - datagram.came)
+
+-- the oldest one is given up: it is old, or they are more than 65,536, or of more than 16 MiB
+abbrev pub is_past : (clock : ℕ) → Known → Bool
+is_past clock [] = false
+is_past clock (oldest ∷ known) =
+    is_old clock oldest.1
+    || (nat_lt 65536 (length (oldest ∷ known)) || nat_lt 16777216 (octets_in (oldest ∷ known)))
+
+-- a record that came then moves the clock, if it has a time
+abbrev pub clock_at : (clock : ℕ) → Option ℕ → ℕ
+clock_at clock time = max clock (unwrap_or time 0)

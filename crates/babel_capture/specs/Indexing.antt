@@ -1,0 +1,28 @@
+-- How the datagrams that are known are found, inside: this project's own.
+use Rattle.std.specs.Prelude.{◌≡◌, ◌≤◌, ◌↔◌, ℕ, List, Some}
+use Rattle.std.specs.BTreeMap.{is_at}
+use Rattle.std.specs.List.{All}
+use Rattle.std.specs.List.Sorted.{IsStrictlySortedBy}
+use Rattle.std.specs.Map.{keys_of, lookup}
+use Rattle.std.specs.Ordering.{nat_cmp}
+use Rattle.babel_capture.specs.declared.datagram.Datagram.{Datagram}
+use Rattle.babel_capture.specs.declared.fragment.DatagramId.{DatagramId}
+use Rattle.babel_capture.specs.Fragments.{Known, id_cmp, octets_in}
+
+-- the datagram with this number has this identification
+pub record Holds (known : Known) (id : DatagramId) (number : ℕ) : Type 0 where
+  pub datagram : Datagram
+  pub found : lookup (is_at (nat_cmp number)) known ≡ Some datagram
+  pub own : datagram.id ≡ id
+
+-- each is found by its identification, and what is kept of their octets is so
+pub record IsIndexed (numbers : List (DatagramId × ℕ)) (known : Known) (octets : ℕ) : Type 0 where
+  pub rising : IsStrictlySortedBy nat_cmp (keys_of known)
+  pub ids : IsStrictlySortedBy id_cmp (keys_of numbers)
+  pub held : (id : DatagramId) (number : ℕ)
+      → (lookup (is_at (id_cmp id)) numbers ≡ Some number) ↔ Holds known id number
+  pub octets_are : octets ≡ octets_in known
+
+-- none of them has a number after this one
+abbrev pub AreUpTo : ℕ → Known → Type 0
+AreUpTo last known = All (λ number. number ≤ last) (keys_of known)
