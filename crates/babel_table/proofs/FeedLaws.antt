@@ -254,6 +254,13 @@ stops-within bytes b mode entries e start s at pending octets old fault is_b is_
     subst (λ (x : Start). StopsWithin bytes mode entries x at pending octets old fault) is_s
     (subst (λ (n : ℕ). StopsWithin bytes mode n s at pending octets old fault) is_e (subst (λ (n : ℕ). StopsWithin n mode e s at pending octets old fault) is_b stops))
 
+abbrev begun : Address → Bool → Start
+begun sender via_v6 = record { sender = sender; via_v6 = via_v6 }
+
+-- packets begin with what the limits and the sender give
+pub started : (start : Start) (limits : Bounds) → start.via_v6 ≡ limits.via_v6 → start ≡ start_of limits start.sender
+started start limits is = ap (begun start.sender) is
+
 -- a feeder that was fed nothing
 pub taken-none : (limits : Bounds) (mode : Mode) (sender : Address) (rows : List (RouteKey × Held)) (report : Counts) (pending : List ℕ)
     (runs : Bool) (factor time : ℕ) (words : TimedRows) → rows ≡ [] → report ≡ counts_of [] → pending ≡ []

@@ -3,7 +3,6 @@ use Rattle.std.proofs.Common.{◌≡◌, ℕ, ◌+◌, Bool, true, false, cond, 
 use Rattle.std.specs.List.{flat_map}
 use Rattle.std.proofs.lemmas.List.{append-nil, drop_at, length-append, map-append}
 use Rattle.std.proofs.lemmas.List.Concat.{flat_map-append}
-use Rattle.babel_prefix.specs.Address.{Address}
 use Rattle.babel_tlv.specs.declared.event.Event.{Event}
 use Rattle.babel_tlv.specs.declared.event.Event.TheVariants as events
 use Rattle.babel_tlv.specs.declared.fault.Fault.{Fault}
@@ -15,10 +14,7 @@ use Rattle.babel_tlv.specs.FrameFaults.{BeginsPacket, AreTlvs}
 use Rattle.babel_tlv.specs.Framing.{TlvAt, ArePackets, IsBody, framed, tlv_octets, packet_octets, tlvs_of}
 use Rattle.babel_tlv.specs.Says.{ignored_for, refuses, said, tells, unless_ignored}
 use Rattle.babel_tlv.proofs.TellsLaws.{ignored_tells_nothing}
-use Rattle.std.specs.Prelude.{IfOk}
 use Rattle.babel_tlv.specs.declared.mode.Mode.{Mode}
-use Rattle.babel_table.specs.Bounds.{Bounds}
-use Rattle.babel_table.specs.Feeding.{HasHeard, HasRead, Progress}
 use Rattle.babel_table.specs.Moments.{AreHeard, Heard, Told, Stamp, dump_of, octets_heard, told_at, told_from, told_in, told_of}
 use Rattle.babel_table.specs.Words.{HearsPackets, TimedRows, after_all, after_event, after_told, told_then}
 use Rattle.babel_table.proofs.DumpLaws.{placed-append}
@@ -181,23 +177,3 @@ module _ (mode : Mode) (factor : ℕ) where
         hears.words ∙ ap (after_all mode factor (told_in start time hears.packets)) before ∙ sym (after-append (told_of start all) (told_in start time hears.packets) [])
         ∙ ap (λ (t : List Told). after_all mode factor t [])
         (sym (flat_map-append (λ (h : Heard). told_in start h.time h.packets) all (one ∷ []) ∙ ap (λ (t : List Told). told_of start all ++ t) (append-nil (told_in start time hears.packets))))
-
--- ---- a feeder
-
-pub heard-new : (r : Result Progress Fault) (limits : Bounds) (sender : Address) (mode : Mode) (runs : Bool) (factor : ℕ) (words : TimedRows)
-    → IfOk r (λ feeder. HasRead feeder [] × (feeder.limits ≡ limits) × (feeder.mode ≡ mode) × (feeder.sender ≡ sender) × (feeder.fault ≡ None))
-    → IfOk r (λ feeder. (feeder.runs ≡ runs) × (feeder.factor ≡ factor) × (feeder.words ≡ words) × (feeder.at ≡ 0) × (feeder.pending ≡ [])) → runs ≡ true → words ≡ []
-    → IfOk r (λ feeder. HasHeard feeder [] × (feeder.limits ≡ limits) × (feeder.mode ≡ mode) × (feeder.sender ≡ sender) × (feeder.factor ≡ factor) × (feeder.fault ≡ None))
-heard-new (Err fault) limits sender mode runs factor words made began on none = tt
-heard-new (Ok p) limits sender mode runs factor words made began on none = (
-  record {
-    runs = began.0 ∙ on;
-    read = made.0;
-    told = λ no_fault. record { none = began.4; all = []; heard = record { octets = refl; placed = tt }; words = began.2 ∙ none };
-  },
-  made.1,
-  made.2,
-  made.3,
-  began.1,
-  made.4,
-)

@@ -1,6 +1,6 @@
 -- A feeder that keeps times: what it has heard, and its table at a moment.
-use Rattle.std.proofs.Common.{◌≡◌, ℕ, true, List, [], ◌∷◌, ◌++◌, length, Option, Some, None, Result, Ok, Err, sym, ap, subst, ◌∙◌, arith, length-append}
-use Rattle.std.specs.Prelude.{◌≢◌, IfErr, IfOk, OnOk}
+use Rattle.std.proofs.Common.{◌≡◌, ℕ, true, List, [], ◌∷◌, ◌++◌, length, Option, Some, None, Result, Ok, Err, refl, sym, ap, subst, ◌∙◌, arith, length-append}
+use Rattle.std.specs.Prelude.{◌≢◌, IfOk}
 use Rattle.std.specs.List.{flat_map}
 use Rattle.babel_prefix.specs.Address.{Address}
 use Rattle.babel_tlv.specs.declared.fault.Fault.{Fault}
@@ -9,12 +9,12 @@ use Rattle.babel_tlv.specs.declared.mode.Mode.{Mode}
 use Rattle.babel_tlv.specs.declared.start.Start.{Start}
 use Rattle.babel_tlv.specs.Framing.{packet_octets}
 use Rattle.babel_table.specs.Bounds.{Bounds, start_of}
-use Rattle.babel_table.specs.DumpFault.{DumpFault, HasNoFault, IsTruncated}
-use Rattle.babel_table.specs.Feeding.{HasHeard, HasRead, HasReadTo, Progress}
+use Rattle.babel_table.specs.DumpFault.{DumpFault, HasNoFault}
+use Rattle.babel_table.specs.Feeding.{HasFailed, HasHeard, HasRead, HasReadTo, HasTaken, NeedsMemory, Progress}
 use Rattle.babel_table.specs.Moments.{AreRowsAt, Heard, IsTableAt, dump_of, told_of}
 use Rattle.babel_table.specs.Rows.{Routes}
 use Rattle.babel_table.specs.Words.{HearsPackets, after_all, rows_at}
-use Rattle.babel_table.proofs.FeedLaws.{no_fault, read-taken, table_of}
+use Rattle.babel_table.proofs.FeedLaws.{at-settings, cut_off, failed-fault, failed-memory, no_fault, read-failed, read-taken, table_of, taken-read}
 use Rattle.babel_table.proofs.HeardLaws.{are_heard, dump_of-push, heard_then, words_then}
 use Rattle.babel_table.proofs.MomentLaws.{rows-held}
 
@@ -39,6 +39,14 @@ heard-timed p time given heard = record {
   runs = heard.runs;
   read = read-timed p time p.fault (dump_of given) heard.read;
   told = λ none. let was = heard.told none in record { none = was.none; all = was.all; heard = was.heard; words = was.words };
+}
+
+-- one that was fed nothing has heard nothing
+pub heard-none : (p : Progress) → p.fault ≡ None → p.pending ≡ [] → p.runs ≡ true → p.words ≡ [] → HasTaken p [] → HasHeard p []
+heard-none p none empty runs wordless taken = record {
+  runs = runs;
+  read = taken-read p [] none taken;
+  told = λ no_fault. record { none = empty; all = []; heard = record { octets = refl; placed = tt }; words = wordless };
 }
 
 -- ---- packets more
@@ -87,46 +95,48 @@ module _ (p q : Progress) (same_limits : q.limits ≡ p.limits) (same_mode : q.m
 -- ---- as the code feeds them
 
 -- the time is set, and then packets are fed
-module _ (old p q : Progress) (time : ℕ) (set : p ≡ timed old time) (given : List (ℕ × List ℕ)) (heard : HasHeard old given) (octets : List ℕ) where
+module _ (old p q : Progress) (time : ℕ) (set : p ≡ timed old time) (given : List (ℕ × List ℕ)) (heard : HasHeard old given) (octets : List ℕ)
+    (same_limits : q.limits ≡ p.limits) (same_mode : q.mode ≡ p.mode) (same_sender : q.sender ≡ p.sender) where
   heard-set : HasHeard p given
   heard-set = subst (λ (x : Progress). HasHeard x given) (sym set) (heard-timed old time given heard)
 
   at-time : HasHeard q (given ++ (p.time, octets) ∷ []) → HasHeard q (given ++ (time, octets) ∷ [])
   at-time here = subst (λ (t : ℕ). HasHeard q (given ++ (t, octets) ∷ [])) (ap (λ (x : Progress). x.time) set) here
 
-  module _ (same_limits : q.limits ≡ p.limits) (same_mode : q.mode ≡ p.mode) (same_sender : q.sender ≡ p.sender) (same_runs : q.runs ≡ p.runs)
-      (same_factor : q.factor ≡ p.factor) (read : (fed : List ℕ) → HasRead p fed → HasRead q (fed ++ octets)) where
-    pub fed-failed : (fault : Fault) → q.fault ≡ Some fault → HasHeard q (given ++ (time, octets) ∷ [])
-    fed-failed fault failed = at-time (heard-failed p q same_limits same_mode same_sender same_runs same_factor octets read given heard-set fault failed)
+  -- what holds of the settings held before
+  at-first : (P : Bounds → Mode → Address → Type 0) → P q.limits q.mode q.sender → P old.limits old.mode old.sender
+  at-first =
+      at-settings old.limits q.limits old.mode q.mode old.sender q.sender (same_limits ∙ ap (λ (x : Progress). x.limits) set) (same_mode ∙ ap (λ (x : Progress). x.mode) set)
+      (same_sender ∙ ap (λ (x : Progress). x.sender) set)
 
-    pub fed-checked : {T : Type 0} (r : Result T Fault) → p.fault ≡ None
-        → (p.runs ≡ true → p.pending ≡ [] → HearsPackets p.mode p.factor p.time (start_of p.limits p.sender) p.at octets p.words q.words q.pending)
-        → OnOk r ((q.fault ≡ None) × (q.pending ≡ [])) → IfErr r IsTruncated → IfErr r (λ fault. ¬ IsTruncated fault) → HasHeard q (given ++ (time, octets) ∷ [])
-    fed-checked (Ok x) none hears end truncated not =
-        at-time (heard-more p q same_limits same_mode same_sender same_runs same_factor octets read given heard-set none end.1 (hears heard-set.runs (heard-set.told none).none))
-    fed-checked (Err fault) none hears end truncated not = absurd (not truncated)
+  -- it took the packets that these begin with, and these octets are left
+  module _ (none : q.fault ≡ None) (left : List ℕ) (taken : (fed : List ℕ) → HasRead p fed → HasTaken (record q { pending = left }) (fed ++ octets)) where
+    pub fed-whole : p.fault ≡ None → q.runs ≡ p.runs → q.factor ≡ p.factor → q.pending ≡ [] → left ≡ []
+        → (p.runs ≡ true → HearsPackets p.mode p.factor p.time (start_of p.limits p.sender) p.at octets p.words q.words left) → HasHeard q (given ++ (time, octets) ∷ [])
+    fed-whole was_none same_runs same_factor empty whole hears =
+        let pending : left ≡ q.pending = whole ∙ sym empty in
+        let read : (fed : List ℕ) → HasRead p fed → HasRead q (fed ++ octets) =
+        λ fed read. taken-read q (fed ++ octets) none (subst (λ (rest : List ℕ). HasTaken (record q { pending = rest }) (fed ++ octets)) pending (taken fed read)) in
+        at-time (heard-more p q same_limits same_mode same_sender same_runs same_factor octets read given heard-set was_none empty
+        (subst (λ (rest : List ℕ). HearsPackets p.mode p.factor p.time (start_of p.limits p.sender) p.at octets p.words q.words rest) pending (hears heard-set.runs)))
 
-pub read-at : (old p : Progress) (time : ℕ) → p ≡ timed old time → (fed octets more : List ℕ) (fault : Fault)
-    → (HasRead p fed → DumpFault p.limits p.mode p.sender ((fed ++ octets) ++ more) fault) → HasRead old fed → DumpFault old.limits old.mode old.sender ((fed ++ octets) ++ more) fault
-read-at old p time set fed octets more fault fails read =
-    subst (λ (x : Progress). HasRead x fed → DumpFault x.limits x.mode x.sender ((fed ++ octets) ++ more) fault) set fails (read-timed old time old.fault fed read)
+    pub fed-cut : left ≢ [] → DumpFault old.limits old.mode old.sender (dump_of given ++ octets) (faults.Truncated q.at)
+    fed-cut some = at-first (λ l m a. DumpFault l m a (dump_of given ++ octets) (faults.Truncated q.at))
+        (cut_off (record q { pending = left }) (dump_of given ++ octets) (taken (dump_of given) heard-set.read) some)
 
-pub truncated-none : {T : Type 0} (P : Fault → Type 0) (r : Result T Fault) → IfErr r IsTruncated → IfErr r (λ fault. fault ≢ faults.Memory → ¬ IsTruncated fault → P fault)
-truncated-none P (Ok x) truncated = tt
-truncated-none P (Err fault) truncated = λ not_memory not. absurd (not truncated)
+  -- or it has failed
+  module _ (fault : Fault) (failed : q.fault ≡ Some fault) (read : (fed : List ℕ) → HasRead p fed → HasRead q (fed ++ octets)) where
+    pub fed-failed : q.runs ≡ p.runs → q.factor ≡ p.factor → HasHeard q (given ++ (time, octets) ∷ [])
+    fed-failed same_runs same_factor = at-time (heard-failed p q same_limits same_mode same_sender same_runs same_factor octets read given heard-set fault failed)
 
-pub cut-at : {T : Type 0} (old p q : Progress) (time : ℕ) → p ≡ timed old time → (octets : List ℕ) → q.limits ≡ p.limits → q.mode ≡ p.mode → q.sender ≡ p.sender
-    → ((fed : List ℕ) → HasRead p fed → HasRead q (fed ++ octets)) → (r : Result T Fault)
-    → IfErr r (λ fault. fault ≢ faults.Memory → (fed : List ℕ) → HasRead q fed → DumpFault q.limits q.mode q.sender fed fault)
-    → IfErr r (λ fault. IsTruncated fault → (given : List (ℕ × List ℕ)) → HasHeard old given → DumpFault old.limits old.mode old.sender (dump_of given ++ octets) fault)
-cut-at old p q time set octets limits mode sender read (Ok x) fails = tt
-cut-at old p q time set octets limits mode sender read (Err fault) fails = λ cut given heard.
-    let was : HasRead p (dump_of given) = subst (λ (x : Progress). HasRead x (dump_of given)) (sym set) (read-timed old time old.fault (dump_of given) heard.read) in
-    let all : List ℕ = dump_of given ++ octets in
-    let now : DumpFault q.limits q.mode q.sender all fault = fails (λ memory. subst IsTruncated memory cut) all (read (dump_of given) was) in
-    subst (λ (l : Bounds). DumpFault l old.mode old.sender all fault) (limits ∙ ap (λ (x : Progress). x.limits) set)
-    (subst (λ (m : Mode). DumpFault q.limits m old.sender all fault) (mode ∙ ap (λ (x : Progress). x.mode) set)
-    (subst (λ (a : Address). DumpFault q.limits q.mode a all fault) (sender ∙ ap (λ (x : Progress). x.sender) set) now))
+    failed-so : HasFailed q fault (dump_of given ++ octets)
+    failed-so = read-failed q (dump_of given ++ octets) fault failed (read (dump_of given) heard-set.read)
+
+    pub fed-fault : fault ≢ faults.Memory → (more : List ℕ) → DumpFault old.limits old.mode old.sender ((dump_of given ++ octets) ++ more) fault
+    fed-fault not more = at-first (λ l m a. DumpFault l m a ((dump_of given ++ octets) ++ more) fault) (failed-fault q (dump_of given ++ octets) fault failed-so not more)
+
+    pub fed-memory : fault ≡ faults.Memory → NeedsMemory old.mode (start_of old.limits old.sender) (dump_of given ++ octets)
+    fed-memory is = at-first (λ l m a. NeedsMemory m (start_of l a) (dump_of given ++ octets)) (failed-memory q (dump_of given ++ octets) fault failed-so is)
 
 -- ---- the table at a moment
 

@@ -12,7 +12,6 @@ use Rattle.babel_table.specs.declared.stream.Stream.{Stream}
 use Rattle.babel_table.specs.Feeding.{Fails, StopsBehind, StopsWithin, Takes, TookPackets, TookSome}
 use Rattle.babel_table.specs.Feeding.{routes}
 use Rattle.babel_table.specs.Rows.{Routes}
-use Rattle.babel_table.specs.Words.{HearsPackets}
 
 -- ---- the table so far, which keeps its mode and how many rows there may be
 
@@ -70,13 +69,6 @@ KeepsSettings old new =
 abbrev pub TakesOctets : Stream → List ℕ → Stream → List ℕ → Type 0
 TakesOctets old octets new left =
     TakesPackets old.so_far old.start old.at octets new.so_far left new.at
-
--- where nothing is pending: its words are those after the packets that the octets begin with, which
--- come when it is, and the rest is pending
-abbrev pub HearsOctets : Stream → List ℕ → Stream → Type 0
-HearsOctets old octets new =
-    HearsPackets old.so_far.rows.mode old.so_far.rows.factor old.so_far.rows.when.time old.start
-    old.at octets old.so_far.rows.words new.so_far.rows.words new.pending
 
 -- it takes some packets of the octets, and then comes the fault
 abbrev pub StopsInOctets : Stream → List ℕ → Fault → Type 0

@@ -1,6 +1,6 @@
 ghost use Rattle.std.specs.Prelude.{◌≡◌, ◌≤◌, ◌<◌, ◌+◌, ◌^◌, ◌∷◌, [], length, drop};
 ghost use Rattle.std.specs.Prelude.{OnOk, IfOk, IfErr, List, true};
-ghost use Rattle.babel_table.specs.Feeding.{IsRefused, IsPartial, event_at};
+ghost use Rattle.babel_table.specs.Feeding.{IsPartial, IsReady, IsRefused, StopsWithin, event_at};
 ghost use Rattle.babel_tlv.specs.Pairs.{EventFits};
 ghost use Rattle.babel_tlv.specs.EventKinds.{event_of};
 ghost use Rattle.babel_tlv.specs.Says.{sayings_after};
@@ -30,7 +30,7 @@ pub struct SoFar {
 
 impl SoFar {
     ghost use Rattle.babel_table.specs.Streams.{FailsAtTlv, FailsInBody, StopsInPackets};
-    ghost use Rattle.babel_table.specs.Streams.{TakesPackets, TakesSayings, TakesTlv};
+    ghost use Rattle.babel_table.specs.Streams.{TakesPackets, TakesSayings, TakesTlv, table_of};
 
     /// Takes what a TLV says of a route.
     pub fn take(&mut self, tlv: &Tlv<'_>, kind: EventKind, route: &Route) -> Result<(), Fault>
@@ -142,5 +142,37 @@ impl SoFar {
                 Frame::Bad(fault) => return Err(fault),
             }
         }
+    }
+
+    /// The same of a dump that may have this many octets in all. Those past that aren't looked at.
+    pub fn take_within(
+        &mut self,
+        bytes: u32,
+        start: &Start,
+        octets: &[u8],
+        at: u64,
+    ) -> Result<usize, Fault>
+        requires { IsReady bytes self.old.report.tlvs at [] }
+        ensures mode { self.new.rows.mode ≡ self.old.rows.mode }
+        ensures entries { self.new.rows.entries ≡ self.old.rows.entries }
+        ensures took { IfOk result (λ used. TakesPackets
+            self.old start.now at octets.now self.new (drop used octets.now) (at + used)) }
+        ensures used { IfOk result (λ used. used ≤ length octets.now) }
+        ensures tlvs { IfOk result (λ used. self.new.report.tlvs ≤ self.old.report.tlvs + used) }
+        ensures partial { IfOk result (λ used. IsPartial (drop used octets.now)) }
+        ensures in_limit { OnOk result (at + length octets.now ≤ bytes) }
+        ensures stops { IfErr result (StopsWithin bytes self.old.rows.mode self.old.rows.entries
+            start.now at [] octets.now (table_of self.old)) }
+        ensures time { KeepsTime self.old.rows self.new.rows }
+        ensures words { self.old.rows.runs ≡ true → IfOk result (λ used. HearsPackets
+            self.old.rows.mode self.old.rows.factor self.old.rows.when.time start.now at octets.now
+            self.old.rows.words self.new.rows.words (drop used octets.now)) }
+    {
+        let room = (bytes as u64 - at) as usize;
+        if octets.len() <= room {
+            return self.take_packets(start, octets, at);
+        }
+        self.take_packets(start, &octets[..room], at)?;
+        Err(Fault::TooLong)
     }
 }

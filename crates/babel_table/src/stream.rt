@@ -1,8 +1,7 @@
 ghost use Rattle.std.specs.Prelude.{◌≡◌, ◌≢◌, ◌≤◌, ◌<◌, ◌+◌, ◌-◌, ◌^◌, ◌++◌, [], length, take};
-ghost use Rattle.std.specs.Prelude.{OnOk, IfOk, IfErr, true};
+ghost use Rattle.std.specs.Prelude.{OnOk, IfOk, IfErr};
 ghost use Rattle.babel_table.specs.Feeding.{IsPartial, IsReady};
-ghost use Rattle.babel_table.specs.Live.{KeepsTime};
-ghost use Rattle.babel_table.specs.Streams.{HearsOctets, KeepsSettings, TakesOctets};
+ghost use Rattle.babel_table.specs.Streams.{KeepsSettings, TakesOctets};
 ghost use Rattle.babel_table.specs.Streams.{StopsInLimit, StopsInOctets};
 
 use crate::pending::Pending;
@@ -33,9 +32,6 @@ impl Stream {
         ensures partial { OnOk result (IsPartial self.new.pending) }
         ensures took { OnOk result (TakesOctets self.old octets.now self.new self.new.pending) }
         ensures stops { IfErr result (StopsInOctets self.old octets.now) }
-        ensures time { KeepsTime self.old.so_far.rows self.new.so_far.rows }
-        ensures words { self.old.so_far.rows.runs ≡ true
-            → OnOk result (HearsOctets self.old octets.now self.new) }
     {
         let used = self.so_far.take_packets(&self.start, octets, self.at)?;
         self.at += used as u64;
@@ -57,7 +53,6 @@ impl Stream {
         ensures took { IfOk result (λ rest. TakesOctets
             self.old (self.old.pending ++ octets.now) self.new (self.new.pending ++ rest.now)) }
         ensures stops { IfErr result (StopsInOctets self.old (self.old.pending ++ octets.now)) }
-        ensures time { KeepsTime self.old.so_far.rows self.new.so_far.rows }
     {
         let rest = self.pending.fill(octets);
         let used = self
@@ -82,9 +77,6 @@ impl Stream {
         ensures took { OnOk result
             (TakesOctets self.old (self.old.pending ++ octets.now) self.new self.new.pending) }
         ensures stops { IfErr result (StopsInOctets self.old (self.old.pending ++ octets.now)) }
-        ensures time { KeepsTime self.old.so_far.rows self.new.so_far.rows }
-        ensures words { self.old.so_far.rows.runs ≡ true → self.old.pending ≡ []
-            → OnOk result (HearsOctets self.old octets.now self.new) }
     {
         if self.pending.octets().is_empty() {
             return self.take_in_place(octets);
@@ -105,9 +97,6 @@ impl Stream {
         ensures took { OnOk result
             (TakesOctets self.old (self.old.pending ++ octets.now) self.new self.new.pending) }
         ensures stops { IfErr result (StopsInLimit bytes self.old octets.now) }
-        ensures time { KeepsTime self.old.so_far.rows self.new.so_far.rows }
-        ensures words { self.old.so_far.rows.runs ≡ true → self.old.pending ≡ []
-            → OnOk result (HearsOctets self.old octets.now self.new) }
     {
         let room = (bytes as u64 - (self.at + self.pending.octets().len() as u64)) as usize;
         if octets.len() <= room {

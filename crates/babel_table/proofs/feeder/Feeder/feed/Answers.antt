@@ -1,22 +1,13 @@
 -- A fault stays; without one, the stream takes the octets or stops within them.
-use Rattle.std.proofs.Common.{◌≡◌, Bool, ◌≢◌, ◌++◌, ℕ, List, Some, arith, refl, sym, ap, subst, ◌∙◌}
-use Rattle.babel_prefix.specs.Address.{Address}
+use Rattle.std.proofs.Common.{◌≡◌, ◌≢◌, ◌++◌, ℕ, List, Some, arith, refl, sym, ap, subst, ◌∙◌}
 use Rattle.babel_tlv.specs.declared.fault.Fault.TheVariants as faults
 use Rattle.babel_tlv.specs.declared.start.Start.{Start}
-use Rattle.babel_table.specs.Bounds.{Bounds, start_of}
+use Rattle.babel_table.specs.Bounds.{start_of}
 use Rattle.babel_table.specs.DumpFault.{DumpFault, MayGoOn}
 use Rattle.babel_table.specs.Feeding.{Progress, HasRead, NeedsMemory, TookPackets}
 use Rattle.babel_table.specs.contracts.feeder.Feeder.{the_view}
-use Rattle.babel_table.proofs.FeedLaws.{stays-read, stays-failed, failed-fault, failed-memory, taken-next, taken-read, failed-next, stops-failed, stops-within, may_go_on-next}
-use Rattle.babel_table.specs.Words.{HearsPackets}
+use Rattle.babel_table.proofs.FeedLaws.{stays-read, stays-failed, failed-fault, failed-memory, started, taken-next, taken-read, failed-next, stops-failed, stops-within, may_go_on-next}
 use Rattle.babel_table.proofs.feeder.Feeder.feed.Goals as goal
-
-abbrev begun : Address → Bool → Start
-begun sender via_v6 = record { sender = sender; via_v6 = via_v6 }
-
--- the packets begin with what the limits and the sender give
-started : (start : Start) (limits : Bounds) → start.via_v6 ≡ limits.via_v6 → start ≡ start_of limits start.sender
-started start limits is = ap (begun start.sender) is
 
 pub returns-in-Some-clause-fed : goal.returns-in-Some-clause-fed
 returns-in-Some-clause-fed c =
@@ -92,16 +83,3 @@ returns-in-Err-clause-memory c =
     (started c.self.inside.stream.start c.self.inside.limits c.self.invariant.1) c.in-Err.ensures.stops in
     subst (λ (p : Progress). c.in-Err.fault ≡ faults.Memory → (fed : List ℕ) → HasRead p fed → NeedsMemory p.mode (start_of p.limits p.sender) (fed ++ c.args.piece.now)) c.self.view_is
     (λ memory fed read. failed-memory old (fed ++ c.args.piece.now) c.in-Err.fault (stops-failed old c.args.piece.now fed c.in-Err.fault c.in_default.is stops read) memory)
-
-pub returns-in-Ok-clause-time : goal.returns-in-Ok-clause-time
-returns-in-Ok-clause-time c = rw (← c.self.view_is) c.take_within.ensures.time
-
-pub returns-in-Err-clause-time : goal.returns-in-Err-clause-time
-returns-in-Err-clause-time c = rw (← c.self.view_is) c.take_within.ensures.time
-
-pub returns-in-Ok-clause-words : goal.returns-in-Ok-clause-words
-returns-in-Ok-clause-words c =
-    let old = the_view c.self.inside in
-    let new = the_view (record { alloc = c.self.inside.alloc; limits = c.self.inside.limits; stream = c.take_within.new.self; fault = c.self.inside.fault }) in
-    rw (← c.self.view_is) (λ runs none. subst (λ (s : Start). HearsPackets old.mode old.factor old.time s old.at c.args.piece.now old.words new.words new.pending)
-    (started c.self.inside.stream.start c.self.inside.limits c.self.invariant.1) (c.in-Ok.ensures.words runs none))

@@ -45,13 +45,3 @@ pub returns-clause-stops : goal.returns-clause-stops
 returns-clause-stops c =
     stops-last _ _ _ _ _ _ c.take_pending.ensures.settings c.take_in_place-2.result c.args.self.now.at c.take_pending.new.self.at _ c.take_pending.new.self.pending c.in_ok-rest.rest.now _ _
     c.in_ok-rest.ensures.took (sym c.octets-2.ensures ∙ is_none c.octets-2.result.now c.if-not-is_empty.ensures) c.take_in_place-2.ensures.stops
-
-pub returns-then-is_empty-clause-words : goal.returns-then-is_empty-clause-words
-returns-then-is_empty-clause-words c = λ runs none. c.take_in_place.ensures.words runs
-
--- what was pending is some packet's
-pub returns-then-not-is_empty-clause-words : goal.returns-then-not-is_empty-clause-words
-returns-then-not-is_empty-clause-words c = λ runs none. absurd (is_some c.octets.result.now c.if-is_empty.ensures (c.octets.ensures ∙ none))
-
-pub returns-clause-words : goal.returns-clause-words
-returns-clause-words c = λ runs none. absurd (is_some c.octets.result.now c.if-is_empty.ensures (c.octets.ensures ∙ none))

@@ -7,6 +7,3 @@ returns-clause-partial c = rw (c.add.ensures, c.requires.none, rest-whole c.in_o
 
 pub returns-clause-took : goal.returns-clause-took
 returns-clause-took c = rw (c.add.ensures, c.requires.none, rest-whole c.in_ok-used.used c.args.octets.now) c.in_ok-used.ensures.took
-
-pub returns-clause-words : goal.returns-clause-words
-returns-clause-words c = λ runs. rw (c.add.ensures, c.requires.none, rest-whole c.in_ok-used.used c.args.octets.now) (c.in_ok-used.ensures.words runs)

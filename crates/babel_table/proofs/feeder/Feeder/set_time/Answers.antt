@@ -1,8 +1,0 @@
--- Only the time changes.
-use Rattle.std.proofs.Common.{ap}
-use Rattle.babel_table.specs.Feeding.{Progress}
-use Rattle.babel_table.proofs.TimedLaws.{timed}
-use Rattle.babel_table.proofs.feeder.Feeder.set_time.Goals as goal
-
-pub returns : goal.returns
-returns c = rw c.set_time.ensures (ap (λ (p : Progress). timed p c.args.time) c.self.view_is)
