@@ -205,3 +205,54 @@ module _ {R : Type 0} (reasons : List R) (place : R → ℕ) (placed : (reason :
               let reason_is : first.1 ≡ reason = one_reason first.1 reason it.one it.is_for (subst (IsFor reason) (sym same) is.is_for) in
               let whole : Some (first.0, first.1) ≡ Some (at, reason) = cc in
               whole
+
+-- ---- counts that hold the lowest place
+
+-- the lowest place of one that is counted
+pub record IsLowest {A : Type 0} (place_of : A → ℕ) (Is : A → Type 0) (all : List A) (place : ℕ) : Type 0 where
+  pub one : A
+  pub listed : Contains all one
+  pub at : place_of one ≡ place
+  pub is : Is one
+  pub lowest : (other : A) → Contains all other → Is other → place ≤ place_of other
+
+module _ {A R : Type 0} (reasons : List R) (place : R → ℕ) (placed : (reason : R) → slice_get reasons (place reason) ≡ Some reason) (place_of : A → ℕ) (IsFor : R → A → Type 0) (all : List A)
+    (count_in : R → Option (ℕ × ℕ)) (lowest : (reason : R) (count : ℕ × ℕ) → count_in reason ≡ Some count → IsLowest place_of (IsFor reason) all count.1)
+    (none : (reason : R) → count_in reason ≡ None → (one : A) → Contains all one → IsFor reason one → ⊥)
+    (nothing : (reason : R) → ((one : A) → Contains all one → IsFor reason one → ⊥) → count_in reason ≡ None) where
+  abbrev counts_in : R → Option (ℕ × ℕ)
+  counts_in reason = option_flatten (slice_get (map count_in reasons) (place reason))
+
+  counts_is : (reason : R) → counts_in reason ≡ count_in reason
+  counts_is reason = ap option_flatten (slice_get-map count_in reasons (place reason) ∙ ap (option_map count_in) (placed reason))
+
+  pub none_counted : CountsNone counts_in reasons ↔ HasNone IsFor all
+  none_counted = (
+    λ counted one reason c is. none reason (sym (counts_is reason) ∙ one_of (λ r. counts_in r ≡ None) reasons reason counted (listed reasons place placed reason)) one c is,
+    λ has. each_of (λ r. counts_in r ≡ None) reasons (λ reason t. counts_is reason ∙ nothing reason (λ one c is. has one reason c is)),
+  )
+
+  pub lowest_is_first : (first : ℕ × R) → first_of counts_in reasons ≡ Some first → IsFirst place_of IsFor all first.0 first.1
+  lowest_is_first first e = by (count_in first.1) refl (ap (first_for first.1) (sym (counts_is first.1)) ∙ is_counted counts_in reasons first e)
+    where
+      behind_it : (other : A) (its : R) (count : Option (ℕ × ℕ)) → count_in its ≡ count → Contains all other → IsFor its other → IsBehind (first_for its count) (Some first) → first.0 ≤ place_of other
+      behind_it other its None is c said behind = absurd (none its is other c said)
+      behind_it other its (Some count) is c said behind = let low = (lowest its count is).lowest other c said in omega (arith, behind, low)
+
+      no_lower : (other : A) (its : R) → Contains all other → IsFor its other → first.0 ≤ place_of other
+      no_lower other its c said =
+          behind_it other its (count_in its) refl c said (subst (λ (n : Option (ℕ × ℕ)). IsBehind (first_for its n) (Some first)) (counts_is its)
+          (behind_first counts_in reasons (Some first) (subst (λ (x : Option (ℕ × R)). IsBehind x (Some first)) (sym e) (omega arith)) its (listed reasons place placed its)))
+
+      by : (count : Option (ℕ × ℕ)) → count_in first.1 ≡ count → first_for first.1 count ≡ Some first → IsFirst place_of IsFor all first.0 first.1
+      by None is mine = absurd cc
+      by (Some count) is mine =
+          let low = lowest first.1 count is in
+          let same : (count.1, first.1) ≡ first = cc in
+          record {
+            one = low.one;
+            listed = low.listed;
+            at = low.at ∙ ap (λ (x : ℕ × R). x.0) same;
+            is_for = low.is;
+            first = no_lower;
+          }

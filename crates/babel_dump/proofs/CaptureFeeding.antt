@@ -127,6 +127,9 @@ module _ {S : Type 0} (has : S → S → List Made → Type 0) (first : S) where
       rest = so_far.taken.rest;
       whole = so_far.taken.whole ∙ ap (λ (front : List ℕ). front ++ so_far.taken.rest) so_far.taken.leads.whole;
       are_blocks = subst (λ (e : Extent). AreBlocks (start e) 0 so_far.taken.leads.blocks) from.limit so_far.taken.leads.are_blocks;
+      front = sightings_of so_far.taken.leads.blocks;
+      back = [];
+      parts = sym (append-nil (sightings_of so_far.taken.leads.blocks));
       are_made = subst (λ (w : Wanted). AreMade w (sightings_of so_far.taken.leads.blocks) so_far.taken.leads.gathered.made) from.wanted so_far.taken.leads.gathered.taken.are_made;
     };
     took = so_far.took;
@@ -161,7 +164,10 @@ module _ {S : Type 0} (has : S → S → List Made → Type 0) (first : S) where
           rest = stops.rest;
           whole = stops.whole;
           are_blocks = subst (λ (e : Extent). AreBlocks (start e) 0 stops.blocks) from.limit stops.are_blocks;
-          are_made = subst (λ (w : Wanted). AreMade w (sightings_of stops.blocks) (so_far.taken.leads.gathered.made ++ stopped.more)) from.wanted stops.taken.are_made;
+          front = stops.front;
+          back = stops.back;
+          parts = stops.parts;
+          are_made = subst (λ (w : Wanted). AreMade w stops.front (so_far.taken.leads.gathered.made ++ stopped.more)) from.wanted stops.taken.are_made;
         };
         took = took_more now next so_far.taken.leads.gathered.made stopped.more so_far.took stopped.took;
       }

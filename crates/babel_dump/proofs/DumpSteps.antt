@@ -1,17 +1,15 @@
 -- What comes of the octets of a dump, or of a capture that has it, and of a text of pairs: one thing, or one fault.
 use Rattle.std.proofs.Common.{◌≡◌, ◌≢◌, ◌≤◌, ◌<◌, ◌⊎◌, refl, ℕ, Bool, true, false, List, ◌++◌, length, length-append, append_assoc, Option, None, Some, Result, Ok, Err}
 use Rattle.std.proofs.Common.{arith, ap, sym, ◌∙◌, inl, inr, subst}
-use Rattle.babel_capture.specs.Blocks.{IsPartial, context_behind, octets_of, sightings_of, start}
-use Rattle.babel_capture.specs.Gathering.{AreMade}
-use Rattle.babel_capture.specs.declared.wanted.Wanted.{Wanted}
+use Rattle.babel_capture.specs.Blocks.{octets_of}
 use Rattle.babel_dump.proofs.AskedLaws.{first_wrong_one, not_wrong}
-use Rattle.babel_dump.proofs.CaptureBegins.{dump_made, either_begins, whole_begins}
+use Rattle.babel_dump.proofs.CaptureBegins.{dump_made, either_begins, read_begins, whole_begins}
 use Rattle.babel_dump.proofs.CaptureSteps.{all_of, begins, is_read_of, IsReadOf, Read, read_of, read_one}
 use Rattle.babel_dump.proofs.OneMoment.{table_at_is_one}
 use Rattle.babel_dump.proofs.Steps.{Checked, checked_one, IsOne, Then, then_one}
 use Rattle.babel_dump.proofs.StrictLaws.{not_whole_one, whole_or_not}
 use Rattle.babel_dump.specs.AskedPairs.{AskFor, IsFirstWrong, lines_of}
-use Rattle.babel_dump.specs.CaptureGiven.{BeginsWith, extent_of, IsAccepted}
+use Rattle.babel_dump.specs.CaptureGiven.{IsAccepted}
 use Rattle.babel_dump.specs.Command.{IsFaultWith, IsOfMemory}
 use Rattle.babel_dump.specs.Each.{GavePairsOf, RefusesPairs}
 use Rattle.babel_dump.specs.Given.{capture_reading_of, capture_with, Dump, expired, GaveAll, GaveDump, GaveTable, GaveUnread, Input, IsDump, IsFaultInCapture, IsFaultOfGiven, IsFaultOfInput}
@@ -33,6 +31,7 @@ use Rattle.babel_dump.specs.declared.run_fault.RunFault.TheVariants as run_fault
 use Rattle.babel_dump.specs.declared.run_fault.RunFault.{RunFault}
 use Rattle.babel_table.proofs.OutcomeLaws.{fault_is_one, fault_stays, table_is_one}
 use Rattle.babel_table.specs.DumpFault.{DumpFault, HasNoFault, IsTruncated}
+use Rattle.babel_table.specs.Moments.{dump_of}
 use Rattle.babel_table.specs.Rows.{Routes}
 use Rattle.babel_tlv.specs.declared.fault.Fault.TheVariants as faults
 use Rattle.babel_tlv.specs.declared.fault.Fault.{Fault}
@@ -70,22 +69,12 @@ fault_in_one reading octets fault too is is_too = elim (either_begins (capture_r
 
 -- what is read of a capture to its end
 module _ (reading : Reading) (octets : List ℕ) (read : Read) (is : IsReadOf (capture_reading_of reading) (wanted_by reading) octets read) where
-  abbrev made_whole : BeginsWith (capture_reading_of reading) (wanted_by reading) octets is.is_read.is_read.gathered.made
-  made_whole = record {
-    blocks = is.is_read.is_read.blocks;
-    rest = is.is_read.rest;
-    whole = is.is_read.whole ∙ ap (λ (front : List ℕ). front ++ is.is_read.rest) is.is_read.is_read.whole;
-    are_blocks = is.is_read.is_read.are_blocks;
-    are_made = subst (λ (w : Wanted). AreMade w (sightings_of is.is_read.is_read.blocks) is.is_read.is_read.gathered.made) is.wanted_is is.is_read.is_read.gathered.taken.are_made;
-  }
-
   -- and has no fault
   no_fault_in : HasNoFault reading.limits reading.mode reading.sender (dump_made read.made) → (fault : Fault) → IsFaultInCapture reading octets fault → ⊥
   no_fault_in accepted fault has =
-      let partial = subst (λ (front : List ℕ). IsPartial (context_behind (start (extent_of (capture_reading_of reading))) is.is_read.is_read.blocks) (length front) is.is_read.rest)
-      is.is_read.is_read.whole is.is_read.partial in
-      let on = whole_begins (capture_reading_of reading) (wanted_by reading) octets is.is_read.is_read.gathered.made has.made made_whole has.begins partial in
-      accepted fault (stays_in reading octets (dump_made read.made) fault has (on.0, ap dump_made is.made_is ∙ on.1))
+      let whole = read_begins (capture_reading_of reading) (wanted_by reading) octets read.gathering read.cut is.wanted_is is.is_read in
+      let on = whole_begins (capture_reading_of reading) (wanted_by reading) octets whole.first has.made whole.begins has.begins whole.partial whole.all in
+      accepted fault (stays_in reading octets (dump_made read.made) fault has (on.0, ap dump_made is.made_is ∙ ap dump_of whole.packets ∙ on.1))
 
 -- ---- what is read as a dump
 
@@ -224,6 +213,9 @@ module _ (reader : Input) (octets : List ℕ) (has : reader.old.left ≡ Some oc
             rest = own.begins.rest ++ more.0;
             whole = more.1 ∙ ap (λ (front : List ℕ). front ++ more.0) own.begins.whole ∙ append_assoc (octets_of own.begins.blocks) own.begins.rest more.0;
             are_blocks = own.begins.are_blocks;
+            front = own.begins.front;
+            back = own.begins.back;
+            parts = own.begins.parts;
             are_made = own.begins.are_made;
           };
           refused = own.refused;

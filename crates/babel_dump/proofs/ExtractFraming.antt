@@ -4,7 +4,7 @@ use Rattle.std.proofs.lemmas.List.{append_cancel_left}
 use Rattle.babel_tlv.specs.declared.fault.Fault.{Fault}
 use Rattle.babel_tlv.specs.declared.fault.Fault.TheVariants as faults
 use Rattle.babel_table.specs.Moments.{dump_of}
-use Rattle.babel_capture.specs.Blocks.{sightings_of}
+use Rattle.babel_capture.specs.Blocks.{sightings_to_end}
 use Rattle.babel_capture.specs.Packets.{ArePackets}
 use Rattle.babel_dump.specs.CaptureGiven.{made_in}
 use Rattle.babel_dump.specs.CaptureText.{dump_text}
@@ -30,7 +30,7 @@ extracted_packets dump done =
     let gathered : text ≡ dump_of (packets_made made) = says.text_is ∙ as_it_is (dump_of (packets_made made)) in
     let same : text ≡ dump = append_cancel_left done.before text dump (sym (appended _ _ done.before (done.before ++ dump) text done.ran.took done.ran.takes wrote)) in
     subst ArePackets (sym gathered ∙ same) (whole_dump (packets_made made)
-    (whole_made says.gathering.wanted (sightings_of given.is_read.is_read.blocks) made given.is_read.is_read.gathered.taken.are_made))
+    (whole_made says.gathering.wanted (sightings_to_end given.is_read.is_read.blocks) made given.is_read.is_read.gathered.taken.are_made))
 
 not_memory : (fault : Fault) → IsOfFraming fault → fault ≢ faults.Memory
 not_memory fault framing is = subst IsOfFraming is framing
@@ -42,7 +42,7 @@ not_pairs fault framing is = subst IsOfFraming is framing
 not_framing : (is_capture : Bool) (reading : Reading) (octets : List ℕ) (fault : Fault) → ArePackets octets → IsFaultOfOctets is_capture reading octets fault → ¬ IsOfFraming fault
 not_framing false reading octets fault are has = dump_framed reading.limits reading.mode reading.sender octets are fault has
 not_framing true reading octets fault are has =
-    let whole = whole_made (wanted_by reading) (sightings_of has.0.begins.blocks) has.0.made has.0.begins.are_made in
+    let whole = whole_made (wanted_by reading) has.0.begins.front has.0.made has.0.begins.are_made in
     dump_framed reading.limits reading.mode reading.sender (dump_of (packets_made has.0.made)) (whole_dump (packets_made has.0.made) whole) fault has.0.refused
 
 pub extracted_is_framed : ExtractedIsFramed

@@ -3,11 +3,9 @@ use Rattle.std.specs.Prelude.{if◌then◌else◌, Result, Ok, Err, OnOk}
 use Rattle.std.proofs.Common.{◌≡◌, ◌≢◌, refl, sym, ap, subst, ◌∙◌, ℕ, Bool, true, false, List, ◌++◌, length, Option, None, Some, IfSome}
 use Rattle.babel_prefix.specs.Address.{Address}
 use Rattle.babel_capture.proofs.OneCapture.{cut_capture_is_one}
-use Rattle.babel_capture.specs.Blocks.{sightings_of}
 use Rattle.babel_capture.specs.Counts.{Made}
 use Rattle.babel_dump.specs.Packets.{packets_made}
-use Rattle.babel_capture.specs.Gathering.{AreMade, Gathering}
-use Rattle.babel_capture.specs.declared.wanted.Wanted.{Wanted}
+use Rattle.babel_capture.specs.Gathering.{Gathering}
 use Rattle.babel_tlv.specs.declared.fault.Fault.{Fault}
 use Rattle.babel_tlv.specs.declared.fault.Fault.TheVariants as faults
 use Rattle.babel_table.specs.Answers.{IsAnswerOf}
@@ -32,6 +30,7 @@ use Rattle.babel_dump.specs.declared.input_fault.InputFault.{InputFault}
 use Rattle.babel_dump.specs.declared.left_out.LeftOutDatagram.{LeftOutDatagram}
 use Rattle.babel_dump.specs.declared.reading.Reading.{Reading}
 use Rattle.babel_dump.proofs.WholePackets.{dump_framed, whole_dump, whole_made}
+use Rattle.babel_dump.proofs.CaptureBegins.{ReadBegins, read_begins}
 use Rattle.babel_dump.proofs.CaptureSteps.{is_read_of}
 use Rattle.babel_dump.proofs.Feeders.{not_pairs}
 use Rattle.babel_dump.proofs.StrictLaws.{unread_cause}
@@ -178,7 +177,7 @@ pub captured_fault : (reader : Input) (given : List ℕ) (made : List Made) (fau
     → ((octets : List ℕ) → reader.old.left ≡ Some octets → IsAtOnePlace reader.reading octets) → IsFaultOfCaptured reader fault
 captured_fault reader given made fault gave begins is_fault at_one =
     let packets = packets_made made in
-    let whole = whole_made (wanted_by reader.reading) (sightings_of begins.blocks) made begins.are_made in
+    let whole = whole_made (wanted_by reader.reading) begins.front made begins.are_made in
     record {
       given = given;
       gave = gave;
@@ -200,23 +199,17 @@ at_one_in reader gathering cut gave one octets has again cut_too is wanted accep
     (wanted ∙ sym gave.wanted) in
     ap (λ (g : Gathering). length g.senders) same.0 ∙ one
 
-begins_with : (reader : CaptureInput) (gathering : Gathering) (cut : Option ℕ) (gave : GaveCapture reader gathering cut) → BeginsWith reader.reading reader.wanted gave.octets (made_in gave)
-begins_with reader gathering cut gave =
-    let read = gave.is_read.is_read in
-    record {
-      blocks = read.blocks;
-      rest = gave.is_read.rest;
-      whole = gave.is_read.whole ∙ ap (λ (t : List ℕ). t ++ gave.is_read.rest) read.whole;
-      are_blocks = read.are_blocks;
-      are_made = subst (λ (w : Wanted). AreMade w (sightings_of read.blocks) read.gathered.made) gave.wanted read.gathered.taken.are_made;
-    }
+begins_with : (reader : CaptureInput) (gathering : Gathering) (cut : Option ℕ) (gave : GaveCapture reader gathering cut) → ReadBegins reader.reading reader.wanted gave.octets (made_in gave)
+begins_with reader gathering cut gave = read_begins reader.reading reader.wanted gave.octets gathering cut gave.wanted gave.is_read
 
 fault_so : (reader : Input) (fed : Fed) (fault : Fault) (is_capture : Bool) (is : IsFedSo is_capture reader fed)
     → DumpFault reader.reading.limits reader.reading.mode reader.reading.sender (fed_octets reader fed is_capture is) fault → IsFaultOfInput is_capture reader fault
 fault_so reader fed fault false is is_fault =
     record { given = is.octets; gave = is.gave.gave; refused = is_fault; whole = λ _. is.gave; not_pairs = not_pairs reader is.octets fault is_fault }
 fault_so reader fed fault true is is_fault =
-    captured_fault reader is.gave.octets (made_in is.gave) fault is.gave.gave.gave (begins_with (capture_with reader) is.gathering is.cut is.gave) is_fault
+    let whole = begins_with (capture_with reader) is.gathering is.cut is.gave in
+    captured_fault reader is.gave.octets whole.first fault is.gave.gave.gave whole.begins
+    (subst (λ (packets : List (ℕ × List ℕ)). DumpFault reader.reading.limits reader.reading.mode reader.reading.sender (dump_of packets) fault) whole.packets is_fault)
     (at_one_in reader is.gathering is.cut is.gave is.one_place)
 
 so_limited : (fed : Fed) (reading : Reading) (octets : List ℕ) (fault : Fault) → fed.feeder.limits ≡ reading.limits → fed.feeder.mode ≡ reading.mode → fed.feeder.sender ≡ reading.sender

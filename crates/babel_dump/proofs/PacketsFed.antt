@@ -1,6 +1,6 @@
 -- A feeder that is fed the packets of a capture hears them, each with its time.
 use Rattle.std.proofs.Common.{◌≡◌, ◌≢◌, ℕ, List, [], ◌∷◌, ◌++◌, Option, None, Some, refl, sym, ap, subst, ◌∙◌, append_assoc, append-nil}
-use Rattle.std.specs.Prelude.{Result, Ok, Err, IfErr}
+use Rattle.std.specs.Prelude.{Result, Ok, Err, IfErr, IfOk}
 use Rattle.std.specs.Option.{unwrap_or}
 use Rattle.std.proofs.lemmas.List.Concat.{flat_map-append}
 use Rattle.babel_tlv.specs.declared.fault.Fault.{Fault}
@@ -110,6 +110,12 @@ hears_packet old new time packet result same heard truncated = record {
   factor = same.3;
   heard = λ given are was. heard (not_cut old time packet given are was result truncated) given was;
 }
+
+-- what holds of all octets that a feeder was fed holds of what it heard
+pub heard_whole : {T E : Type 0} (A : Type 0) (P : List ℕ → T → Type 0) (f : Progress) (result : Result T E) → IfOk result (λ value. (fed : List ℕ) → HasRead f fed → P fed value)
+    → IfOk result (λ value. A → (packets : List (ℕ × List ℕ)) → HasHeard f packets → P (dump_of packets) value)
+heard_whole A P f (Ok value) has = λ asked packets heard. has (dump_of packets) heard.read
+heard_whole A P f (Err fault) has = tt
 
 -- the fault of what a feeder was fed is that of what it heard
 pub heard_fault : {T : Type 0} (f : Progress) (result : Result T Fault)

@@ -1,4 +1,4 @@
--- The TLVs of a dump, and the packets of a capture, come at rising places.
+-- The TLVs of a dump come at rising places.
 use Rattle.std.proofs.Common.{◌≡◌, ℕ, suc, zero, ◌+◌, ◌<◌, ◌≤◌, List, [], ◌∷◌, ◌++◌, length, get_or, sym, subst, arith}
 use Rattle.std.specs.List.{AllPairs, flat_map}
 use Rattle.std.proofs.lemmas.List.{length-append}
@@ -7,11 +7,6 @@ use Rattle.babel_tlv.specs.declared.start.Start.{Start}
 use Rattle.babel_tlv.specs.Framing.{ArePackets, ArePlaced, TlvAt, laid_out, packet_octets, tlv_octets}
 use Rattle.babel_tlv.specs.Says.{Saying, sayings, sayings_after}
 use Rattle.babel_dump.specs.FirstIgnored.{OffsetsOfDumpsRise}
-use Rattle.babel_capture.specs.declared.wanted.Wanted.{Wanted}
-use Rattle.babel_capture.specs.Blocks.{BlockAt, sightings_behind, sightings_in}
-use Rattle.babel_capture.specs.Contents.{Content, file, section, describes, holds, skips, nothing}
-use Rattle.babel_capture.specs.Counts.{Made}
-use Rattle.babel_capture.specs.Gathering.{AreMade}
 
 module _ {A : Type 0} (place_of : A → ℕ) where
   -- each is at a higher place than the one before, and the first at this place or a higher one
@@ -32,8 +27,6 @@ module _ {A : Type 0} (place_of : A → ℕ) where
   pairs_rise from [] rise = λ i j d lt j_in. absurd (omega arith)
   pairs_rise from (x ∷ xs) rise = AllPairs-cons (λ one later. place_of one < place_of later) x xs
       (λ k d k_in. omega (arith, above (suc (place_of x)) xs rise.1 k d k_in)) (pairs_rise (suc (place_of x)) xs rise.1)
-
--- ---- dumps
 
 abbrev OffsetsFrom : ℕ → List Saying → Type 0
 OffsetsFrom = RiseFrom (λ saying. saying.at)
@@ -62,26 +55,3 @@ packets_rise start at (tlvs ∷ packets) are =
 
 pub offsets_of_dumps_rise : OffsetsOfDumpsRise
 offsets_of_dumps_rise start dump packets rest reads = pairs_rise (λ saying. saying.at) 0 (sayings start packets) (packets_rise start 0 packets reads.placed)
-
--- ---- captures
-
-abbrev NumbersFrom : ℕ → List Made → Type 0
-NumbersFrom = RiseFrom (λ one. one.number)
-
-numbers_from : (wanted : Wanted) (count : ℕ) (blocks : List BlockAt) (made : List Made) → AreMade wanted (sightings_behind count blocks) made → NumbersFrom (count + 1) made
-numbers_from wanted count [] made are = subst (NumbersFrom (count + 1)) (sym are) tt
-numbers_from wanted count (block ∷ blocks) made are = by (λ n m a. numbers_from wanted n blocks m a) block.content are
-  where
-    by : ((n : ℕ) (m : List Made) → AreMade wanted (sightings_behind n blocks) m → NumbersFrom (n + 1) m) → (content : Content)
-        → AreMade wanted (sightings_in (count + 1) block.at content ++ sightings_behind (count + length (sightings_in (count + 1) block.at content)) blocks) made → NumbersFrom (count + 1) made
-    by again (file order interface) are = subst (λ n. NumbersFrom n made) (omega arith) (again (count + 0) made are)
-    by again (section order) are = subst (λ n. NumbersFrom n made) (omega arith) (again (count + 0) made are)
-    by again (describes interface name) are = subst (λ n. NumbersFrom n made) (omega arith) (again (count + 0) made are)
-    by again nothing are = subst (λ n. NumbersFrom n made) (omega arith) (again (count + 0) made are)
-    by again (holds packet) (one, others, is, number, link, came, finds, takes, later) =
-        subst (NumbersFrom (count + 1)) (sym is) (omega (arith, number), subst (λ n. NumbersFrom n others) (omega (arith, number)) (again (count + 1) others later))
-    by again (skips packet) (one, others, is, number, link, came, finds, takes, later) =
-        subst (NumbersFrom (count + 1)) (sym is) (omega (arith, number), subst (λ n. NumbersFrom n others) (omega (arith, number)) (again (count + 1) others later))
-
-pub numbers_rise : (wanted : Wanted) (blocks : List BlockAt) (made : List Made) → AreMade wanted (sightings_behind 0 blocks) made → AllPairs (λ one later. one.number < later.number) made
-numbers_rise wanted blocks made are = pairs_rise (λ one. one.number) 1 made (numbers_from wanted 0 blocks made are)

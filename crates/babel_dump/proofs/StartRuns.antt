@@ -5,18 +5,17 @@ use Rattle.std.specs.Io.KnownBytes.{Appends}
 use Rattle.std.specs.List.{flat_map}
 use Rattle.std.proofs.KnownBytes.{Appends-nil}
 use Rattle.std.proofs.lemmas.List.{take_all}
-use Rattle.babel_capture.specs.Blocks.{octets_of, sightings_of}
-use Rattle.babel_capture.specs.Gathering.{AreMade, Gathering}
-use Rattle.babel_capture.specs.Capture.{HasRead, IsReadToCut, State}
+use Rattle.babel_capture.specs.Blocks.{octets_of}
+use Rattle.babel_capture.specs.Gathering.{Gathering}
+use Rattle.babel_capture.specs.Capture.{State}
 use Rattle.babel_capture.specs.Counts.{Made}
 use Rattle.babel_capture.specs.Sinking.{FeedMore, Sinks, StopMore}
 use Rattle.babel_dump.specs.CaptureGiven.{BeginsWith}
 use Rattle.babel_dump.specs.Device.{AppendsPrefix, Gave, InputState, OutputState}
 use Rattle.babel_dump.specs.EventsCause.{IsRefused, IsWhole, reading_by}
-use Rattle.babel_capture.specs.declared.wanted.Wanted.{Wanted}
 use Rattle.babel_dump.specs.EventsRun.{AreLines, TellsEvents, WroteLines, followed_by, followed_extent, made_in, since_in, told_from, unlost, written_in}
 use Rattle.babel_dump.specs.EventsStart.{AreWhole, IsNextRefused, WroteBehind, WroteSome, WroteStart}
-use Rattle.babel_dump.specs.Followed.{Follows, HasFollowed, HasHeardFollowed, HasStopped, IsFollowed, named_event, trouble_of}
+use Rattle.babel_dump.specs.Followed.{EndsAt, Follows, HasFollowed, HasHeardFollowed, HasStopped, IsFollowed, IsFollowedToEnd, named_event, trouble_of, unlost_by}
 use Rattle.babel_dump.specs.FollowedSenders.{followed as followed_in}
 use Rattle.babel_dump.specs.Run.{Output, output}
 use Rattle.babel_dump.specs.Slices.{Broke, Took}
@@ -33,7 +32,6 @@ use Rattle.babel_dump.proofs.EventLineLaws.{are_lines, lines_both}
 use Rattle.babel_dump.proofs.EventsRuns.{Tellings}
 use Rattle.babel_dump.proofs.FollowRuns.{IsFollowedSoFar, lines_none}
 use Rattle.babel_dump.proofs.SliceLaws.{prefix_on}
-use Rattle.babel_dump.proofs.FollowLaws.{same_made}
 use Rattle.babel_dump.proofs.StartLaws.{tells_heard}
 use Rattle.babel_dump.proofs.TakeLaws.{follows_none}
 
@@ -83,7 +81,7 @@ start_of_all events fed told followed is writer none wrote =
       more = [];
       told = record {
         made = made;
-        begins = begins_more events fed followed.capture.progress followed.capture.pending made is.wanted is.read refl;
+        begins = inl (begins_more events fed followed.capture.progress followed.capture.pending made is.wanted is.read refl);
         front = followed_in made;
         back = [];
         are = sym (append-nil (followed_in made));
@@ -106,13 +104,16 @@ start_before events fed rest told followed is writer none wrote =
       more = [];
       told = record {
         made = made;
-        begins = record {
+        begins = inl (record {
           blocks = begins.blocks;
           rest = begins.rest ++ rest;
           whole = ap (λ (t : List ℕ). t ++ rest) begins.whole ∙ append_assoc (octets_of begins.blocks) begins.rest rest;
           are_blocks = begins.are_blocks;
+          front = begins.front;
+          back = begins.back;
+          parts = begins.parts;
           are_made = begins.are_made;
-        };
+        });
         front = followed_in made;
         back = [];
         are = sym (append-nil (followed_in made));
@@ -125,40 +126,45 @@ start_before events fed rest told followed is writer none wrote =
       wrote = wrote;
     }
 
--- all records of a capture, and then what ends
-pub start_at_last : (events : Events) (fed : List ℕ) (told : Tellings) (followed : Followed) (cut : Option ℕ) → IsFollowed events fed told followed
-    → ((octets : List ℕ) → HasRead followed.capture octets → IsReadToCut followed.capture.limit octets followed.capture.progress.gathering cut) → (events.accept_cut ≡ false → cut ≡ None)
-    → followed.follower.told.items ≡ [] → (more : Tellings) (writer : Output) → WroteSome events more writer → WroteBehind events fed told writer
-start_at_last events fed told followed cut is read accepted none more writer wrote =
-    let whole = is_whole events fed told followed cut is read accepted in
-    let same = same_made (followed_extent events) fed followed.capture.progress followed.capture.pending followed.capture.progress.gathering whole.cut refl is.read whole.is_read in
-    let made = is.read.leads.gathered.made in
+-- what has ended is put behind what was told
+ended_behind : (events : Events) (moment : Option ℕ) (old new : Followed) → EndsAt events moment old new
+    → (besides : Tellings) × (new.follower.told.items ≡ old.follower.told.items ++ besides)
+ended_behind events None old new same = ([], ap (λ (f : Follower). f.told.items) same ∙ sym (append-nil old.follower.told.items))
+ended_behind events (Some moment) old new ends = (unlost_by old.follower.hearing.lost ends.printed, ends.written)
+
+-- all records of a capture, and then what has ended
+pub start_at_last : (events : Events) (fed : List ℕ) (told : Tellings) (cut moment : Option ℕ) (followed new : Followed) → IsFollowedToEnd events fed told cut followed
+    → EndsAt events moment followed new → (writer : Output) → WroteSome events new.follower.told.items writer → WroteBehind events fed told writer
+start_at_last events fed told cut moment followed new is ends writer wrote =
+    let made = is.is_read.is_read.gathered.made in
+    let all : AreWhole events fed made = (followed.capture.progress.gathering, is_whole events fed told cut followed is, refl) in
+    let last = ended_behind events moment followed new ends in
     record {
-      more = more;
+      more = new.follower.told.items;
       told = record {
         made = made;
-        begins = begins_more events fed followed.capture.progress followed.capture.pending made is.wanted is.read refl;
+        begins = inr all;
         front = followed_in made;
         back = [];
         are = sym (append-nil (followed_in made));
         first = told ++ followed.follower.told.items;
         tells = tells_heard events (followed_in made) (told ++ followed.follower.told.items) followed.follower.hearing is.has_heard.1;
-        besides = more;
-        written_is = ap (λ (t : Tellings). t ++ more) (sym (ap (λ (t : Tellings). told ++ t) none ∙ append-nil told));
-        may = inr (inr (followed.capture.progress.gathering, whole, ap followed_in (sym same.1)));
+        besides = last.0;
+        written_is = ap (λ (t : Tellings). told ++ t) last.1 ∙ sym (append_assoc told followed.follower.told.items last.0);
+        may = inr (inr (all, refl));
       };
       wrote = wrote;
     }
 
 -- why there may be something of the next record
-may_of : (events : Events) (octets : List ℕ) (front all back : List Made) (one : Made) (stop : Stop) (besides : Tellings) → all ≡ front ++ one ∷ back → (stop ≡ stops.Unheard unheard.Memory → besides ≡ [])
-    → (stop ≢ stops.Unheard unheard.Memory → IsRefused events front one (trouble_of stop)) → (besides ≡ []) ⊎ IsNextRefused events front all ⊎ AreWhole events octets front
-may_of events octets front all back one (stops.Unheard unheard.Memory) besides are kept refused = inl (kept refl)
-may_of events octets front all back one (stops.Unheard (unheard.Sender origin fault)) besides are kept refused =
-    inr (inl (one, back, are, (trouble_of (stops.Unheard (unheard.Sender origin fault)), refused (λ same. absurd cc))))
-may_of events octets front all back one (stops.LeftOut datagram) besides are kept refused = inr (inl (one, back, are, (trouble_of (stops.LeftOut datagram), refused (λ same. absurd cc))))
-may_of events octets front all back one (stops.Ignored origin tlv ignores_4) besides are kept refused =
-    inr (inl (one, back, are, (trouble_of (stops.Ignored origin tlv ignores_4), refused (λ same. absurd cc))))
+may_of : (events : Events) (front all back : List Made) (one : Made) (stop : Stop) (besides : Tellings) → all ≡ front ++ one ∷ back → (stop ≡ stops.Unheard unheard.Memory → besides ≡ [])
+    → (stop ≢ stops.Unheard unheard.Memory → IsRefused events front one (trouble_of stop)) → (besides ≡ []) ⊎ IsNextRefused events front all
+may_of events front all back one (stops.Unheard unheard.Memory) besides are kept refused = inl (kept refl)
+may_of events front all back one (stops.Unheard (unheard.Sender origin fault)) besides are kept refused =
+    inr (one, back, are, (trouble_of (stops.Unheard (unheard.Sender origin fault)), refused (λ same. absurd cc)))
+may_of events front all back one (stops.LeftOut datagram) besides are kept refused = inr (one, back, are, (trouble_of (stops.LeftOut datagram), refused (λ same. absurd cc)))
+may_of events front all back one (stops.Ignored origin tlv ignores_4) besides are kept refused =
+    inr (one, back, are, (trouble_of (stops.Ignored origin tlv ignores_4), refused (λ same. absurd cc)))
 
 module _ (events : Events) (fed piece : List ℕ) (told : Tellings) (old : Followed) (is : IsFollowed events fed told old) (follower : Follower) (writer : Output)
     (wrote : WroteSome events follower.told.items writer) where
@@ -182,7 +188,7 @@ module _ (events : Events) (fed piece : List ℕ) (told : Tellings) (old : Follo
             more = follower.told.items;
             told = record {
               made = made ++ more;
-              begins = begins;
+              begins = inl begins;
               front = followed_in (made ++ more);
               back = [];
               are = sym (append-nil (followed_in (made ++ more)));
@@ -200,7 +206,7 @@ module _ (events : Events) (fed piece : List ℕ) (told : Tellings) (old : Follo
             more = follower.told.items;
             told = record {
               made = made ++ more;
-              begins = begins;
+              begins = inl begins;
               front = has.front;
               back = has.one ∷ has.back;
               are = has.are;
@@ -208,7 +214,10 @@ module _ (events : Events) (fed piece : List ℕ) (told : Tellings) (old : Follo
               tells = has.tells;
               besides = has.besides;
               written_is = has.written_is;
-              may = may_of events (fed ++ piece) has.front (followed_in (made ++ more)) has.back has.one stop has.besides has.are has.kept has.refused;
+              may = elim (may_of events has.front (followed_in (made ++ more)) has.back has.one stop has.besides has.are has.kept has.refused) [
+                | inl none ↦ inl none
+                | inr next ↦ inr (inl next)
+              ];
             };
             wrote = wrote;
           }
@@ -269,6 +278,7 @@ start_of_run events old new writer answer tells =
     let all = tells.tells in
     let made = all.is_read.is_read.gathered.made in
     let whole : IsWhole events tells.octets all.gathering = record { cut = all.cut; is_read = all.is_read; accepted = all.accepted; wanted = all.wanted } in
+    let are_all : AreWhole events tells.octets made = (all.gathering, whole, refl) in
     record {
       octets = tells.octets;
       gave = tells.gave.gave;
@@ -276,13 +286,7 @@ start_of_run events old new writer answer tells =
         more = tells.written;
         told = record {
           made = made;
-          begins = record {
-            blocks = all.is_read.is_read.blocks;
-            rest = all.is_read.rest;
-            whole = all.is_read.whole ∙ ap (λ (t : List ℕ). t ++ all.is_read.rest) all.is_read.is_read.whole;
-            are_blocks = all.is_read.is_read.are_blocks;
-            are_made = subst (λ (w : Wanted). AreMade w (sightings_of all.is_read.is_read.blocks) made) all.wanted all.is_read.is_read.gathered.taken.are_made;
-          };
+          begins = inr are_all;
           front = followed_in made;
           back = [];
           are = sym (append-nil (followed_in made));
@@ -298,7 +302,7 @@ start_of_run events old new writer answer tells =
           };
           besides = unlost (made_in all.steps) (all.opening ++ told_from (since_in events.since (made_in all.steps)) all.ended);
           written_is = all.written_is;
-          may = inr (inr (all.gathering, whole, refl));
+          may = inr (inr (are_all, refl));
         };
         wrote = wrote_some events tells.written writer tells.wrote;
       };

@@ -1,23 +1,24 @@
 -- How far a capture is followed with more of it, and what it gives at its end.
 use Rattle.std.proofs.Common.{◌≡◌, ℕ, ◌≤◌, List, [], ◌++◌, map, refl, sym, ap, subst, ◌∙◌, append_assoc, append-nil, Option, None, Some}
 use Rattle.std.specs.Prelude.{Bool, true, false, not, ◌&&◌, IfSome, if◌then◌else◌, Result, Ok, Err, OnOk}
+use Rattle.std.specs.List.{AllByRecursion}
+use Rattle.std.specs.Map.{keys_of}
 use Rattle.std.specs.declared.cmp.Ordering.{Ordering}
-use Rattle.babel_capture.specs.declared.fault.Fault.{Fault}
 use Rattle.babel_capture.specs.Blocks.{context_behind, start}
-use Rattle.babel_capture.specs.Capture.{HasRead, HasReadTo, IsReadToCut, State}
+use Rattle.babel_capture.specs.Capture.{IsReadToCut, State}
 use Rattle.babel_capture.specs.Capture.{moment_read as moment_of}
 use Rattle.babel_capture.specs.Context.{Before}
 use Rattle.babel_capture.specs.Counts.{Made}
 use Rattle.babel_capture.specs.Gathering.{Gathering}
 use Rattle.babel_capture.specs.Reading.{HasTaken}
-use Rattle.babel_capture.specs.Sinking.{FeedMore, Sinks}
+use Rattle.babel_capture.specs.Sinking.{EndMore, FeedMore, Sinks}
 use Rattle.babel_capture.specs.Window.{Extent, moment_up_to}
 use Rattle.babel_timeline.specs.declared.teller.Teller.{Teller}
 use Rattle.babel_timeline.specs.declared.telling.Telling.{Telling}
 use Rattle.babel_timeline.specs.Rows.{AllLast, Rows}
 use Rattle.babel_dump.specs.CaptureRun.{IsOutcomeOf}
-use Rattle.babel_dump.specs.EventsRun.{AreReadWhole, CountsRoutes, HaveTold, NotesSome, Opens, OpensBy, Step, TellsSilent, WroteLines, followed_by, followed_extent, have_come, heard_status, last_time, made_in, moment_read, since_in, told_from, told_in, unlost, written_in}
-use Rattle.babel_dump.specs.Followed.{Ends, EndsAt, EndsBy, Follows, HasHeard, HasHeardFollowed, IsFollowed, KnowsOthers, Suits, TellsFrom, unlost_by}
+use Rattle.babel_dump.specs.EventsRun.{AreReadWhole, CountsRoutes, HaveTold, IsHeardSender, NotesSome, Opens, OpensBy, Step, TellsSilent, WroteLines, followed_by, followed_extent, have_come, heard_status, last_time, made_in, moment_read, since_in, told_from, told_in, unlost, written_in}
+use Rattle.babel_dump.specs.Followed.{Ends, EndsAt, EndsBy, Follows, HasHeard, HasHeardFollowed, IsFollowed, IsFollowedToEnd, KnowsOthers, Suits, TellsFrom, unlost_by}
 use Rattle.babel_dump.specs.FollowedSenders.{followed, senders_followed, with_packets}
 use Rattle.babel_dump.specs.HeardSenders.{heard_of, heard_told}
 use Rattle.babel_dump.specs.Run.{Output}
@@ -25,6 +26,7 @@ use Rattle.babel_dump.specs.Speakers.{speaker_cmp}
 use Rattle.babel_dump.specs.declared.events.Followed.{Followed}
 use Rattle.babel_dump.specs.declared.events_job.Events.{Events}
 use Rattle.babel_dump.specs.declared.events_outcome.EventsOutcome.{EventsOutcome}
+use Rattle.babel_dump.specs.declared.events_outcome.HeardSender.{HeardSender}
 use Rattle.babel_dump.specs.declared.other_sources.OtherSources.{OtherSources}
 use Rattle.babel_dump.specs.declared.speaker.Speaker.{Speaker}
 use Rattle.babel_dump.specs.declared.followed_senders.FollowedSenders.{FollowedSenders}
@@ -39,12 +41,6 @@ use Rattle.babel_dump.proofs.FollowLaws.{same_made}
 
 abbrev Tellings : Type 0
 Tellings = List (Telling Speaker)
-
--- ---- what a capture was given
-
-given_of : (state : State) (extent : Extent) (fed : List ℕ) → state.fault ≡ None → state.limit ≡ extent → HasTaken extent state.progress state.pending fed → HasRead state fed
-given_of state extent fed none limit read =
-    subst (λ (f : Option Fault). HasReadTo state f fed) (sym none) (subst (λ (e : Extent). HasTaken e state.progress state.pending fed) (sym limit) read)
 
 -- ---- more of it
 
@@ -184,18 +180,103 @@ when_timed : (untimed : Bool) (moment : Option ℕ) → untimed ≡ false → (i
 when_timed true moment timed = absurd (let bad : true ≡ false = timed in cc)
 when_timed false moment timed = refl
 
+-- a follower took what is seen at the end of a capture
+module _ (events : Events) (fed : List ℕ) (told : Tellings) (old : Followed) (cut : Option ℕ) (is : IsFollowed events fed told old) (capture : State) (follower : Follower) where
+  record IsEndedBy (ended : State) (senders : FollowedSenders) (others : Option OtherSources) (hearing : Hearing) (items : Tellings) : Type 0 where
+    is_read : IsReadToCut (followed_extent events) fed ended.progress.gathering cut
+    limit : ended.limit ≡ followed_extent events
+    wanted : ended.progress.gathering.wanted ≡ followed_by events
+    context : ended.progress.context ≡ context_behind (start (followed_extent events)) is_read.is_read.blocks
+    senders_are : senders.senders.entries ≡ senders_followed is_read.is_read.gathered.made
+    has_heard : HasHeard events (followed is_read.is_read.gathered.made) (told ++ items) hearing
+    others_too : KnowsOthers events (followed is_read.is_read.gathered.made) others
+
+  ended_by : Sinks Follows old.follower follower (EndMore old.capture.progress old.capture.pending capture.progress.gathering cut) → follower.fault ≡ None
+      → capture.limit ≡ old.capture.limit → capture.progress.context ≡ old.capture.progress.context
+      → capture.progress.gathering.wanted ≡ old.capture.progress.gathering.wanted → IsEndedBy capture follower.senders follower.other_sources follower.hearing follower.told.items
+  ended_by sinks sound limit context wanted =
+      let extent = followed_extent events in
+      let follows = sinks.took old.follower [] (follows_none old.follower) in
+      let ends = sinks.are_read extent fed is.read in
+      let made = is.read.leads.gathered.made in
+      let was = subst (λ (e : Events). HasHeardFollowed e made told old.follower) (sym is.events_are) is.has_heard in
+      let heard = subst (λ (m : List Made). HasHeardFollowed events m told follower) (sym ends.1)
+      (subst (λ (e : Events). HasHeardFollowed e (made ++ sinks.more) told follower) is.events_are ((follows.1 sound).1 made told was)) in
+      let same = same_made extent fed old.capture.progress old.capture.pending capture.progress.gathering cut wanted is.read ends.0 in
+      record {
+        is_read = ends.0;
+        limit = limit ∙ is.limit;
+        wanted = wanted ∙ is.wanted;
+        context = context ∙ is.read.leads.context ∙ ap (context_behind (start extent)) (sym same.blocks);
+        senders_are = heard.0;
+        has_heard = heard.1;
+        others_too = heard.2;
+      }
+
+  pub followed_to_end : (new : Followed) → new.capture ≡ capture → new.follower.hearing ≡ follower.hearing → new.follower.told.items ≡ follower.told.items
+      → new.follower.senders ≡ follower.senders → new.follower.other_sources ≡ follower.other_sources
+      → Sinks Follows old.follower follower (EndMore old.capture.progress old.capture.pending capture.progress.gathering cut) → follower.fault ≡ None
+      → (events.accept_cut ≡ false → cut ≡ None) → capture.limit ≡ old.capture.limit → capture.progress.context ≡ old.capture.progress.context
+      → capture.progress.gathering.wanted ≡ old.capture.progress.gathering.wanted → IsFollowedToEnd events fed told cut new
+  followed_to_end new same_capture same_hearing same_told same_senders same_others sinks sound accepted limit context wanted =
+      let by = ended_by sinks sound limit context wanted in
+      let now = subst (λ (v : Tellings). IsEndedBy new.capture new.follower.senders new.follower.other_sources new.follower.hearing v) (sym same_told)
+      (subst (λ (h : Hearing). IsEndedBy new.capture new.follower.senders new.follower.other_sources h follower.told.items) (sym same_hearing)
+      (subst (λ (o : Option OtherSources). IsEndedBy new.capture new.follower.senders o follower.hearing follower.told.items) (sym same_others)
+      (subst (λ (k : FollowedSenders). IsEndedBy new.capture k follower.other_sources follower.hearing follower.told.items) (sym same_senders)
+      (subst (λ (s : State). IsEndedBy s follower.senders follower.other_sources follower.hearing follower.told.items) (sym same_capture) by)))) in
+      record {
+        is_read = now.is_read;
+        accepted = accepted;
+        limit = now.limit;
+        wanted = now.wanted;
+        context = now.context;
+        has_heard = (now.senders_are, now.has_heard, now.others_too);
+      }
+
 pub ending : (events : Events) (fed : List ℕ) (told : Tellings) (writer : Output) (old new : Followed) (status : ℕ) (cut : Option ℕ) (answer : EventsOutcome)
-    → (is : IsFollowed events fed told old)
-    → ((octets : List ℕ) → HasRead old.capture octets → IsReadToCut old.capture.limit octets old.capture.progress.gathering cut)
-    → (events.accept_cut ≡ false → cut ≡ None) → EndsAt events (moment_of old.capture) old new → WroteLines events new.follower.told.items writer
+    → (is : IsFollowedToEnd events fed told cut old)
+    → EndsAt events (moment_of old.capture) old new → WroteLines events new.follower.told.items writer
     → status ≡ heard_status answer.senders.items → IsOutcomeOf answer.outcome status old.capture.progress.gathering.report cut
     → map heard_told answer.senders.items ≡ map (heard_of old) (with_packets old.follower.senders.senders.entries)
     → (events.strict ≡ true → AreReadWhole old.capture.progress.gathering.report answer.senders.items)
     → ((made : List Made) → new.follower.hearing.since.moment ≡ since_in events.since made → KnowsOthers events made old.follower.other_sources
     → NotesSome events (moment_of old.capture) made answer.other_sources)
     → Ends events fed told writer answer
-ending events fed told writer old new status cut answer is read accepted ends wrote status_is outcome_is senders whole notes =
-    by (same_made extent fed old.capture.progress old.capture.pending _ cut refl is.read given)
+ending events fed told writer old new status cut answer is ends wrote status_is outcome_is senders whole notes = record {
+  more = new.follower.told.items;
+  tells = record {
+    gathering = gathering;
+    cut = cut;
+    is_read = is.is_read;
+    wanted = is.wanted;
+    accepted = is.accepted;
+    steps = was.steps;
+    are_made = was.are_made;
+    each = was.each;
+    counts = was.counts;
+    ended = done.ended;
+    counts_last = done.counts;
+    rows = done.rows;
+    have_told = known untimed moment (told_in was.steps ++ done.ended) done.rows done.have_told;
+    all_last = λ timed. subst (λ (m : Option ℕ). IfSome m (λ t. AllLast speaker_cmp events.expiry t done.rows)) (when_timed untimed moment timed) done.all_last;
+    silent = was.silent;
+    silent_last = λ timed. subst (λ (m : Option ℕ). IfSome m (λ t. last_time (made_in was.steps) ≤ t → TellsSilent events t (made_in was.steps) (told_in was.steps ++ done.ended))) (when_timed untimed moment timed) done.silent;
+    opening = done.opening;
+    opens_last = done.opens;
+    opens = was.opens;
+    written_is = done.written_is;
+    senders = heard.0 ∙ ap with_packets is.has_heard.0;
+    heard = heard.1;
+    outcome_is = subst (λ (s : ℕ). IsOutcomeOf answer.outcome s gathering.report cut) status_is outcome_is;
+    whole = whole;
+    others = notes_until events (made_in was.steps) moment answer.other_sources untimed
+        (subst (λ (m : Option ℕ). NotesSome events m (made_in was.steps) answer.other_sources) same_moment
+        (notes (made_in was.steps) (still_since events (followed is.is_read.is_read.gathered.made) told (moment_of old.capture) old new ends was)
+        (subst (λ (m : List Made). KnowsOthers events m old.follower.other_sources) (sym was.are_made) is.has_heard.2)));
+  };
+  wrote = wrote;
+}
   where
     extent : Extent
     extent = followed_extent events
@@ -203,68 +284,31 @@ ending events fed told writer old new status cut answer is read accepted ends wr
     gathering : Gathering
     gathering = old.capture.progress.gathering
 
-    given : IsReadToCut extent fed gathering cut
-    given = subst (λ (e : Extent). IsReadToCut e fed gathering cut) is.limit (read fed (given_of old.capture extent fed is.no_fault is.limit is.read))
-
     untimed : Bool
-    untimed = old.capture.progress.gathering.report.timing.has_untimed
+    untimed = gathering.report.timing.has_untimed
 
     moment : Option ℕ
-    moment = moment_read events given.is_read.blocks gathering
+    moment = moment_read events is.is_read.is_read.blocks gathering
 
-    same_moment : given.is_read.blocks ≡ is.read.leads.blocks → moment_of old.capture ≡ (if untimed then None else moment)
-    same_moment blocks =
-        ap (λ (e : Extent). if untimed then None else moment_up_to e.window old.capture.progress.context.start old.capture.progress.gathering.report.timing.latest) is.limit
-        ∙ ap (λ (b : Before). if untimed then None else moment_up_to events.window b.start old.capture.progress.gathering.report.timing.latest)
-        (is.read.leads.context ∙ ap (context_behind (start extent)) (sym blocks))
+    same_moment : moment_of old.capture ≡ (if untimed then None else moment)
+    same_moment =
+        ap (λ (e : Extent). if untimed then None else moment_up_to e.window old.capture.progress.context.start gathering.report.timing.latest) is.limit
+        ∙ ap (λ (b : Before). if untimed then None else moment_up_to events.window b.start gathering.report.timing.latest) is.context
 
-    was : HasHeard events (followed is.read.leads.gathered.made) (told ++ old.follower.told.items) old.follower.hearing
+    was : HasHeard events (followed is.is_read.is_read.gathered.made) (told ++ old.follower.told.items) old.follower.hearing
     was = is.has_heard.1
 
-    by : (given.is_read.blocks ≡ is.read.leads.blocks) × (given.is_read.gathered.made ≡ is.read.leads.gathered.made) → Ends events fed told writer answer
-    by (blocks, made) =
-        let done = ended_by_then events (followed is.read.leads.gathered.made) told (if untimed then None else moment) old new
-        (subst (λ (m : Option ℕ). EndsAt events m old new) (same_moment blocks) ends) was in
-        let heard = heard_senders events (made_in was.steps) old was.heard answer.senders.items (with_packets old.follower.senders.senders.entries) senders in
-        record {
-          more = new.follower.told.items;
-          tells = record {
-            gathering = gathering;
-            cut = cut;
-            is_read = given;
-            wanted = is.wanted;
-            accepted = accepted;
-            steps = was.steps;
-            are_made = was.are_made ∙ ap followed (sym made);
-            each = was.each;
-            counts = was.counts;
-            ended = done.ended;
-            counts_last = done.counts;
-            rows = done.rows;
-            have_told = known untimed moment (told_in was.steps ++ done.ended) done.rows done.have_told;
-            all_last = λ timed. subst (λ (m : Option ℕ). IfSome m (λ t. AllLast speaker_cmp events.expiry t done.rows)) (when_timed untimed moment timed) done.all_last;
-            silent = was.silent;
-            silent_last = λ timed. subst (λ (m : Option ℕ). IfSome m (λ t. last_time (made_in was.steps) ≤ t → TellsSilent events t (made_in was.steps) (told_in was.steps ++ done.ended))) (when_timed untimed moment timed) done.silent;
-            opening = done.opening;
-            opens_last = done.opens;
-            opens = was.opens;
-            written_is = done.written_is;
-            senders = heard.0 ∙ ap with_packets (is.has_heard.0 ∙ ap senders_followed (sym made));
-            heard = heard.1;
-            outcome_is = subst (λ (s : ℕ). IsOutcomeOf answer.outcome s gathering.report cut) status_is outcome_is;
-            whole = whole;
-            others = notes_until events (made_in was.steps) moment answer.other_sources untimed
-                (subst (λ (m : Option ℕ). NotesSome events m (made_in was.steps) answer.other_sources) (same_moment blocks)
-                (notes (made_in was.steps) (still_since events (followed is.read.leads.gathered.made) told (moment_of old.capture) old new ends was)
-                (subst (λ (m : List Made). KnowsOthers events m old.follower.other_sources) (sym was.are_made) is.has_heard.2)));
-          };
-          wrote = wrote;
-        }
-      where
-        known : (no : Bool) (m : Option ℕ) (t : Tellings) (rows : Rows Speaker) → HaveTold events (if no then None else m) (made_in was.steps) t rows
-            → HaveTold events m (made_in was.steps) t rows
-        known true m t rows of = told_so events (made_in was.steps) m t rows of
-        known false m t rows of = of
+    done : HasEnded events (made_in was.steps) (if untimed then None else moment) was.steps (told ++ new.follower.told.items)
+    done = ended_by_then events (followed is.is_read.is_read.gathered.made) told (if untimed then None else moment) old new (subst (λ (m : Option ℕ). EndsAt events m old new) same_moment ends) was
+
+    heard : (map (λ (h : HeardSender). h.origin) answer.senders.items ≡ with_packets old.follower.senders.senders.entries)
+        × AllByRecursion (IsHeardSender events (made_in was.steps) gathering) answer.senders.items
+    heard = heard_senders events (made_in was.steps) old was.heard answer.senders.items (with_packets old.follower.senders.senders.entries) senders
+
+    known : (no : Bool) (m : Option ℕ) (t : Tellings) (rows : Rows Speaker) → HaveTold events (if no then None else m) (made_in was.steps) t rows
+        → HaveTold events m (made_in was.steps) t rows
+    known true m t rows of = told_so events (made_in was.steps) m t rows of
+    known false m t rows of = of
 
 -- ---- what has expired
 

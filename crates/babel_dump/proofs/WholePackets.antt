@@ -18,7 +18,7 @@ use Rattle.babel_table.specs.Bounds.{Bounds, start_of}
 use Rattle.babel_table.specs.DumpFault.{DumpFault, IsTruncated, RefusedBy, Refuses, StreamFault}
 use Rattle.babel_table.specs.Moments.{dump_of}
 use Rattle.babel_table.proofs.DumpLaws.{begins-more, header-more}
-use Rattle.babel_capture.specs.Blocks.{Sighting}
+use Rattle.babel_capture.specs.Passage.{Sighting}
 use Rattle.babel_capture.specs.Counts.{Made}
 use Rattle.babel_capture.specs.Findings.{Found, found, left, octets_found, passed, refused, untold}
 use Rattle.babel_capture.specs.Gathering.{AreMade}

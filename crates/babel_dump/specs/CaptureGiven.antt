@@ -1,11 +1,12 @@
 -- What readers gave, as captures. No RFC speaks of readers: these are this project's own.
-use Rattle.std.specs.Prelude.{ℕ, Bool, true, false, ◌≡◌, ◌⊎◌, if◌then◌else◌, List, ◌++◌}
+use Rattle.std.specs.Prelude.{ℕ, Bool, true, false, ◌≡◌, ◌⊎◌, if◌then◌else◌, List, ◌++◌, length}
 use Rattle.std.specs.Prelude.{Option, None, Some}
-use Rattle.babel_capture.specs.Blocks.{AreBlocks, BlockAt, context_behind, octets_of}
-use Rattle.babel_capture.specs.Blocks.{sightings_of, start}
-use Rattle.babel_capture.specs.Capture.{EndsShort, HasRead, IsReadToCut, State}
+use Rattle.babel_capture.specs.Blocks.{AreBlocks, BlockAt, IsPartial, context_behind, octets_of}
+use Rattle.babel_capture.specs.Blocks.{sightings_of, sightings_to_end, start}
+use Rattle.babel_capture.specs.Capture.{EndsLost, EndsShort, HasRead, IsReadToCut, State}
 use Rattle.babel_capture.specs.Counts.{Made}
 use Rattle.babel_capture.specs.Gathering.{AreMade, Gathering}
+use Rattle.babel_capture.specs.Passage.{Sighting}
 use Rattle.babel_capture.specs.Reading.{HasTaken, Stops}
 use Rattle.babel_capture.specs.Window.{Extent, moment_up_to}
 use Rattle.babel_capture.specs.declared.fault.Fault.{Fault}
@@ -77,14 +78,33 @@ abbrev pub Took : {S : Type 0} → (has : S → S → List Made → Type 0) → 
 Took {S} has old new made =
     (first : S) (before : List Made) → has first old before → has first new (before ++ made)
 
--- the octets begin with blocks of a capture, of whose packets this is made
+-- the octets begin with blocks of a capture, and this is made of what is seen at their packets, of
+-- the first of it
 pub record BeginsWith (reading : CaptureReading) (wanted : Wanted) (octets : List ℕ)
     (made : List Made) : Type 0 where
   pub blocks : List BlockAt
   pub rest : List ℕ
   pub whole : octets ≡ octets_of blocks ++ rest
   pub are_blocks : AreBlocks (start (extent_of reading)) 0 blocks
-  pub are_made : AreMade wanted (sightings_of blocks) made
+  pub front : List Sighting
+  pub back : List Sighting
+  pub parts : sightings_of blocks ≡ front ++ back
+  pub are_made : AreMade wanted front made
+
+-- the octets are blocks of a capture and then less than one, and this is made of what is seen at their
+-- packets and at their end, of the first of it
+pub record IsMadeToEnd (reading : CaptureReading) (wanted : Wanted) (octets : List ℕ)
+    (made : List Made) : Type 0 where
+  pub blocks : List BlockAt
+  pub rest : List ℕ
+  pub whole : octets ≡ octets_of blocks ++ rest
+  pub are_blocks : AreBlocks (start (extent_of reading)) 0 blocks
+  pub partial : IsPartial (context_behind (start (extent_of reading)) blocks)
+      (length (octets_of blocks)) rest
+  pub front : List Sighting
+  pub back : List Sighting
+  pub parts : sightings_to_end blocks ≡ front ++ back
+  pub are_made : AreMade wanted front made
 
 -- the packets of blocks with which the octets begin that the reader gave
 pub record TookSome {S : Type 0} (has : S → S → List Made → Type 0) (old new : S)
@@ -116,13 +136,21 @@ pub record EndsTooSoon (reader : CaptureInput) (octets : List ℕ) (fault : Faul
   pub short : EndsShort (extent_of reader.reading) reader.wanted octets fault
   pub not_accepted : reader.reading.accept_cut ≡ true → fault ≡ faults.NotCapture
 
--- the fault is that of the octets that the reader gave, however they go on; or they end too soon
+-- the octets, all that the reader had, end where fragments of a datagram are missing, which is
+-- refused
+pub record EndsIncomplete (reader : CaptureInput) (octets : List ℕ) (fault : Fault) : Type 0 where
+  pub all : GaveWhole reader octets
+  pub lost : EndsLost (extent_of reader.reading) reader.wanted octets fault
+
+-- the fault is that of the octets that the reader gave, however they go on; or they end too soon, or
+-- where fragments are missing
 pub record IsFaultOfCapture (reader : CaptureInput) (fault : Fault) : Type 0 where
   pub given : List ℕ
   pub gave : Gave reader.old reader.new given
   pub refused :
       Stops (extent_of reader.reading) reader.wanted given fault
       ⊎ EndsTooSoon reader given fault
+      ⊎ EndsIncomplete reader given fault
 
 -- what a reader of captures was fed is what the device gave, all that it had, and a sink took the
 -- packets of it

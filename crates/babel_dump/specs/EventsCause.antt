@@ -3,7 +3,7 @@ use Rattle.std.specs.Prelude.{ℕ, ◌≡◌, ◌≢◌, ◌^◌, ◌+◌, ◌<�
 use Rattle.std.specs.Prelude.{◌++◌, Contains, None, Option, Some, Err, length, map}
 use Rattle.std.specs.List.{AllByRecursion, flat_map}
 use Rattle.std.specs.Option.{is_some}
-use Rattle.babel_capture.specs.Capture.{CaptureFault, IsReadToCut}
+use Rattle.babel_capture.specs.Capture.{CaptureFault, EndsLost, IsReadToCut}
 use Rattle.babel_capture.specs.Counts.{Counts, Made}
 use Rattle.babel_capture.specs.Findings.{octets_found, origin_found, reason_left}
 use Rattle.babel_capture.specs.Gathering.{Gathering}
@@ -26,8 +26,9 @@ use Rattle.babel_table.specs.Counts.{Counts as Report}
 use Rattle.babel_timeline.specs.Refusing.{RefusesPacket, context_behind}
 use Rattle.babel_timeline.specs.Rows.{Rows}
 use Rattle.babel_timeline.specs.declared.telling.Telling.{Telling}
-use Rattle.babel_dump.specs.CaptureGiven.{BeginsWith, CaptureInput, GaveCapture, IsAccepted}
-use Rattle.babel_dump.specs.CaptureGiven.{IsFaultOfCapture, capture_from, made_in}
+use Rattle.babel_dump.specs.CaptureGiven.{BeginsWith, CaptureInput, GaveCapture, GaveWhole}
+use Rattle.babel_dump.specs.CaptureGiven.{IsAccepted, IsFaultOfCapture, IsMadeToEnd, capture_from}
+use Rattle.babel_dump.specs.CaptureGiven.{made_in}
 use Rattle.babel_dump.specs.Device.{Gave, InputState}
 use Rattle.babel_dump.specs.EventsRun.{HaveTold, IsHeardSender, IsReportOf, asked_by, followed_by}
 use Rattle.babel_dump.specs.EventsRun.{followed_extent, packets_heard, speaker_at, without_pair}
@@ -160,16 +161,25 @@ reading_by events = record {
   strict = events.strict;
 }
 
--- a record of the capture with which these octets begin, as far as its sender is followed, is
--- refused for this
-pub record RefusesRecord (events : Events) (octets : List ℕ) (trouble : Trouble) : Type 0 where
-  pub made : List Made
-  pub begins : BeginsWith (reading_by events) (followed_by events) octets made
+-- one of these records, as far as its sender is followed, is refused for this
+pub record RefusesOneOf (events : Events) (made : List Made) (trouble : Trouble) : Type 0 where
   pub front : List Made
   pub one : Made
   pub back : List Made
   pub are : followed made ≡ front ++ one ∷ back
   pub refused : IsRefused events front one trouble
+
+-- a record of the capture with which these octets begin is
+abbrev pub RefusesRecord : Events → List ℕ → Trouble → Type 0
+RefusesRecord events octets trouble =
+    (made : List Made) × BeginsWith (reading_by events) (followed_by events) octets made
+    × RefusesOneOf events made trouble
+
+-- one of all the records of a capture, which these octets are, is
+abbrev pub RefusesToEnd : Events → List ℕ → Trouble → Type 0
+RefusesToEnd events octets trouble =
+    (made : List Made) × IsMadeToEnd (reading_by events) (followed_by events) octets made
+    × RefusesOneOf events made trouble
 
 -- the last moment of a window, if it names one
 abbrev pub until_in : Window → Option Moment
@@ -247,7 +257,8 @@ RefusesPiece events octets = Stops (followed_extent events) (followed_by events)
 abbrev pub RefusesWhole : Events → List ℕ → Fault → Type 0
 RefusesWhole events octets fault =
     CaptureFault (followed_extent events) (followed_by events) octets fault
-    × (events.accept_cut ≡ true → fault ≡ capture_faults.NotCapture)
+    × (events.accept_cut ≡ true → (fault ≡ capture_faults.NotCapture)
+    ⊎ EndsLost (followed_extent events) (followed_by events) octets fault)
 
 -- of those who are followed none has a packet among these records
 abbrev pub HasNoPackets : List Made → Type 0
@@ -266,11 +277,12 @@ HasNobody events octets =
     (gathering : Gathering) × (whole : IsWhole events octets gathering)
     × HasNoPackets whole.is_read.is_read.gathered.made
 
--- with what is not read, which is told
+-- with what is not read, which is told; or with a record that is refused
 abbrev pub HasUnread : Events → List ℕ → Trouble → Type 0
 HasUnread events octets trouble =
-    (gathering : Gathering) × (whole : IsWhole events octets gathering)
-    × IsUnread events whole.is_read.is_read.gathered.made gathering trouble
+    ((gathering : Gathering) × (whole : IsWhole events octets gathering)
+    × IsUnread events whole.is_read.is_read.gathered.made gathering trouble)
+    ⊎ RefusesToEnd events octets trouble
 
 -- ---- of a run
 
@@ -284,12 +296,13 @@ GaveNobody reader =
     (gathering : Gathering) × (cut : Option ℕ) × (gave : GaveCapture reader gathering cut)
     × HasNoPackets (made_in gave)
 
--- it gave octets of which it is told so; or all that it had is not read whole
+-- it gave octets of which it is told so; or all that it had is not read whole, or refused
 abbrev pub GaveRefused : Events → CaptureInput → Trouble → Type 0
 GaveRefused events reader trouble =
     ((given : List ℕ) × Gave reader.old reader.new given × RefusesOctets events given trouble)
     ⊎ ((gathering : Gathering) × (cut : Option ℕ) × (gave : GaveCapture reader gathering cut)
     × IsUnread events (made_in gave) gathering trouble)
+    ⊎ ((given : List ℕ) × GaveWhole reader given × RefusesToEnd events given trouble)
 
 -- The cause of each fault of a run: of its reader, of what that gave, or of its writer.
 abbrev pub EventsCause : Events → (old new : InputState) → Output → Trouble → Type 0

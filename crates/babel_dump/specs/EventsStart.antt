@@ -36,10 +36,10 @@ abbrev pub IsNextRefused : Events → (front all : List Made) → Type 0
 IsNextRefused events front all = (one : Made) × (back : List Made) × (all ≡ front ++ one ∷ back)
     × ((trouble : Trouble) × IsRefused events front one trouble)
 
--- these are all records of a capture
+-- these are all records of a capture, also of datagrams of which fragments are missing at its end
 abbrev pub AreWhole : Events → (octets : List ℕ) → List Made → Type 0
 AreWhole events octets made = (gathering : Gathering) × (whole : IsWhole events octets gathering)
-    × (made ≡ followed whole.is_read.is_read.gathered.made)
+    × (made ≡ whole.is_read.is_read.gathered.made)
 
 -- The start of what is told of octets of a capture: what the first records tell, as far as their
 -- senders are followed. Behind these there may be something of the next only where that is refused,
@@ -48,6 +48,7 @@ pub record BeginsTold (events : Events) (octets : List ℕ) (written : List (Tel
     Type 0 where
   pub made : List Made
   pub begins : BeginsWith (reading_by events) (followed_by events) octets made
+      ⊎ AreWhole events octets made
   pub front : List Made
   pub back : List Made
   pub are : followed made ≡ front ++ back
@@ -56,7 +57,7 @@ pub record BeginsTold (events : Events) (octets : List ℕ) (written : List (Tel
   pub besides : List (Telling Speaker)
   pub written_is : written ≡ first ++ besides
   pub may : (besides ≡ []) ⊎ IsNextRefused events front (followed made)
-      ⊎ AreWhole events octets front
+      ⊎ (AreWhole events octets made × (back ≡ []))
 
 -- the writer took the first octets of the lines of what is told and the filter keeps
 pub record WroteSome (events : Events) (told : List (Telling Speaker)) (writer : Output) :

@@ -7,6 +7,8 @@ use Rattle.std.specs.BTreeSet.{BTreeSet, contains}
 use Rattle.std.specs.List.{filter, flat_map}
 use Rattle.std.specs.Map.{lookup}
 use Rattle.std.specs.Option.{option_or}
+use Rattle.babel_capture.specs.Blocks.{context_behind, start}
+use Rattle.babel_capture.specs.Capture.{IsReadToCut}
 use Rattle.babel_capture.specs.Counts.{Made}
 use Rattle.babel_capture.specs.Gathering.{Gathering, name_of}
 use Rattle.babel_capture.specs.Reading.{HasTaken}
@@ -371,6 +373,19 @@ pub record IsFollowed (events : Events) (fed : List ℕ) (written : List (Tellin
   pub events_are : followed.follower.events.now ≡ events
   pub sound : followed.follower.fault ≡ None
   pub has_heard : HasHeardFollowed events read.leads.gathered.made written followed.follower
+
+-- These octets are all of a capture that was followed, which is cut short here, if that is accepted.
+-- All of its records were heard, also those of datagrams of which fragments are missing at its end,
+-- and this was written before what is told and not written yet.
+pub record IsFollowedToEnd (events : Events) (fed : List ℕ) (written : List (Telling Speaker))
+    (cut : Option ℕ) (followed : Followed) : Type 0 where
+  pub is_read : IsReadToCut (followed_extent events) fed followed.capture.progress.gathering cut
+  pub accepted : events.accept_cut ≡ false → cut ≡ None
+  pub limit : followed.capture.limit ≡ followed_extent events
+  pub wanted : followed.capture.progress.gathering.wanted ≡ followed_by events
+  pub context : followed.capture.progress.context
+      ≡ context_behind (start (followed_extent events)) is_read.is_read.blocks
+  pub has_heard : HasHeardFollowed events is_read.is_read.gathered.made written followed.follower
 
 -- the line of what is told, with the name of its interface, if the filter keeps it
 abbrev pub named_event : Events → Gathering → Telling Speaker → List ℕ

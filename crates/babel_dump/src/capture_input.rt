@@ -55,12 +55,12 @@ pub(crate) fn read_capture<R: ByteIn, S: Sink>(
 {
     let mut capture = capture_for(alloc, &reading, wanted);
     feed_all(&mut capture, &reading, reader, sink)?;
+    let end = capture.end(sink)?;
+    let cut = accepted(end, reading.accept_cut)?;
+    refuse_left_out(reading.strict, &capture.gathered().report())?;
     let (moment, absence) = (capture.moment(), Absence::of(&capture, &reading.window));
-    let (gathered, cut) = capture.finish_at_cut()?;
-    let cut = accepted(cut, reading.accept_cut)?;
-    refuse_left_out(reading.strict, &gathered.report())?;
     Ok(CaptureRead {
-        gathered,
+        gathered: capture.into_gathered(),
         cut,
         moment,
         absence,

@@ -22,10 +22,10 @@ use crate::interfaces::interfaces_of;
 use crate::left_out::first_left_out;
 use crate::packet_feeder::PacketFeeder;
 use crate::reading::Reading;
-use babel_capture::Capture;
-use babel_table::Feeder;
+use babel_capture::{Capture, NoSink};
+use babel_table::TimedFeeder;
 use babel_tlv::Fault;
-use std::alloc::Global;
+use std::alloc::{AllocError, Global};
 
 /// Reads a capture to its end, or to its first fault, for the dump of a sender in it.
 pub(crate) fn read_captured<R: ByteIn>(
@@ -43,11 +43,11 @@ pub(crate) fn read_captured<R: ByteIn>(
     let mut capture = capture_for(alloc, &how, reading.wanted());
     let fed = feed_all(&mut capture, &how, reader, &mut packets);
     if let Some(fault) = packets.feeder.fault() {
-        return Err(dump_refused(alloc, reading, &capture, fed, fault));
+        return Err(dump_refused(alloc, reading, &mut capture, fed, fault));
     }
     fed?;
-    let notes = end_of(alloc, reading, &capture)?;
-    Ok(fed_by(reading, packets.feeder, capture.moment(), notes))
+    let notes = end_of(alloc, reading, &mut capture)?;
+    Ok(fed_by(reading, packets.feeder, capture.moment(), notes)?)
 }
 
 /// Why a capture is refused whose sender's packets have this fault, after what feeding it answered:
@@ -55,16 +55,16 @@ pub(crate) fn read_captured<R: ByteIn>(
 fn dump_refused(
     alloc: Global,
     reading: &Reading,
-    capture: &Capture,
+    capture: &mut Capture,
     fed: Result<(), InputFault>,
     fault: Fault,
 ) -> InputFault
-    requires { OnOk fed (capture.now.fault ≡ None) }
+    requires { OnOk fed (capture.old.fault ≡ None) }
     ensures { ((result ≡ InputFault.Dump fault)
-        × (fault ≢ Fault.Memory → IsToldAfter fed capture.now))
+        × (fault ≢ Fault.Memory → IsToldAfter fed capture.old))
         ⊎ (IsErrAnd fed (λ refusal. result ≡ refusal))
-        ⊎ (IsOkAnd fed (λ _. (octets : List ℕ) → HasRead capture.now octets
-        → EndsRefused reading.now capture.now octets result)) }
+        ⊎ (IsOkAnd fed (λ _. (octets : List ℕ) → HasRead capture.old octets
+        → EndsRefused reading.now capture.old capture.new octets result)) }
 {
     if fault == Fault::Memory {
         return InputFault::Dump(fault);
@@ -80,15 +80,24 @@ fn dump_refused(
     }
 }
 
-/// What the notes say of a capture that was fed whole, or why it is refused at its end.
-fn end_of(alloc: Global, reading: &Reading, capture: &Capture) -> Result<CaptureNotes, InputFault>
-    requires { capture.now.fault ≡ None }
-    ensures ok { IfOk result (λ notes. (fed : List ℕ) → HasRead capture.now fed
-        → EndsWith reading.now capture.now fed notes) }
-    ensures err { IfErr result (λ fault. (fed : List ℕ) → HasRead capture.now fed
-        → EndsRefused reading.now capture.now fed fault) }
+/// Ends a capture that was fed whole: what the notes say of it, or why it is refused at its end.
+/// Nothing of the dump is in datagrams of which fragments are missing.
+fn end_of(
+    alloc: Global,
+    reading: &Reading,
+    capture: &mut Capture,
+) -> Result<CaptureNotes, InputFault>
+    requires { capture.old.fault ≡ None }
+    ensures same { (capture.new.limit ≡ capture.old.limit)
+        × (capture.new.progress.context ≡ capture.old.progress.context) }
+    ensures ok { IfOk result (λ notes. (fed : List ℕ) → HasRead capture.old fed
+        → EndsWith reading.now capture.old capture.new fed notes) }
+    ensures one_place { IfOk result
+        (λ _. length capture.old.progress.gathering.senders ≡ 1) }
+    ensures err { IfErr result (λ fault. (fed : List ℕ) → HasRead capture.old fed
+        → EndsRefused reading.now capture.old capture.new fed fault) }
 {
-    let read_to = capture.cut()?;
+    let read_to = capture.end(&mut NoSink)?;
     let cut = accepted(read_to, reading.accept_cut)?;
     let report = capture.gathered().report();
     if is_one_place(capture.gathered()) {
@@ -126,22 +135,28 @@ fn not_one_place(alloc: Global, reading: &Reading, capture: &Capture) -> InputFa
 }
 
 /// What was read of a capture up to a moment, with these notes.
-fn fed_by(reading: &Reading, feeder: Feeder, moment: Option<u128>, notes: CaptureNotes) -> Fed
-    ensures feeder { result.feeder ≡ feeder }
-    ensures expired { result.expired ≡ expired reading.now.expiry moment }
-    ensures left_out { result.left_out ≡ first_left_out notes.report }
-    ensures notes { IfSome result.notes (λ said. (said.report ≡ notes.report) × (said.cut ≡ notes.cut)) }
-    ensures noted { is_some result.notes ≡ true }
+fn fed_by(
+    reading: &Reading,
+    feeder: TimedFeeder,
+    moment: Option<u128>,
+    notes: CaptureNotes,
+) -> Result<Fed, AllocError>
+    ensures feeder { IfOk result (λ fed. fed.feeder ≡ feeder) }
+    ensures expired { IfOk result (λ fed. fed.expired ≡ expired reading.now.expiry moment) }
+    ensures left_out { IfOk result (λ fed. fed.left_out ≡ first_left_out notes.report) }
+    ensures notes { IfOk result (λ fed. IfSome fed.notes
+        (λ said. (said.report ≡ notes.report) × (said.cut ≡ notes.cut))) }
+    ensures noted { IfOk result (λ fed. is_some fed.notes ≡ true) }
 {
     let expired = what_expired(reading.expiry, moment);
     let mut notes = notes;
     if let (None, Some(moment)) = (expired, moment) {
         notes.expired_rows = feeder.count_expired(moment);
     }
-    Fed {
-        feeder,
+    Ok(Fed {
+        feeder: feeder.into_feeder()?,
         expired,
         left_out: first_left_out(&notes.report),
         notes: Some(notes),
-    }
+    })
 }

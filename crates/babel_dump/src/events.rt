@@ -5,19 +5,20 @@ ghost use Rattle.std.specs.Prelude.{◌∷◌, None, IfErr, IfOk, OnErr, OnOk, f
 ghost use Rattle.std.specs.Prelude.{map};
 ghost use Rattle.std.specs.Prelude.{true, vec_capacity};
 ghost use Rattle.std.specs.List.{flat_map};
-ghost use Rattle.babel_capture.specs.Capture.{HasRead, IsReadToCut, moment_read};
+ghost use Rattle.babel_capture.specs.Capture.{moment_read};
 ghost use Rattle.babel_capture.specs.Counts.{Made};
 ghost use Rattle.babel_timeline.specs.declared.telling.Telling.{Telling as TellingSaid};
 ghost use Rattle.babel_dump.specs.Device.{HasRoomToCount, HasRoomToWrite};
 ghost use Rattle.babel_dump.specs.EventsCause.{EventsCause, Fails, HasNobody, HasUnread};
 ghost use Rattle.babel_dump.specs.EventsCause.{IsBackwards, IsTooLate, IsUnreadIn, RefusesOctets};
-ghost use Rattle.babel_dump.specs.EventsCause.{RefusesPiece, RefusesWhole, TellsFault, nameless};
+ghost use Rattle.babel_dump.specs.EventsCause.{RefusesPiece, RefusesToEnd, RefusesWhole};
+ghost use Rattle.babel_dump.specs.EventsCause.{TellsFault, nameless};
 ghost use Rattle.babel_dump.specs.EventsRun.{AreReadWhole, NotesSome, TellsEvents, WroteLines};
 ghost use Rattle.babel_dump.specs.EventsRun.{heard_status, since_in};
 ghost use Rattle.babel_dump.specs.EventsStart.{StartsEvents, WroteBehind, WroteSome};
 ghost use Rattle.babel_dump.specs.EventsStart.{WroteStart};
 ghost use Rattle.babel_dump.specs.Followed.{Ends, EndsAt, Goes, HasFollowed, IsFollowed};
-ghost use Rattle.babel_dump.specs.Followed.{KnowsOthers, Suits, named_event};
+ghost use Rattle.babel_dump.specs.Followed.{IsFollowedToEnd, KnowsOthers, Suits, named_event};
 ghost use Rattle.babel_dump.specs.FollowedSenders.{with_packets};
 ghost use Rattle.babel_dump.specs.HeardSenders.{heard_of, heard_told};
 ghost use Rattle.babel_dump.specs.Run.{output};
@@ -146,7 +147,7 @@ impl<'a> Followed<'a> {
             (R.state reader.new) (output (W.state writer.old) (W.state writer.new))) }
     {
         self.follow(events, reader, writer, says)?;
-        self.end(alloc, events, writer)
+        self.end(alloc, events, writer, says)
     }
 
     /// Reads the capture to its end, piece by piece.
@@ -291,11 +292,12 @@ impl<'a> Followed<'a> {
 
     /// Ends the capture, of which all was read: tells what has expired up to the moment that it was
     /// read to. One that is read strictly is refused then, if a sender has no Update.
-    fn end<W: ByteOut>(
+    fn end<W: ByteOut, S: Says>(
         &mut self,
         alloc: Global,
         events: &Events,
         writer: &mut W,
+        says: &mut S,
     ) -> Result<EventsOutcome, Trouble>
         requires few_failures { (W.state writer.old).failures < 2 ^ 64 - 1 }
         requires few_flushes { (W.state writer.old).flushes < 2 ^ 64 - 1 }
@@ -314,7 +316,7 @@ impl<'a> Followed<'a> {
             ((W.state writer.old).failures < (W.state writer.new).failures)
             (HasUnread events.now fed) trouble) }
     {
-        let cut = self.cut(events)?;
+        let cut = self.end_capture(events, says)?;
         let senders = self.senders(alloc)?;
         let status = self.status(events, &senders)?;
         self.expire(events)?;
@@ -420,17 +422,29 @@ impl<'a> Followed<'a> {
         }
     }
 
-    /// Where the capture is cut short, if that is accepted.
-    fn cut(&self, events: &Events) -> Result<Option<u64>, Trouble>
-        ensures ok { IfOk result (λ cut. (fed : List ℕ) → HasRead self.now.capture fed
-            → IsReadToCut self.now.capture.limit fed
-            self.now.capture.progress.gathering cut) }
-        ensures accepted { IfOk result (λ cut. events.now.accept_cut ≡ false → cut ≡ None) }
+    /// Ends the capture: datagrams of which fragments are missing are left out then. Where it is cut
+    /// short, if that is accepted.
+    fn end_capture<S: Says>(
+        &mut self,
+        events: &Events,
+        says: &mut S,
+    ) -> Result<Option<u64>, Trouble>
+        requires empty { self.old.buffer.items ≡ [] }
+        requires room { 2048 ≤ vec_capacity self.old.buffer }
+        ensures empty { self.new.buffer.items ≡ [] }
+        ensures room { 2048 ≤ vec_capacity self.new.buffer }
+        ensures ended { IfOk result (λ cut. (fed : List ℕ) (told : List (TellingSaid SpeakerSaid))
+            → IsFollowed events.now fed told self.old
+            → IsFollowedToEnd events.now fed told cut self.new) }
         ensures cause { IfErr result (λ trouble. (fed : List ℕ)
-            (told : List (TellingSaid SpeakerSaid)) → IsFollowed events.now fed told self.now
-            → Fails events.now (RefusesWhole events.now fed) ⊥ ⊥ ⊥ (λ _. ⊥) trouble) }
+            (told : List (TellingSaid SpeakerSaid)) → IsFollowed events.now fed told self.old
+            → Fails events.now (RefusesWhole events.now fed) ⊥ ⊥ ⊥
+            (RefusesToEnd events.now fed) trouble) }
     {
-        match self.capture.cut() {
+        let end = self.capture.end(&mut self.follower);
+        self.follower.say(self.capture.gathered(), says);
+        self.follower.fault()?;
+        match end {
             Ok(Some(at)) if !events.accept_cut => Err(of_capture(Fault::CutShort { at })),
             Ok(cut) => Ok(cut),
             Err(fault) => Err(of_capture(fault)),

@@ -64,8 +64,9 @@ const MAX_OCTETS: &str = "--max-octets";
 /// The recorder kept only a part of a datagram.
 const SNAPPED: &str = "tcpdump -s 0 keeps packets whole";
 
-/// A datagram came in fragments.
-const FRAGMENT: &str = "fragments are not put together, so their routes would be missing";
+/// Fragments of a datagram are missing.
+const FRAGMENT: &str = "its routes would be missing; record fragments, too: 'udp port 6696 or ip6 \
+                        proto 44', and of IPv4 ip[6:2] & 0x1fff != 0";
 
 /// A datagram is longer than its frame.
 const CUT_SHORT: &str = "the datagram is longer than the captured frame; take the capture as it \

@@ -7,6 +7,11 @@ use crate::spelling::Spelling;
 use babel_prefix::{Addr, Short};
 use std::fmt;
 
+/// What is said of frames of Linux cooked, version 1.
+const COOKED: &str =
+    "frames of Linux cooked, version 1, name no interface, so links can't be told apart; record \
+     with -y LINUX_SLL2, or, where a link has VLAN tags, on its interface";
+
 /// What there is to know of an input after the output. `Display` gives its words.
 #[derive(Clone, Copy)]
 pub enum Note {
@@ -64,11 +69,7 @@ impl fmt::Display for Note {
         match self {
             Note::Ignored(note) => write!(f, "{note}"),
             Note::LeftOut(note) => write!(f, "{note}"),
-            Note::Cooked => f.write_str(
-                "frames of Linux cooked, version 1, name no interface, so links can't be told \
-                 apart; record with -y LINUX_SLL2, or, where a link has VLAN tags, on its \
-                 interface",
-            ),
+            Note::Cooked => f.write_str(COOKED),
             Note::Sections(sections) => write!(
                 f,
                 "{sections} sections; the interfaces of each are others: mergecap makes them one"
@@ -84,12 +85,7 @@ impl fmt::Display for Note {
                     "too many senders at packet {packet}, and no more are followed"
                 )
             }
-            Note::ShortSpan { span, interval } => write!(
-                f,
-                "the capture spans {} s, the Interval is {} s: routes may be missing",
-                Hundredths(*span),
-                Hundredths(u64::from(*interval))
-            ),
+            Note::ShortSpan { span, interval } => write_short_span(f, *span, *interval),
             Note::Expired(routes) => write_expired(f, *routes),
             Note::NoUpdates => f.write_str("no Updates"),
             Note::NoIhus => f.write_str("no IHUs"),
@@ -125,6 +121,20 @@ impl fmt::Display for Hundredths {
             _ => write!(f, "{seconds}.{tenths}{hundredths}"),
         }
     }
+}
+
+/// Writes that a capture spans less than an Interval, both in hundredths of a second.
+fn write_short_span<W: fmt::Write>(
+    f: &mut fmt::Formatter<W>,
+    span: u64,
+    interval: u16,
+) -> fmt::Result {
+    write!(
+        f,
+        "the capture spans {} s, the Interval is {} s: routes may be missing",
+        Hundredths(span),
+        Hundredths(u64::from(interval))
+    )
 }
 
 /// Writes how many packets have octets after their bodies.

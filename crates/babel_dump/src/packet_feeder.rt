@@ -11,14 +11,14 @@ use crate::factor::Factor;
 use crate::input::Expired;
 use crate::reading::Reading;
 use babel_capture::{Record, Said, Sink, Time};
-use babel_table::{Feeder, Table};
+use babel_table::{Table, TimedFeeder};
 use babel_tlv::Fault;
 use std::alloc::Global;
 
 /// Feeds a feeder the packets that it takes, each with its time.
 #[derive(Drop)]
 pub(crate) struct PacketFeeder {
-    pub feeder: Feeder,
+    pub feeder: TimedFeeder,
 }
 
 impl PacketFeeder {
@@ -33,7 +33,7 @@ impl PacketFeeder {
         ensures err { IfErr result (λ fault. fault ≡ Fault.Memory) }
     {
         let factor = reading.expiry.unwrap_or(Factor::usual()).ten_millionths();
-        let feeder = Feeder::in_time(
+        let feeder = TimedFeeder::new(
             alloc,
             reading.limits,
             reading.mode,
@@ -79,9 +79,10 @@ impl PacketFeeder {
             → DumpFault self.feeder.limits self.feeder.mode self.feeder.sender (dump_of packets)
             fault) }
     {
+        let feeder = self.feeder.into_feeder()?;
         match expired {
-            Some(Expired { moment, .. }) => self.feeder.finish_at(moment),
-            None => self.feeder.finish(),
+            Some(Expired { moment, .. }) => feeder.finish_at(moment),
+            None => feeder.finish(),
         }
     }
 }

@@ -367,16 +367,18 @@ pub(crate) fn push_octet(buffer: &mut Vec<u8>, octet: u8)
     ensures text { buffer.new.items ≡ buffer.old.items ++ octet ∷ [] }
     ensures room { TookRoom buffer.old buffer.new 1 }
 {
-    buffer.push(octet).unwrap();
+    buffer.push_reserved(octet);
 }
 
-/// Appends a text.
+/// Appends a text, which is short.
 pub(crate) fn push_text(buffer: &mut Vec<u8>, text: &str)
     requires { HasRoom buffer.old (length text.now) }
     ensures text { buffer.new.items ≡ buffer.old.items ++ text.now }
     ensures room { TookRoom buffer.old buffer.new (length text.now) }
 {
-    push_octets(buffer, text.as_bytes());
+    for octet in text.as_bytes() {
+        push_octet(buffer, *octet);
+    }
 }
 
 /// Appends octets.

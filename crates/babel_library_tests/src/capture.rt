@@ -106,7 +106,7 @@ fn dump_of(
     for piece in rest.chunks(step.max(1)) {
         capture.feed(piece, &mut dump)?;
     }
-    capture.finish()?;
+    capture.finish(&mut dump)?;
     if dump.is_short {
         return Err(Fault::Memory);
     }

@@ -1,4 +1,4 @@
--- The sender is at several places, which are these.
+-- The sender is at one place at most, or at several, which are these.
 use Rattle.std.proofs.Common.{rules, arith, ◌≤◌, length, ap, subst, ◌∙◌}
 use Rattle.babel_capture.specs.Tallies.{Senders}
 use Rattle.babel_dump.specs.CaptureText.{places_of}
@@ -15,5 +15,12 @@ returns-then-len-gt1 g c = record {
     several = subst (λ (senders : Senders). 2 ≤ length senders) c.senders-senders.ensures (first_of (omega arith, search (rules, arith)));
     are = c.in_ok-interfaces.ensures ∙ ap places_of c.senders-senders.ensures;
   };
+  called = search rules;
+}
+
+pub returns : goal.returns
+returns g c = record {
+  made = (c.in_ok-read.ensures.made, subst (λ (senders : Senders). length senders ≤ 1) c.senders-senders.ensures (first_of (omega arith, search (rules, arith))));
+  cause = tt;
   called = search rules;
 }

@@ -1,7 +1,7 @@
 -- The tables are those of the packets that were read, and each fault has its cause.
 use Rattle.std.proofs.Common.{◌≡◌, ◌∙◌, None, Some, false, rules, subst, sym, true}
 use Rattle.std.proofs.lemmas.Result.{err_from_is_err_and}
-use Rattle.babel_capture.specs.Blocks.{sightings_of}
+use Rattle.babel_capture.specs.Blocks.{sightings_to_end}
 use Rattle.babel_capture.specs.Counts.{Counts}
 use Rattle.babel_dump.specs.CaptureGiven.{made_in}
 use Rattle.babel_dump.specs.CaptureRun.{CaptureCause, IsNoFault}
@@ -43,7 +43,7 @@ returns-in_default g c =
           | in_default-via-in_default w ↦ search rules
         ]);
         moment_is = read.moment_is;
-        whole = whole_made c.in_ok-read.read.gathered.wanted (sightings_of is.blocks) made is.gathered.taken.are_made;
+        whole = whole_made c.in_ok-read.read.gathered.wanted (sightings_to_end is.blocks) made is.gathered.taken.are_made;
         are_own = own_all c.args.self.now c.new-senders.result c.read_capture-read.new.sink made c.new-senders.ensures.each c.new-senders.ensures.none read.took c.if-senders.false;
       };
       cause = tt;

@@ -1,7 +1,7 @@
 use Rattle.std.proofs.Common.{◌<◌, ◌++◌, ap, subst, sym, ◌∙◌}
 use Rattle.babel_dump.specs.EventsRun.{WroteLines}
 use Rattle.babel_dump.specs.Run.{output}
-use Rattle.babel_dump.proofs.EventCauses.{err_exit, fails_so, of_backwards, of_fault, of_stop, piece_refused, record_in_piece, too_late}
+use Rattle.babel_dump.proofs.EventCauses.{err_exit, fails_so, of_backwards, of_fault, of_octets, of_stop, piece_refused, record_in_piece, too_late}
 use Rattle.babel_dump.proofs.StartLaws.{on_err_so}
 use Rattle.babel_dump.proofs.StartRuns.{start_before, start_in_piece, wrote_nothing, wrote_some}
 use Rattle.babel_dump.proofs.TakeLaws.{followed_on}
@@ -38,9 +38,9 @@ pub returns-in_err-fault-clause-cause : goal.returns-in_err-fault-clause-cause
 returns-in_err-fault-clause-cause g c =
     err_exit c.from_residual-in_err-fault.result c.from_residual-in_err-fault.ensures.1 (λ trouble same fed told is.
     let some = c.in_err-fault.ensures.some in
-    of_stop c.args.events.now (RefusesPiece c.args.events.now (fed ++ c.args.piece.now)) ⊥ ⊥ ((g.W.ByteOut.state c.args.writer.now).failures < (g.W.ByteOut.state c.write.new.writer).failures) (fed ++ c.args.piece.now) some.0 trouble (same ∙ some.2)
-    (λ not_memory. record_in_piece c.args.events.now fed c.args.piece.now told c.args.self.now is c.feed-fed.new.self c.feed-fed.new.sink some.0
-    (sym c.say.ensures.same.3 ∙ sym c.in_ok-write.ensures.same.3 ∙ some.1) not_memory c.feed-fed.result c.feed-fed.ensures.sunk (c.feed-fed.ensures.stopped is.no_fault) c.feed-fed.ensures.same.1))
+    of_stop c.args.events.now (RefusesPiece c.args.events.now (fed ++ c.args.piece.now)) ⊥ ⊥ ((g.W.ByteOut.state c.args.writer.now).failures < (g.W.ByteOut.state c.write.new.writer).failures) (RefusesOctets c.args.events.now (fed ++ c.args.piece.now)) some.0 trouble (same ∙ some.2)
+    (λ not_memory. of_octets c.args.events.now (fed ++ c.args.piece.now) some.0 (record_in_piece c.args.events.now fed told c.args.self.now is c.feed-fed.new.sink some.0
+    (sym c.say.ensures.same.3 ∙ sym c.in_ok-write.ensures.same.3 ∙ some.1) not_memory c.args.piece.now c.feed-fed.new.self c.feed-fed.result c.feed-fed.ensures.sunk (c.feed-fed.ensures.stopped is.no_fault) c.feed-fed.ensures.same.1)))
 
 pub returns-in-Err-clause-cause : goal.returns-in-Err-clause-cause
 returns-in-Err-clause-cause g c fed told is =

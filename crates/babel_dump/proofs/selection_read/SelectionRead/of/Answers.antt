@@ -1,7 +1,7 @@
 -- All that was read is of the packets that the sink took, and each fault has its cause.
 use Rattle.std.proofs.Common.{refl, rules, ◌≡◌, false, true}
 use Rattle.std.proofs.lemmas.Result.{err_from_is_err_and}
-use Rattle.babel_capture.specs.Blocks.{sightings_of}
+use Rattle.babel_capture.specs.Blocks.{sightings_to_end}
 use Rattle.babel_dump.specs.CaptureGiven.{made_in}
 use Rattle.babel_dump.specs.CaptureRun.{CaptureCause, IsNoFault}
 use Rattle.babel_dump.specs.Device.{InputState}
@@ -32,7 +32,7 @@ returns-clause-gave g c =
     let made = made_in read.gave.given in
     let sound : c.has_failed.result ≡ false = search rules in
     gave_selecting c.args.select.now _ c.new-selecting.result c.read_capture-read.new.sink _ read.gave read.moment_is
-    (whole_made c.in_ok-read.read.gathered.wanted (sightings_of is.blocks) made is.gathered.taken.are_made) read.took
+    (whole_made c.in_ok-read.read.gathered.wanted (sightings_to_end is.blocks) made is.gathered.taken.are_made) read.took
     c.new-selecting.ensures.select c.new-selecting.ensures.each c.new-selecting.ensures.tables c.new-selecting.ensures.ihus c.new-selecting.ensures.sources
     (c.has_failed.ensures.tables sound) (c.has_failed.ensures.links sound) (c.has_failed.ensures.updates sound)
     c.in_ok-refuse_left_out.ensures.none c.in_ok-refuse_silent.ensures.none refl refl refl
