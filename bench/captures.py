@@ -114,6 +114,13 @@ def write_senders(path, rng):
     write(path, made.pcap([]), records, rng)
 
 
+def write_zeros(path, rng):
+    """A packet, and zeros to the end, as a disk that was full leaves them."""
+    with open(path, "wb") as file:
+        file.write(made.pcap([]) + record_of(frame_of(babel(HELLO))))
+        file.truncate(OCTETS)
+
+
 # ---- captures whose times tell
 
 SECOND = made.SECOND
@@ -134,11 +141,11 @@ def update(key, interval=INTERVAL, metric=256):
     return fixed + address.to_bytes(octets, "big")
 
 
-def packets_of(updates):
-    """Packets of at most 1,400 octets with these Updates."""
+def packets_of(updates, most=MOST_BODY):
+    """Packets of at most so many octets with these Updates."""
     body = ROUTER_ID + NEXT_HOP
     for each in updates:
-        if len(body) + len(each) > MOST_BODY:
+        if len(body) + len(each) > most:
             yield babel(body)
             body = ROUTER_ID + NEXT_HOP
         body += each
@@ -184,6 +191,16 @@ def retracted(rng):
     """20,000 routes, all retracted at once, and announced again."""
     order = rng.sample(range(20_000), 20_000)
     return rounds(lambda turn: [WILDCARD, *map(update, order)])
+
+
+def fragments(_rng):
+    """20,000 routes, announced again and again in 4,600 packets of some 4,000 octets, each of which
+    comes in four fragments."""
+    packets = [made.udp(packet) for packet in packets_of(map(update, range(20_000)), 4_000)]
+    for number in range(4_600):
+        time = made.TIME + number * SECOND // 1_000
+        for piece in made.fragments(SENDER, packets[number % len(packets)], 126, number):
+            yield time, made.ethernet(piece)
 
 
 def many_tables(rng):
@@ -277,6 +294,7 @@ TIMED = (
     jumping,
     one_packet_each,
     rows_each,
+    fragments,
 )
 
 
@@ -307,6 +325,7 @@ def main():
         "one-sender.pcap": write_one_sender,
         "small-packets.pcapng": write_small_packets,
         "many-senders.pcap": write_senders,
+        "zeros.pcap": write_zeros,
     }.items():
         if options.only in name:
             write_one(folder / name, random_of(name.split(".")[0]))

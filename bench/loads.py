@@ -255,6 +255,21 @@ def write_shared(folder, name, rng, count):
     write_routes(folder / f"{name}-split.dump", halves + others)
 
 
+def write_apart(folder, rng):
+    """Two dumps of as many networks as there may be, each with every other one, so that they share
+    no row; and a million pairs, half of which the first answers."""
+    anns = announcements(rng, 20)
+    first, places = 1 << 24, range(MAX_ROWS)
+    for name, odd in (("apart", 0), ("apart-other", 1)):
+        networks = (first + (2 * place + odd << 8) for place in rng.sample(places, MAX_ROWS))
+        routes = [(4, network, 24, rng.choice(anns), None) for network in networks]
+        write_routes(folder / f"{name}.dump", routes)
+    with open(folder / "apart.pairs", "w", encoding="ascii") as file:
+        for _ in range(1_000_000):
+            to, source = first + rng.randrange(2 * MAX_ROWS << 8), rng.getrandbits(32)
+            file.write(f"{ipaddress.IPv4Address(to)} {ipaddress.IPv4Address(source)}\n")
+
+
 def write_many_sources(path, rng, count):
     """So many sources of one network, and as many hosts of another: of all that is answered nearly
     all is what the first destination answers for each source."""
@@ -571,6 +586,7 @@ def main():
     write_sources(folder / "sources.dump", random.Random(f"{seed} sources"))
     write_shared(folder, "shared", random.Random(f"{seed} shared"), 20_000)
     write_shared(folder, "shared-131k", random.Random(f"{seed} shared 131k"), 131_072)
+    write_apart(folder, random.Random(f"{seed} apart"))
     write_many_sources(folder / "many-sources.dump", random.Random(f"{seed} many sources"), 131_072)
     for size in (1, 2, 4):
         rng = random.Random(f"{seed} network or hosts {size}")

@@ -54,11 +54,12 @@ COMPARED = (
     ("hosts-ipv6", "hosts-ipv6"),
     ("hosts-from-hosts", "hosts-from-hosts-other"),
     ("deep", "deep-other"),
+    ("apart", "apart-other"),
     ("default-over-hosts", "default-over-hosts"),
     ("chains-64", "chains-64-other"),
     ("chains-256", "chains-256-other"),
 )
-NESTED = ("nested", "nested-sources")
+ASKED = ("nested", "nested-sources", "apart")
 COUNTED = (
     "restate-16k",
     "restate-64k",
@@ -76,7 +77,14 @@ MANY_DIFFERENCES = (
     "deepest-64k",
 )
 SIZES = (1, 4, 16, 64, 256)
-CAPTURES = ("frames.pcap", "one-sender.pcap", "small-packets.pcapng", "many-senders.pcap")
+CAPTURES = (
+    "frames.pcap",
+    "one-sender.pcap",
+    "small-packets.pcapng",
+    "many-senders.pcap",
+    "fragments.pcap",
+    "zeros.pcap",
+)
 TIMED = tuple(
     f"{name}.pcap"
     for name in (
@@ -113,7 +121,7 @@ def cases():
     yield "again", ["show", *FROM]
     for load in COUNTED:
         yield load, ["pairs", "--count", *FROM]
-    for load in NESTED:
+    for load in ASKED:
         yield load, ["lookup", "--each", f"{load}.pairs", *FROM]
     for load in SHARED:
         for command in (["pairs"], ["pairs", "--count"], ["normalise"]):

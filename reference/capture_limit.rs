@@ -17,8 +17,8 @@
 //!
 //! It reads blocks where they lie in one buffer, and each header of a frame where it lies in its
 //! block. Of a frame that has no Babel it reads some 20 octets; of one that has, its packet is
-//! copied once, into the dump, or its TLVs are read where they are: timeline.rs. It writes no notes
-//! and no hints.
+//! copied once, into the dump, or its TLVs are read where they are: timeline.rs. Fragments are put
+//! together in fragments.rs. It writes no notes and no hints.
 
 use std::collections::hash_map::{Entry, RandomState};
 use std::collections::HashMap;
@@ -30,9 +30,11 @@ use std::net::{Ipv4Addr, Ipv6Addr};
 use std::process::ExitCode;
 
 mod clock;
+mod fragments;
 mod timeline;
 
 use clock::{factor_of, seconds_text, Clock, Moment, Window};
+use fragments::{Came, Fragment, Known, Missing, Step, LIFETIME};
 use timeline::{Table, Tables, Timeline, View};
 
 const USUAL_OCTETS: u64 = 1 << 30;
@@ -46,6 +48,9 @@ const LISTED_PLACES: usize = 16;
 const MOST_ROUTES: u64 = 262_144;
 const BABEL_PORT: u16 = 6_696;
 const UDP: u8 = 17;
+const FRAGMENT: u8 = 44;
+/// ff02::1:6.
+const ROUTERS: u128 = 0xff02_0000_0000_0000_0000_0000_0001_0006;
 const UPDATE: u8 = 8;
 const INFINITY: u16 = 0xffff;
 
@@ -168,7 +173,7 @@ impl fmt::Display for Fault {
             Fault::NoTime(at) => write!(f, "packet without a time at {at}"),
             Fault::Dump(text, at) => write!(f, "{text} at {at}"),
             Fault::TooManyInterfaces(at) => write!(f, "too many interfaces at {at}"),
-            Fault::Lacking(at, Lack::Fragment) => write!(f, "datagram in fragments at {at}"),
+            Fault::Lacking(at, Lack::Fragment) => write!(f, "fragments of a datagram missing at {at}"),
             Fault::Lacking(at, Lack::CutShort) => write!(f, "datagram cut short at {at}"),
             Fault::Lacking(at, Lack::Snapped) => {
                 write!(f, "datagram cut by the recorder at {at}")
@@ -208,6 +213,7 @@ struct Reader {
     /// Which records are read, where a time is asked for.
     window: Option<Window>,
     start: Option<i128>,
+    known: Known,
     found: Found,
 }
 
@@ -452,6 +458,7 @@ impl Reader {
         let seen = look(described.link, part);
         let seen = seen.map_err(|Unread| Fault::UnreadLink(at, described.link))?;
         let time = stamp.and_then(|stamp| described.clock.time(stamp));
+        let (mut is_read, mut ends_within) = (true, true);
         if let Some(window) = &self.window {
             let Some(time) = time else {
                 return Err(match stamp {
@@ -463,12 +470,66 @@ impl Reader {
             if let Sink::Timeline(told) = &mut self.found.sink {
                 told.begin(start);
             }
-            if !window.has(start, time) {
-                return Ok(());
-            }
+            is_read = window.has(start, time);
+            ends_within = window.has(start, time + LIFETIME);
         }
-        self.found
-            .take(interface as u64, time, seen, &self.names, at)
+        for missing in self.known.give_up(time) {
+            self.found.miss(&missing)?;
+        }
+        let interface = interface as u64;
+        match seen {
+            Some(Seen { sender, link, vlans, what: What::Fragment(fragment) }) => {
+                let came = Came {
+                    place: Place { interface, link, vlans },
+                    sender,
+                    number: self.found.packets,
+                    at,
+                    ends_within,
+                };
+                self.take_fragment(&came, &fragment, time.filter(|_| is_read), is_read)
+            }
+            seen if is_read => self.found.take(interface, time, seen, &self.names, at),
+            _ => Ok(()),
+        }
+    }
+
+    /// Takes a fragment: the datagram comes with the last one that was missing.
+    fn take_fragment(
+        &mut self,
+        came: &Came,
+        fragment: &Fragment<'_>,
+        time: Option<i128>,
+        is_read: bool,
+    ) -> Result<(), Fault> {
+        let step = self.known.take(came, fragment);
+        if !is_read {
+            return Ok(());
+        }
+        if let Step::Overlaps(Some(missing)) = &step {
+            self.found.miss(missing)?;
+        }
+        let joined = match &step {
+            Step::Completes(joined) => joined.as_ref(),
+            _ => None,
+        };
+        let Place { interface, link, vlans } = came.place;
+        let ip = Ip {
+            sender: came.sender,
+            is_cut: false,
+        };
+        let seen = joined.and_then(|(octets, whole)| {
+            look_into_udp(ip, Part { octets, whole: *whole })
+        });
+        let seen = seen.map(|seen| Seen { link, vlans, ..seen });
+        self.found.take(interface, time, seen, &self.names, came.at)
+    }
+
+    /// Gives up the datagrams of which fragments are missing, where the capture ends.
+    fn end_fragments(&mut self) -> Result<(), Fault> {
+        for missing in self.known.give_up_all() {
+            self.found.miss(&missing)?;
+        }
+        Ok(())
     }
 }
 
@@ -509,6 +570,7 @@ enum What<'a> {
     /// It is none that routers read.
     Unread(Reason),
     Lacking(Lack),
+    Fragment(Fragment<'a>),
     Payload(&'a [u8]),
 }
 
@@ -604,7 +666,7 @@ fn look_into_ipv4(packet: Part<'_>) -> Option<Seen<'_>> {
     let header_len = 4 * usize::from(header[0] & 0x0f);
     let total_len = u16_at(header, 2).into();
     let fragment = u16_at(header, 6);
-    if header[0] >> 4 != 4 || header[9] != UDP || fragment & 0x1fff != 0 {
+    if header[0] >> 4 != 4 || header[9] != UDP {
         return None;
     }
     if header_len < 20 || total_len < header_len {
@@ -612,10 +674,24 @@ fn look_into_ipv4(packet: Part<'_>) -> Option<Seen<'_>> {
     }
     let ip = Ip {
         sender: Addr::V4(u32::from_be_bytes(octets_at(header, 12))),
-        is_fragment: fragment & 0x2000 != 0,
         is_cut: packet.whole < total_len,
     };
-    look_into_udp(ip, packet.first(total_len).after(header_len))
+    let part = packet.first(total_len).after(header_len);
+    if fragment & 0x3fff == 0 {
+        return look_into_udp(ip, part);
+    }
+    let destination = u32::from_be_bytes(octets_at(header, 16));
+    let said = Fragment {
+        destination: Addr::V4(destination),
+        identification: u16_at(header, 4).into(),
+        offset: 8 * usize::from(fragment & 0x1fff),
+        more: fragment & 0x2000 != 0,
+        len: part.whole,
+        octets: part.octets,
+        udp: None,
+        is_to_group: destination == 0xe000_006f,
+    };
+    look_into_fragment(ip, said, UDP, part)
 }
 
 /// RFC 8200, 3, 4.
@@ -626,40 +702,89 @@ fn look_into_ipv6(packet: Part<'_>) -> Option<Seen<'_>> {
     if header[0] >> 4 != 6 {
         return None;
     }
-    let mut part = packet.after(40).first(len);
-    let mut number = header[6];
-    let mut is_fragment = false;
+    let ip = Ip {
+        sender: Addr::V6(u128::from_be_bytes(octets_at(header, 8))),
+        is_cut: packet.whole < 40 + len,
+    };
+    let (number, part) = past_extensions(header[6], packet.after(40).first(len));
+    match (number, part.octets.first_chunk::<8>()) {
+        (UDP, _) => look_into_udp(ip, part),
+        (FRAGMENT, Some(extension)) => {
+            let destination = u128::from_be_bytes(octets_at(header, 24));
+            let (field, part) = (u16_at(extension, 2), part.after(8));
+            let said = Fragment {
+                destination: Addr::V6(destination),
+                identification: u32::from_be_bytes(octets_at(extension, 4)),
+                offset: usize::from(field & 0xfff8),
+                more: field & 1 != 0,
+                len: part.whole,
+                octets: part.octets,
+                udp: None,
+                is_to_group: destination == ROUTERS && extension[0] == UDP,
+            };
+            look_into_fragment(ip, said, extension[0], part)
+        }
+        _ => None,
+    }
+}
+
+/// What stands after up to eight extension headers, and its number. An atomic fragment has one of
+/// them (RFC 6946).
+#[inline(always)]
+fn past_extensions(mut number: u8, mut part: Part<'_>) -> (u8, Part<'_>) {
     for _ in 0..MOST_EXTENSIONS {
         let Some(extension) = part.octets.first_chunk::<8>() else {
             break;
         };
         let len = match number {
             0 | 43 | 60 => 8 * (usize::from(extension[1]) + 1),
-            44 if u16_at(extension, 2) & 0xfff8 == 0 => {
-                is_fragment |= extension[3] & 1 != 0;
-                8
-            }
+            FRAGMENT if u16_at(extension, 2) & 0xfff9 == 0 => 8,
             _ => break,
         };
         number = extension[0];
         part = part.after(len);
     }
-    if number != UDP {
-        return None;
-    }
-    let ip = Ip {
-        sender: Addr::V6(u128::from_be_bytes(octets_at(header, 8))),
-        is_fragment,
-        is_cut: packet.whole < 40 + len,
-    };
-    look_into_udp(ip, part)
+    (number, part)
 }
 
-/// What IP says of what it carries: whether it is the first of several fragments, and whether there
-/// should be more of it than its frame had.
+/// A fragment that can be a part of a datagram, the first of which has all headers up to that of
+/// UDP: RFC 7112, 5.
+fn look_into_fragment<'a>(
+    ip: Ip,
+    mut said: Fragment<'a>,
+    number: u8,
+    part: Part<'a>,
+) -> Option<Seen<'a>> {
+    if ip.is_cut || !said.is_sound() {
+        return None;
+    }
+    if said.offset == 0 {
+        let (number, upper) = past_extensions(number, part);
+        if number == FRAGMENT {
+            return None;
+        }
+        if number == UDP && upper.whole >= 8 {
+            if upper.octets.len() < 4 {
+                return None;
+            }
+            let ports = [u16_at(upper.octets, 0), u16_at(upper.octets, 2)];
+            if ports.contains(&BABEL_PORT) {
+                said.udp = Some((part.whole - upper.whole, ports == [BABEL_PORT; 2]));
+            }
+        }
+    }
+    Some(Seen {
+        sender: ip.sender,
+        link: None,
+        vlans: 0,
+        what: What::Fragment(said),
+    })
+}
+
+/// What IP says of what it carries: whose it is, and whether there should be more of it than its
+/// frame had.
 struct Ip {
     sender: Addr,
-    is_fragment: bool,
     is_cut: bool,
 }
 
@@ -678,8 +803,6 @@ fn look_into_udp(ip: Ip, part: Part<'_>) -> Option<Seen<'_>> {
         What::Unread(Reason::OtherPort)
     } else if !ip.sender.may_send() {
         What::Unread(Reason::NotLinkLocal)
-    } else if ip.is_fragment {
-        What::Lacking(Lack::Fragment)
     } else if ip.is_cut {
         What::Lacking(Lack::CutShort)
     } else {
@@ -948,12 +1071,13 @@ impl Found {
                 return Err(Fault::Lacking(at, lack));
             }
             What::Lacking(lack) => Err(lack.reason()),
+            What::Fragment(_) => return Ok(self.pass()),
             What::Payload(payload) => packet_of(payload),
         };
         let packet = match packet {
             Ok(packet) => packet,
             Err(reason) => {
-                self.leave_out(reason);
+                self.leave_out(reason, self.packets);
                 return Ok(self.pass());
             }
         };
@@ -985,9 +1109,29 @@ impl Found {
         }
     }
 
-    fn leave_out(&mut self, reason: Reason) {
-        let counted = &mut self.left_out[reason as usize];
-        counted.get_or_insert((0, self.packets)).0 += 1;
+    /// A datagram of which fragments are missing.
+    fn miss(&mut self, missing: &Missing) -> Result<(), Fault> {
+        let Missing { number, at, place, sender, is_of_routers } = *missing;
+        let is_wanted = self.wanted.sender.is_none_or(|wanted| sender == wanted)
+            && self.wanted.place.is_none_or(|on| on == place);
+        if !is_wanted {
+            return Ok(());
+        }
+        let reason = match (is_of_routers, sender.may_send()) {
+            (false, _) => Reason::OtherPort,
+            (true, false) => Reason::NotLinkLocal,
+            (true, true) if self.wanted.sender.is_some() => {
+                return Err(Fault::Lacking(at, Lack::Fragment));
+            }
+            (true, true) => Reason::Fragment,
+        };
+        Ok(self.leave_out(reason, number))
+    }
+
+    fn leave_out(&mut self, reason: Reason, number: u64) {
+        let (count, first) = self.left_out[reason as usize].get_or_insert((0, number));
+        *count += 1;
+        *first = number.min(*first);
     }
 
     fn count(&mut self, origin: Origin, sent: Tally, at: u64) -> Result<(), Fault> {
@@ -1133,7 +1277,7 @@ fn read_capture(
         let needed = loop {
             let rest = &octets[start..end];
             match reader.block_len(rest, at) {
-                Err(Fault::Blank(_)) if accept_cut => return Ok(()),
+                Err(Fault::Blank(_)) if accept_cut => return Ok(reader.end_fragments()?),
                 Err(fault) => return Err(fault.into()),
                 Ok(None) => break 0,
                 Ok(Some(len)) if len > rest.len() => break len,
@@ -1165,7 +1309,7 @@ fn read_capture(
     if end > 0 && !accept_cut {
         return Err(Fault::CutShort(at).into());
     }
-    Ok(())
+    Ok(reader.end_fragments()?)
 }
 
 // ---- the program
@@ -1306,6 +1450,7 @@ impl Words {
             names: Vec::new(),
             window: self.window()?,
             start: None,
+            known: Known::new(),
             found: Found::new(wanted, sink),
         })
     }

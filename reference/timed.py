@@ -137,7 +137,7 @@ def frame(rng, senders, encodings):
     if kind == 0:
         return made.MACS + b"\x08\x06" + bytes(28)
     datagram = made.udp(packet(rng, encodings), source=6_697 if kind == 1 else made.BABEL)
-    how = {"headers": [made.fragment_header(0, True)]} if kind == 2 and ":" in sender else {}
+    how = {"length": 9_000} if kind == 2 and ":" in sender else {}
     how["to"] = rng.choice(DESTINATIONS[6 if ":" in sender else 4])
     whole = rng.choice(FRAMES if rng.randrange(2) else FRAMES[:1])(
         made.ip(sender, datagram, **how) if rng.randrange(40) else made.ip(sender, datagram[:12])

@@ -40,7 +40,16 @@ def ip(sender, carried, **how):
     return (ipv4 if sender.version == 4 else ipv6)(sender, carried, **how)
 
 
-def ipv4(sender, carried, options=b"", fragment=0, total=None, protocol=17, to=GROUP[4]):
+def ipv4(
+    sender,
+    carried,
+    options=b"",
+    fragment=0,
+    total=None,
+    protocol=17,
+    to=GROUP[4],
+    identification=0x1234,
+):
     """RFC 791, 3.1; the options are of whole words."""
     words, total = (
         5 + len(options) // 4, 20 + len(options) + len(carried) if total is None else total
@@ -48,7 +57,7 @@ def ipv4(sender, carried, options=b"", fragment=0, total=None, protocol=17, to=G
     head = (
         bytes((0x40 + words, 0xC0))
         + number(total)
-        + b"\x12\x34"
+        + number(identification)
         + number(fragment)
         + bytes((1, protocol))
         + b"\0\0"
@@ -81,9 +90,24 @@ ROUTING = extension(43, 2, b"\x04\x00")
 DESTINATION = extension(60, 1, b"\x01\x0c")
 
 
-def fragment_header(offset, more, reserved=0):
+def fragment_header(offset, more, reserved=0, identification=7):
     """RFC 8200, 4.5."""
-    return 44, b"\0" + number(offset * 8 + reserved * 2 + more) + b"\0\0\0\x07"
+    flags = number(offset * 8 + reserved * 2 + more)
+    return 44, b"\0" + flags + number(identification, 4)
+
+
+def fragments(sender, carried, size, identification):
+    """The packets of the fragments of a datagram, each but the last with so many units of 8
+    octets."""
+    units = range(0, (len(carried) + 7) // 8, size)
+    for offset in units:
+        part, more = carried[8 * offset : 8 * (offset + size)], 8 * (offset + size) < len(carried)
+        if ipaddress.ip_address(sender).version == 4:
+            flags = 0x2000 * more + offset
+            yield ip(sender, part, fragment=flags, identification=identification)
+        else:
+            header = fragment_header(offset, more, identification=identification)
+            yield ip(sender, part, headers=[header])
 
 
 # ---- frames

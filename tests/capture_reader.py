@@ -16,6 +16,8 @@ import math
 import re
 from dataclasses import dataclass, field
 
+from reassembly import LIFETIME, Fragment, Known
+
 USUAL_OCTETS = 1 << 30
 MOST_INTERFACES = MOST_SENDERS = 65_536
 LONGEST_PACKET = 262_144
@@ -37,7 +39,7 @@ REASONS = (
 )
 # What refuses a capture whose dump lacks such a datagram.
 LACKS = {
-    "fragment": "datagram in fragments",
+    "fragment": "fragments of a datagram missing",
     "cut-short": "datagram cut short",
     "snapped": "datagram cut by the recorder",
 }
@@ -86,7 +88,7 @@ class Packet:
 @dataclass
 class Seen:
     """A datagram from or to Babel's port: whole, with its payload and where it is sent, or the
-    reason why it is not read."""
+    reason why it is not read; its link and VLANs."""
 
     sender: object
     what: str
@@ -120,6 +122,7 @@ class Found:
     trailers: collections.Counter = field(default_factory=collections.Counter)
     sections: set = field(default_factory=set)
     names: list = field(default_factory=list)
+    known: Known = field(default_factory=Known)
     cut: int = None
     met: set = None
     not_followed: int = None
@@ -326,7 +329,7 @@ def seen_in(link, frame, whole):
         if len(frame) >= 2 and big(frame, 0, 2) not in (IPV4, IPV6, *TAGS):
             return OTHER
         seen = after_type(frame, 0, 20, whole)
-        if isinstance(seen, Seen):
+        if isinstance(seen, (Seen, Fragment)):
             seen.link = big(frame, 4, 4)
         return seen
     if link in (0, 108):
@@ -356,7 +359,7 @@ def after_type(frame, place, header, whole):
     if kind in TAGS and len(frame) < 4:
         return SHORT
     seen = {IPV4: in_ipv4, IPV6: in_ipv6}.get(kind, lambda *_: OTHER)(frame, whole)
-    if isinstance(seen, Seen):
+    if isinstance(seen, (Seen, Fragment)):
         seen.vlans = vlans
     return seen
 
@@ -368,25 +371,42 @@ def in_ipv4(packet, whole):
     header = 4 * (packet[0] % 16)
     if packet[0] >> 4 != 4 or header < 20:
         return OTHER
-    if len(packet) < 4:
-        return SHORT
-    total = big(packet, 2, 2)
-    if total < header + 4:
-        return OTHER
-    if len(packet) < 8:
-        return SHORT
-    fragment = big(packet, 6, 2)
-    if fragment % 0x2000:
-        return OTHER
     if len(packet) < 10:
         return SHORT
     if packet[9] != UDP:
         return OTHER
     if len(packet) < 20:
         return SHORT
+    total, flags = big(packet, 2, 2), big(packet, 6, 2)
     ends = [ipaddress.IPv4Address(packet[at : at + 4]) for at in (12, 16)]
-    carried, length = packet[:total][header:], total - header
-    return in_udp(*ends, bool(fragment & 0x2000), total > whole, carried, length)
+    carried, length = packet[:total][header:], max(total - header, 0)
+    offset, more = flags % 0x2000 * 8, bool(flags & 0x2000)
+    if offset or more:
+        piece = Fragment(*ends, big(packet, 4, 2), offset, more, length, carried)
+        return in_fragment(piece, total > whole, UDP)
+    return in_udp(*ends, total > whole, carried, length)
+
+
+# How many octets tell what comes after an extension header.
+TELLING = {0: 2, 43: 2, 60: 2, 44: 4}
+
+
+def past_headers(number, carried, length):
+    """RFC 8200, 4: the header after at most eight extension headers, its octets, and how many there
+    were. A fragment header is skipped where the fragment is all of the packet (RFC 6946)."""
+    for _ in range(8):
+        if len(carried) < TELLING.get(number, math.inf):
+            break
+        if number == 44 and (big(carried, 2, 2) & 0xFFF9):
+            break
+        header = 8 if number == 44 else 8 + 8 * carried[1]
+        number, carried, length = carried[0], carried[header:], max(length - header, 0)
+    return number, carried, length
+
+
+def is_unkept(number, carried, length):
+    """The recorder did not keep what tells what comes after this header."""
+    return len(carried) < TELLING.get(number, 0) <= length
 
 
 def in_ipv6(packet, whole):
@@ -397,30 +417,79 @@ def in_ipv6(packet, whole):
         return OTHER
     if len(packet) < 7:
         return SHORT
-    number, said = packet[6], big(packet, 4, 2)
-    carried, length, is_fragment = packet[40 : 40 + said], said, False
-    telling = {0: 2, 43: 2, 60: 2, 44: 4}
-    for _ in range(8):
-        if number not in telling or len(carried) < telling[number]:
-            break
-        if number == 44:
-            if big(carried, 2, 2) >= 8:
-                break
-            header = 8
-            is_fragment = is_fragment or carried[3] % 2 == 1
-        else:
-            header = 8 + 8 * carried[1]
-        number, carried, length = carried[0], carried[header:], max(length - header, 0)
+    said = big(packet, 4, 2)
+    number, carried, length = past_headers(packet[6], packet[40 : 40 + said], said)
+    ends = [ipaddress.IPv6Address(packet[at : at + 16].ljust(16, b"\0")) for at in (8, 24)]
+    if number == 44:
+        if length < 8:
+            return OTHER
+        if len(packet) < 40 or len(carried) < 8:
+            return SHORT
+        flags = big(carried, 2, 2)
+        offset, more = flags & 0xFFF8, bool(flags & 1)
+        piece = Fragment(*ends, big(carried, 4, 4), offset, more, length - 8, carried[8:])
+        return in_fragment(piece, 40 + said > whole, carried[0])
     if number != UDP:
-        unkept = number in telling and len(carried) < telling[number] <= length
-        return SHORT if unkept else OTHER
+        return SHORT if is_unkept(number, carried, length) else OTHER
     if len(packet) < 40:
         return OTHER if length < 4 else SHORT
-    ends = [ipaddress.IPv6Address(packet[at : at + 16]) for at in (8, 24)]
-    return in_udp(*ends, is_fragment, 40 + said > whole, carried, length)
+    return in_udp(*ends, 40 + said > whole, carried, length)
 
 
-def in_udp(sender, destination, is_fragment, is_cut, carried, whole):
+def in_fragment(piece, is_cut, number):
+    """RFC 791, 3.2; RFC 8200, 4.5: a fragment that carries what has this number; of the first one
+    also where UDP begins (RFC 7112, 5)."""
+    if is_cut or piece.end > 0xFFFF:
+        return OTHER
+    if piece.length % 8 or not piece.length if piece.more else not piece.offset:
+        return OTHER
+    piece.is_to_group = number == UDP and piece.destination == GROUP[piece.destination.version]
+    if piece.offset:
+        return piece
+    upper, carried, length = past_headers(number, piece.octets, piece.length)
+    if upper == UDP and length >= 8:
+        if len(carried) < 4:
+            return SHORT
+        ports = big(carried, 0, 2), big(carried, 2, 2)
+        if BABEL in ports:
+            piece.udp = piece.length - length, ports == (BABEL, BABEL)
+    elif is_unkept(upper, carried, length):
+        return SHORT
+    elif upper == 44:
+        return OTHER
+    return piece
+
+
+# The groups that routers send to: RFC 8966, 4.
+GROUP = {4: ipaddress.ip_address("224.0.0.111"), 6: ipaddress.ip_address("ff02::1:6")}
+
+
+def missing(datagram):
+    """What a datagram is of which fragments are missing."""
+    first, udp = datagram.first, datagram.udp or (0, datagram.first.is_to_group)
+    if not datagram.udp and not first.is_to_group:
+        return OTHER
+    reason = "fragment"
+    if not udp[1]:
+        reason = "other-port"
+    elif first.sender.version == 6 and not first.sender.is_link_local:
+        reason = "not-link-local"
+    return Seen(first.sender, reason, link=first.link, vlans=first.vlans)
+
+
+def put_together(datagram):
+    """What a datagram is that is whole."""
+    first = datagram.first
+    if not datagram.udp:
+        return OTHER
+    at = datagram.udp[0]
+    seen = in_udp(first.sender, first.destination, False, datagram.joined()[at:], datagram.end - at)
+    if isinstance(seen, Seen):
+        seen.link, seen.vlans = first.link, first.vlans
+    return seen
+
+
+def in_udp(sender, destination, is_cut, carried, whole):
     """RFC 768; RFC 8966, 4: a datagram of which IP carries so many octets, of which these were
     kept."""
     if whole < 4:
@@ -434,8 +503,6 @@ def in_udp(sender, destination, is_fragment, is_cut, carried, whole):
         return Seen(sender, "other-port")
     if sender.version == 6 and not sender.is_link_local:
         return Seen(sender, "not-link-local")
-    if is_fragment:
-        return Seen(sender, "fragment")
     if is_cut:
         return Seen(sender, "cut-short")
     if whole < 6:
@@ -649,8 +716,6 @@ def find(octets, limit, wanted, accept_cut, window=None, found=None):
     found, number = Found() if found is None else found, 0
     for packet in until_blank(packets(octets, limit, found.names), len(octets) <= limit, accept_cut):
         if isinstance(packet, int):
-            if not accept_cut:
-                raise Fault(f"capture cut short at {packet}")
             found.cut = packet
             break
         number += 1
@@ -663,16 +728,35 @@ def find(octets, limit, wanted, accept_cut, window=None, found=None):
         found.start = time if found.start is None else found.start
         if window:
             window.refuse_backwards(found.start)
-        if window and not window.has(found.start, time):
-            continue
-        take(found, packet, number, wanted)
-        found.records.append((number, time))
+        for datagram in found.known.give_up(time):
+            miss(found, datagram, wanted)
+        seen = seen_in(packet.link, packet.frame, packet.whole)
+        is_read = window is None or window.has(found.start, time)
+        if isinstance(seen, Fragment):
+            counts = window is None or window.has(found.start, time + LIFETIME)
+            seen = put(found, packet, seen, number, counts, wanted if is_read else None)
+        if is_read:
+            take(found, packet, seen, number, wanted)
+            found.records.append((number, time))
+    for datagram in found.known.give_up_all():
+        miss(found, datagram, wanted)
+    if found.cut is not None and not accept_cut:
+        raise Fault(f"capture cut short at {found.cut}")
     return found
 
 
-def take(found, packet, number, wanted):
-    """What is found with this packet, which has such a number in its capture."""
-    seen = seen_in(packet.link, packet.frame, packet.whole)
+def put(found, packet, fragment, number, counts, wanted):
+    """What is seen at a packet that is a fragment, and has such a number in its capture: the
+    datagram that it completes. One of a packet that is skipped is put to the others, too."""
+    place = packet.interface, fragment.link, fragment.vlans
+    step, datagram = found.known.take(place, fragment, number, packet.at, counts)
+    if step == "overlaps" and wanted:
+        miss(found, datagram, wanted)
+    return put_together(datagram) if step == "completes" else OTHER
+
+
+def take(found, packet, seen, number, wanted):
+    """What is found with this packet, which is seen so, and has such a number in its capture."""
     found.short += seen == SHORT
     if not isinstance(seen, Seen):
         return
@@ -682,8 +766,6 @@ def take(found, packet, number, wanted):
     if not wanted(seen.sender, place):
         return
     origin, reason = (place, seen.sender.version, int(seen.sender)), seen.what
-    if reason in LACKS and wanted.names:
-        raise Fault(f"{LACKS[reason]} at {packet.at}")
     if reason == "whole":
         babel, reason = packet_in(seen.payload)
     if found.met is not None and (not reason or reason in LACKS):
@@ -692,8 +774,7 @@ def take(found, packet, number, wanted):
             return
         found.met.add(origin)
     if reason:
-        found.left_out.setdefault(reason, []).append(number)
-        found.unread.append((origin, number, reason, len(found.records)))
+        leave_out(found, origin, number, reason, packet.at, wanted)
         return
     if origin not in found.packets and len(found.packets) == MOST_SENDERS:
         raise Fault(f"too many senders at {packet.at}")
@@ -702,6 +783,22 @@ def take(found, packet, number, wanted):
     found.sent.append((origin, babel, len(found.records), seen.destination))
     found.cooked += packet.link == 113
     found.trailers[origin] += len(babel) < len(seen.payload)
+
+
+def miss(found, datagram, wanted):
+    """A datagram of which fragments are missing."""
+    seen = missing(datagram)
+    if isinstance(seen, Seen) and wanted(seen.sender, datagram.place):
+        origin = datagram.place, seen.sender.version, int(seen.sender)
+        leave_out(found, origin, datagram.number, seen.what, datagram.at, wanted)
+
+
+def leave_out(found, origin, number, reason, at, wanted):
+    """A datagram is left out, of which the first block is at this offset."""
+    if reason in LACKS and wanted.names:
+        raise Fault(f"{LACKS[reason]} at {at}")
+    found.left_out.setdefault(reason, []).append(number)
+    found.unread.append((origin, number, reason, len(found.records)))
 
 
 @dataclass

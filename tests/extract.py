@@ -3,6 +3,7 @@ reader of captures."""
 
 import concurrent.futures
 import functools
+import itertools
 import os
 import random
 import resource
@@ -558,6 +559,74 @@ def snapped_cases():
     )
 
 
+FRAMES = {"no tag": made.ethernet, "two tags": tagged(0x88A8, 0x8100)}
+
+
+def fragment_cases():
+    """Datagrams in fragments: of some sizes, in some order, several at once, some twice; and what
+    is not whole, or overlaps."""
+    rng = random.Random(63)
+    packets = made.packets_of(dump_of())
+    for sender, (tags, frame_of), turn in itertools.product(
+        (SENDER, OVER_IPV4), FRAMES.items(), range(4)
+    ):
+        parts, order = fragmented(rng, sender, packets, frame_of)
+        whole = made.pcap(records_of(b"".join(packets[at] for at in order), sender, frame_of))
+        what = f"fragments with {tags}, {sender}, {turn}"
+        capture = made.pcap([made.Record(part) for part in parts])
+        case = extract_of(what, capture, sender)
+        assert case.answer.output == reader.extract(whole, sender).output, what
+        yield case
+        yield senders_of(what, capture)
+        lost = rng.randrange(len(parts))
+        capture = made.pcap([made.Record(part) for part in parts[:lost] + parts[lost + 1 :]])
+        yield from both_of(f"{what}, one lost", capture, sender)
+        yield extract_of(f"{what}, one lost of another", capture, OTHER)
+        yield from both_of(f"{what}, one cut", with_one(rng, parts, lambda part: part[:-8]), sender)
+        yield from both_of(f"{what}, one other", with_one(rng, parts, changed_last), sender)
+        yield from fragments_in_time(what, parts, sender)
+
+
+def fragments_in_time(what, parts, sender):
+    """The same at the times of their packets, a second apart, or twenty, up to a moment, and from
+    it on: a datagram came when its last fragment did."""
+    records = [made.Record(part) for part in parts]
+    for apart in 1, 20:
+        times = [(1_700_000_000 + apart * at, 0) for at in range(len(records))]
+        capture = made.pcap(records, times=times)
+        for moment in f"+{apart * len(records) // 2}", f"+{apart * (len(records) - 1)}":
+            yield senders_of(f"{what}, {apart} s, from {moment}", capture, since=moment)
+            yield senders_of(f"{what}, {apart} s, until {moment}", capture, until=moment)
+            yield extract_of(f"{what}, {apart} s, until {moment}", capture, sender, until=moment)
+            yield extract_of(f"{what}, {apart} s, from {moment}", capture, sender, since=moment)
+
+
+def fragmented(rng, sender, packets, frame_of):
+    """The frames of the fragments of datagrams, of which a few come at a time, in any order, and
+    one of ten twice, unless it is all of its datagram; and the order in which these are whole."""
+    waiting, frames, order = [], [], []
+    for at, packet in enumerate(packets):
+        pieces = list(made.fragments(sender, made.udp(packet), rng.randrange(1, 40), at))
+        waiting += [(at, frame_of(piece), len(pieces) > 1) for piece in pieces]
+        rng.shuffle(waiting)
+        room = rng.randrange(20) if at < len(packets) - 1 else 0
+        while len(waiting) > room:
+            one, frame, is_part = waiting.pop()
+            frames += [frame, frame] if is_part and rng.random() < 0.1 else [frame]
+            order += [one] if all(one != other for other, *_ in waiting) else []
+    return frames, order
+
+
+def changed_last(frame):
+    return frame[:-1] + bytes((frame[-1] ^ 1,))
+
+
+def with_one(rng, parts, change):
+    """A capture of these frames, and of one of them that is changed, after them."""
+    one = rng.choice(parts)
+    return made.pcap([made.Record(part) for part in [*parts, change(one)]])
+
+
 def broken_cases():
     """Octets that are no capture, and blocks that can't be."""
     record, *_ = records_of(dump_of())
@@ -834,6 +903,7 @@ def cases_of(tally):
     yield from time_cases()
     yield from version_cases()
     yield from snapped_cases()
+    yield from fragment_cases()
     yield from broken_cases()
     yield from limit_cases()
     yield from cut_cases()

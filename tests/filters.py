@@ -15,7 +15,7 @@ from checks import DRILL, ROUTERS, TOP
 from extract import NOISE, OVER_IPV4, SENDER, dump_of, linked, noise, records_of, tagged
 
 DOCUMENTS = "*.md", "docs/*.md", "docs/*.1", "examples/**/*.md", "crates/babel_dump/src/*.rt"
-QUOTED = re.compile(r"(['`])([a-z0-9()\s]*\budp port 6696\b[a-z0-9()\s]*)\1")
+QUOTED = re.compile(r"(['`])([a-z0-9()\s]*\budp port 6696\b[a-z0-9()\[\]:&!=\s]*)\1")
 ROFF = {"\\(aq": "'", "\\-": "-"}
 SECONDS = 60
 
@@ -52,39 +52,42 @@ def filters():
     return [(file.relative_to(TOP), found) for file in files for found in filters_in(file)]
 
 
-def fragments_of(packet, frame_of):
+def fragments_of(packet, frame_of, over_ipv4):
     """A packet of Babel in two fragments, over IPv6 and over IPv4."""
     whole = made.udp(packet)
     cut = len(whole) // 2 // 8 * 8
     parts = (whole[:cut], 0, True), (whole[cut:], cut // 8, False)
     for part, offset, more in parts:
         yield frame_of(made.ip(SENDER, part, headers=[made.fragment_header(offset, more)]))
-        yield frame_of(made.ip(OVER_IPV4, part, fragment=more * 0x2000 + offset))
+        if over_ipv4:
+            yield frame_of(made.ip(OVER_IPV4, part, fragment=more * 0x2000 + offset))
 
 
-def in_frames(frame_of):
+def in_frames(frame_of, over_ipv4):
     """The records of a dump over IPv6 and over IPv4, whole and in fragments."""
     dump = dump_of()
     yield from records_of(dump, SENDER, frame_of)
     yield from records_of(dump, OVER_IPV4, frame_of)
     for packet in made.packets_of(dump)[:9]:
-        yield from map(made.Record, fragments_of(packet, frame_of))
+        yield from map(made.Record, fragments_of(packet, frame_of, over_ipv4))
 
 
-def captures():
-    """What each capture has, whether its frames may be tagged, and the capture."""
+def captures(over_ipv4):
+    """What each capture has, whether its frames may be tagged, and the capture; with fragments over
+    IPv4, or without."""
+    framed = functools.partial(in_frames, over_ipv4=over_ipv4)
     for file in ROUTERS / "babeld-basic-a.pcap", DRILL / "drill.pcap":
         yield file.name, False, file.read_bytes()
-    yield "Ethernet", False, made.pcap(list(in_frames(made.ethernet)))
+    yield "Ethernet", False, made.pcap(list(framed(made.ethernet)))
     yield "other datagrams", False, made.pcap(list(map(noise, NOISE)))
-    yield "cooked", False, made.pcap(list(in_frames(made.cooked)), 113)
-    yield "cooked, version 2", False, made.pcap(list(in_frames(linked(3))), 276)
-    yield "raw IP", False, made.pcap(list(in_frames(lambda packet: packet)), 101)
+    yield "cooked", False, made.pcap(list(framed(made.cooked)), 113)
+    yield "cooked, version 2", False, made.pcap(list(framed(linked(3))), 276)
+    yield "raw IP", False, made.pcap(list(framed(lambda packet: packet)), 101)
     null = functools.partial(made.after_family, ipv6=30)
-    yield "null", False, made.pcap(list(in_frames(null)), 0)
+    yield "null", False, made.pcap(list(framed(null)), 0)
     for tags in TAGS:
-        yield f"the tags {tags}", True, made.pcap(list(in_frames(tagged(*tags))))
-    in_turn = [list(in_frames(tagged(*tags))) for tags in (NO_TAG, *TAGS)]
+        yield f"the tags {tags}", True, made.pcap(list(framed(tagged(*tags))))
+    in_turn = [list(framed(tagged(*tags))) for tags in (NO_TAG, *TAGS)]
     mixed = [record for records in zip(*in_turn) for record in records]
     yield "frames with and without tags", True, made.pcap(mixed)
 
@@ -126,7 +129,8 @@ def lost(found, capture):
 
 
 def check_filter(tally, file, found, over):
-    for what, may_have_tags, capture in over:
+    """A filter that asks for later fragments of IPv4 is for them."""
+    for what, may_have_tags, capture in over["ip[6:2]" in found]:
         if is_for(found, may_have_tags, capture):
             tally.check(f"{file}: '{found}' over {what}", lost(found, capture))
 
@@ -139,9 +143,9 @@ def check(tally, _long):
     if shutil.which("tcpdump") is None:
         print("filters: there is no command tcpdump on the PATH; they are not tried", flush=True)
         return
-    over = list(captures())
+    over = {over_ipv4: list(captures(over_ipv4)) for over_ipv4 in (False, True)}
     for file, found in given:
         check_filter(tally, file, found, over)
     for found in LOSE:
-        is_told = any(lost(found, capture) for _, _, capture in over if is_ethernet(capture))
+        is_told = any(lost(found, capture) for _, _, capture in over[True] if is_ethernet(capture))
         tally.check(f"'{found}' loses datagrams", "" if is_told else "no capture tells")
