@@ -1,43 +1,18 @@
 //! How the routes of two tables differ.
-ghost use Rattle.std.specs.Prelude.{◌≡◌, IfOk, List, take};
+ghost use Rattle.std.specs.Prelude.{◌≡◌};
 ghost use Rattle.std.specs.Iterator.{YieldsFirst};
-ghost use Rattle.babel_canon.specs.Joined.{differ, differences_left, joined_left};
+ghost use Rattle.babel_canon.specs.Joined.{differ, differences_left, differing, joined_left};
 ghost use Rattle.babel_canon.specs.Routes.{AreRouteDifferences};
-ghost use Rattle.babel_canon.specs.declared.every_difference.Difference.{Difference};
 
 use crate::every_difference::Difference;
 use babel_table::{Table, TableRows};
 use babel_tlv::{Held, Key};
-use std::alloc::{AllocError, Global};
 use std::cmp::Ordering;
 
-/// The keys for which two tables hold different things, with what they hold, by family, IPv4 first,
-/// then by destination, then by source.
-pub fn route_differences(
-    alloc: Global,
-    left: &Table,
-    right: &Table,
-) -> Result<Vec<Difference>, AllocError>
-    ensures { IfOk result (λ list. AreRouteDifferences left.now.rows right.now.rows list.items) }
-{
-    RouteDifferences::of(left, right).collect(alloc)
-}
-
-/// The first of them alone, if there is one. The others are not looked for.
-pub fn first_route_difference(
-    alloc: Global,
-    left: &Table,
-    right: &Table,
-) -> Result<Vec<Difference>, AllocError>
-    ensures { IfOk result (λ first. (list : List Difference)
-        × AreRouteDifferences left.now.rows right.now.rows list × (first.items ≡ take 1 list)) }
-{
-    RouteDifferences::of(left, right).take(1).collect(alloc)
-}
-
-/// The keys that are left for which two tables hold different things, with what they hold.
+/// The keys that are left for which two tables hold different things, with what they hold, by
+/// family, IPv4 first, then by destination, then by source. They are looked for one by one.
 #[derive(Clone, Copy)]
-pub(crate) struct RouteDifferences<'a> {
+pub struct RouteDifferences<'a> {
     left: TableRows<'a>,
     right: TableRows<'a>,
 }
@@ -54,8 +29,9 @@ fn differ(left: &Option<Held>, right: &Option<Held>) -> bool
 
 impl<'a> RouteDifferences<'a> {
     /// Those of these two tables.
-    fn of(left: &'a Table, right: &'a Table) -> RouteDifferences<'a>
-        ensures { AreRouteDifferences left.now.rows right.now.rows (differences_left result) }
+    pub fn of(left: &'a Table, right: &'a Table) -> RouteDifferences<'a>
+        ensures are { AreRouteDifferences left.now.rows right.now.rows (differences_left result) }
+        ensures value { differences_left result ≡ differing left.now.rows right.now.rows }
     {
         RouteDifferences {
             left: left.rows(),

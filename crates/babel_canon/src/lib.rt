@@ -13,9 +13,9 @@
 //!   one family. — `differences`, `difference_count` · *ok*, *few*, *err*;
 //!   `laws::differences_are_one` · *one*, *many*; `differences_are_boxes` · *none*, *first*,
 //!   *fewest*
-//! - The keys for which two tables hold what differs are listed in order, each once, with what both
-//!   hold, in one list, empty exactly where their rows are equal. — `route_differences`,
-//!   `first_route_difference`; `laws::route_differences_are_one` · *one*, *none*
+//! - The keys for which two tables hold what differs are given in order, each once, with what both
+//!   hold, in one list, empty exactly where their rows are equal. — `RouteDifferences::of` · *are*;
+//!   `laws::route_differences_are_one` · *one*, *none*
 //! - Pairs have one canonical text for each body size, from 128 to 65,535 octets. —
 //!   `laws::text_is_one`; `Body::new` · *fits*, *value*
 //! - What a view sees of rows answers what it sees of their answers, so tables are the same under
@@ -44,7 +44,7 @@ mod verdict;
 pub use body::Body;
 pub use canon::{Canon, canonical, canonical_octets, canonical_pairs, pair_count};
 pub use comparison::compare;
-pub use differing_routes::{first_route_difference, route_differences};
+pub use differing_routes::RouteDifferences;
 pub use every_difference::{Difference, difference_count, differences};
 pub use normal_form::{normalise, normalise_under};
 pub use pair_sink::PairSink;

@@ -1,28 +1,33 @@
 -- The lines of `diff`, one after the other.
-use Rattle.std.proofs.Common.{◌≡◌, ℕ, Bool, suc, ◌+◌, ◌<◌, List, [], ◌∷◌, ◌++◌, length, get_or, drop, drop-cons, flat_map, Result, Ok, Err}
-use Rattle.std.proofs.Common.{ap, subst, sym, ◌∙◌, append_assoc, append-nil, arith}
+use Rattle.std.proofs.Common.{◌≡◌, ℕ, Bool, List, [], ◌∷◌, ◌++◌, flat_map, Result, Ok, Err}
+use Rattle.std.proofs.Common.{ap, refl, subst, sym, ◌∙◌, append_assoc, append-nil}
 use Rattle.babel_tlv.specs.declared.view.View.{View}
 use Rattle.babel_canon.specs.declared.every_difference.Difference.{Difference}
 use Rattle.babel_dump.specs.Device.{OutputState}
 use Rattle.babel_dump.specs.DiffText.{change_text, marked_row}
 use Rattle.babel_dump.specs.Run.{output}
-use Rattle.babel_dump.specs.Slices.{Took, WroteFront}
+use Rattle.babel_dump.specs.Slices.{Broke, Took, WroteFront}
 use Rattle.babel_dump.specs.declared.run_fault.Side.TheVariants as sides
 use Rattle.babel_dump.specs.declared.style.Style.{Style}
-use Rattle.babel_dump.proofs.SenderLines.{took_with}
+use Rattle.babel_dump.proofs.SenderLines.{broke_at_line, took_line, took_with}
 use Rattle.babel_dump.proofs.SliceLaws.{broke_on, took_more}
 
-next : (i : ℕ) → suc i ≡ i + 1
-next i = omega arith
-
 -- the rows of the next difference come before those of the later ones
-pub next_change : (style : Style) (coloured : Bool) (view : View) (xs : List Difference) (i : ℕ) (x : Difference) → i < length xs → x ≡ get_or xs i x
-    → flat_map (change_text style coloured view) (drop i xs)
-    ≡ marked_row style coloured view sides.First x.key x.left ++ (marked_row style coloured view sides.Other x.key x.right ++ flat_map (change_text style coloured view) (drop (i + 1) xs))
-next_change style coloured view xs i x within is =
-    let rows = change_text style coloured view in
-    ap (flat_map rows) (drop-cons xs i x within ∙ ap (λ y. y ∷ drop (suc i) xs) (sym is)) ∙ ap (λ (k : ℕ). rows x ++ flat_map rows (drop k xs)) (next i)
-    ∙ append_assoc (marked_row style coloured view sides.First x.key x.left) (marked_row style coloured view sides.Other x.key x.right) (flat_map rows (drop (i + 1) xs))
+pub next_change : (style : Style) (coloured : Bool) (view : View) (left rest : List Difference) (x : Difference) → left ≡ x ∷ rest
+    → flat_map (change_text style coloured view) left
+    ≡ marked_row style coloured view sides.First x.key x.left ++ (marked_row style coloured view sides.Other x.key x.right ++ flat_map (change_text style coloured view) rest)
+next_change style coloured view left rest x is =
+    let rows = flat_map (change_text style coloured view) in
+    ap rows is ∙ append_assoc (marked_row style coloured view sides.First x.key x.left) (marked_row style coloured view sides.Other x.key x.right) (rows rest)
+
+-- the second of a difference's rows could not be written after the first
+pub broke_second : (style : Style) (coloured : Bool) (view : View) (left rest : List Difference) (x : Difference) → left ≡ x ∷ rest → (a b c d : OutputState) (text had then : List ℕ)
+    → Took (output a b) text (had ++ flat_map (change_text style coloured view) left) → Took (output b c) (had ++ marked_row style coloured view sides.First x.key x.left) then
+    → Broke (output c d) (then ++ marked_row style coloured view sides.Other x.key x.right) → Broke (output a d) text
+broke_second style coloured view left rest x is a b c d text had then took first broke =
+    let second = marked_row style coloured view sides.Other x.key x.right in
+    let later = flat_map (change_text style coloured view) rest in
+    broke_at_line a c d text then (second ++ later) second later (took_line a b c text had then _ _ (second ++ later) took (next_change style coloured view left rest x is) first) refl broke
 
 -- a row was put after what is left
 pub took_row : (a b : OutputState) (had left row now : List ℕ) → Took (output a b) had left → now ≡ left ++ row → Took (output a b) (had ++ row) now

@@ -3,6 +3,7 @@ use Rattle.std.specs.Prelude.{ℕ, ◌≡◌, ◌⊎◌, List, [], ◌++◌, Res
 use Rattle.std.specs.Result.{IsErrAnd}
 use Rattle.std.specs.List.{flat_map}
 use Rattle.babel_dump.specs.CaptureText.{senders_in}
+use Rattle.babel_dump.specs.Changes.{changes_of}
 use Rattle.babel_dump.specs.Command.{IsOfMemory}
 use Rattle.babel_dump.specs.DiffText.{change_text}
 use Rattle.babel_dump.specs.Filter.{kept_rows}
@@ -23,7 +24,8 @@ use Rattle.babel_dump.specs.declared.slices.Rows.TheVariants as rows
 -- the lines that name two dumps, and the rows that they hold differently
 abbrev pub diff_lines : Style → DiffRows → List ℕ
 diff_lines style diff =
-    diff.heads.items ++ flat_map (change_text style diff.coloured diff.view) diff.list.items
+    diff.heads.items
+    ++ flat_map (change_text style diff.coloured diff.view) (changes_of diff.changes)
 
 -- a line for each row
 abbrev pub lines_of : Format → Rows → List ℕ
@@ -31,7 +33,7 @@ lines_of format (rows.Table filter view table) = pairs_in format view (kept_rows
 lines_of format (rows.Pairs filter view pairs) = pairs_in format view (kept_rows filter pairs)
 lines_of format (rows.Answers with_prefix pairs table) = each_in format with_prefix table pairs.items
 lines_of format (rows.Differences view differences) =
-    flat_map (difference_in format view) differences.items
+    flat_map (difference_in format view) (changes_of differences)
 lines_of format (rows.Diff diff) = diff_lines (style_of format) diff
 lines_of format (rows.Senders gathered) = senders_in format gathered
 lines_of format rows.Empty = []

@@ -6,6 +6,7 @@ ghost use Rattle.babel_dump.specs.Parts.{Says};
 ghost use Rattle.babel_dump.specs.DiffText.{head_lines};
 ghost use Rattle.babel_dump.specs.Command.{Tells};
 
+use crate::changes::Changes;
 use crate::diff::{head_lines, stat_after};
 use crate::diff_rows::DiffRows;
 use crate::format::Format;
@@ -64,23 +65,23 @@ pub(crate) fn found_all_rows(
         table.now.rows) 1)) }
 {
     let outcome = Outcome::of_dump(1, *table.report());
-    let list = lone_rows(alloc, side, table)?;
+    let changes = Changes::Listed(lone_rows(alloc, side, table)?);
     let rows = first_rows(side, table.rows().len());
     match format {
         Format::Text(of_text) => {
-            let after = stat_after(alloc, format, style.stat, rows, &list)?;
+            let after = stat_after(alloc, format, style.stat, rows, &changes)?;
             let heads = head_lines(alloc, of_text, file, other_file, reading, other_reading)?;
             let diff = DiffRows {
                 heads,
                 coloured: style.coloured,
                 view,
-                list,
+                changes,
             };
             Ok(Found::rows(Rows::Diff(diff), after, outcome))
         }
         Format::Json(_) => {
-            let after = stat_after(alloc, format, style.stat, rows, &list)?;
-            let lines = Rows::Differences(view, list);
+            let after = stat_after(alloc, format, style.stat, rows, &changes)?;
+            let lines = Rows::Differences(view, changes);
             Ok(Found::rows(lines, after, outcome))
         }
     }

@@ -1,5 +1,7 @@
 //! `diff`: the rows that two dumps hold differently, as text that people read, or as JSON.
 ghost use Rattle.std.specs.Prelude.{◌≡◌, ◌++◌, IfErr, IfOk, OnOk, filter, is_none, length};
+ghost use Rattle.babel_canon.specs.Joined.{differing};
+ghost use Rattle.babel_dump.specs.Changes.{changes_of};
 ghost use Rattle.babel_dump.specs.Command.{IsOfMemory, TellsRoutes};
 ghost use Rattle.babel_dump.specs.DiffText.{diff_in, diff_text, head_line, head_lines};
 ghost use Rattle.babel_dump.specs.DiffText.{place_text, stat_after, stat_in, stat_json, stat_text};
@@ -9,8 +11,8 @@ ghost use Rattle.babel_dump.specs.SlicedRows.{lines_of};
 ghost use Rattle.babel_dump.specs.Slices.{HasRoom, TookRoom};
 
 use crate::both::SeenTables;
+use crate::changes::Changes;
 use crate::diff_rows::DiffRows;
-use crate::differences::differences_status;
 use crate::format::Format;
 use crate::job::DiffStyle;
 use crate::key_name::push_name_text;
@@ -21,7 +23,7 @@ use crate::reading::Reading;
 use crate::run_fault::RunFault;
 use crate::slices::{Found, Rows};
 use crate::style::Style;
-use babel_canon::{Difference, route_differences};
+use babel_canon::Difference;
 use babel_capture::Place;
 use babel_tlv::View;
 use std::alloc::{AllocError, Global};
@@ -39,26 +41,55 @@ pub(crate) fn found_diff(
     format: &Format,
     file: &str,
     other_file: &str,
-    seen: &SeenTables,
+    seen: SeenTables,
 ) -> Result<Found, RunFault>
     ensures ok { IfOk result (Says format.now (TellsRoutes (diff_in format.now style view
         (head_lines (style_of format.now) file.now other_file.now reading other_reading))
-        seen.now.left seen.now.right)) }
+        seen.left seen.right)) }
     ensures err { IfErr result IsOfMemory }
 {
-    let list = route_differences(alloc, &seen.left, &seen.right)?;
-    let outcome = seen.outcome(differences_status(list.len()));
+    let outcome = seen.compared_routes();
+    let (rows, after) = told_rows(
+        alloc,
+        reading,
+        other_reading,
+        view,
+        style,
+        format,
+        file,
+        other_file,
+        seen,
+    )?;
+    Ok(Found::rows(rows, after, outcome))
+}
+
+/// The lines of what differs, and the text after them.
+fn told_rows(
+    alloc: Global,
+    reading: Reading,
+    other_reading: Reading,
+    view: View,
+    style: DiffStyle,
+    format: &Format,
+    file: &str,
+    other_file: &str,
+    seen: SeenTables,
+) -> Result<(Rows, Vec<u8>), AllocError>
+    ensures { IfOk result (λ found. lines_of format.now found.0 ++ found.1.items
+        ≡ diff_in format.now style view
+        (head_lines (style_of format.now) file.now other_file.now reading other_reading)
+        (length seen.left.rows) (differing seen.left.rows seen.right.rows)) }
+{
     let rows = seen.left.rows().len();
+    let changes = Changes::OfRoutes(seen);
     match format {
         Format::Text(of_text) => {
             let heads = head_lines(alloc, of_text, file, other_file, reading, other_reading)?;
-            let (lines, after) = diff_rows(alloc, view, style, format, heads, rows, list)?;
-            Ok(Found::rows(lines, after, outcome))
+            diff_rows(alloc, view, style, format, heads, rows, changes)
         }
         Format::Json(_) => {
-            let after = stat_after(alloc, format, style.stat, rows, &list)?;
-            let lines = Rows::Differences(view, list);
-            Ok(Found::rows(lines, after, outcome))
+            let after = stat_after(alloc, format, style.stat, rows, &changes)?;
+            Ok((Rows::Differences(view, changes), after))
         }
     }
 }
@@ -71,20 +102,20 @@ fn diff_rows(
     format: &Format,
     heads: Vec<u8>,
     rows: usize,
-    list: Vec<Difference>,
+    changes: Changes,
 ) -> Result<(Rows, Vec<u8>), AllocError>
     ensures { IfOk result (λ found. lines_of format.now found.0 ++ found.1.items
-        ≡ diff_text format.now style view heads.items rows list.items) }
+        ≡ diff_text format.now style view heads.items rows (changes_of changes)) }
 {
-    if list.is_empty() {
+    if changes.is_empty() {
         return Ok((Rows::Empty, Vec::new(alloc)));
     }
-    let after = stat_after(alloc, format, style.stat, rows, &list)?;
+    let after = stat_after(alloc, format, style.stat, rows, &changes)?;
     let diff = DiffRows {
         heads,
         coloured: style.coloured,
         view,
-        list,
+        changes,
     };
     Ok((Rows::Diff(diff), after))
 }
@@ -151,14 +182,20 @@ pub(crate) fn stat_after(
     format: &Format,
     stat: bool,
     rows: usize,
-    list: &[Difference],
+    changes: &Changes,
 ) -> Result<Vec<u8>, AllocError>
-    ensures { IfOk result (λ text. text.items ≡ stat_after format.now stat rows list.now) }
+    ensures { IfOk result (λ text. text.items
+        ≡ stat_after format.now stat rows (changes_of changes.now)) }
 {
-    if stat {
-        stat_output(alloc, format, rows, list)
-    } else {
-        Ok(Vec::new(alloc))
+    if !stat {
+        return Ok(Vec::new(alloc));
+    }
+    match changes {
+        Changes::Listed(list) => stat_output(alloc, format, rows, list),
+        Changes::OfRoutes(seen) => {
+            let list: Vec<Difference> = seen.route_differences().collect(alloc)?;
+            stat_output(alloc, format, rows, &list)
+        }
     }
 }
 

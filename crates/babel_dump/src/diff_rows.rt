@@ -1,12 +1,14 @@
 //! The rows of `diff`, and how they are written.
 ghost use Rattle.std.specs.Prelude.{◌≡◌, ◌++◌, ◌-◌, ◌^◌, ◌<◌, ◌≤◌, [], OnOk, length, vec_capacity};
 ghost use Rattle.std.specs.List.{flat_map};
+ghost use Rattle.babel_dump.specs.Changes.{changes_of};
 ghost use Rattle.babel_dump.specs.DiffText.{change_text, marked_row, row_end, row_mark};
 ghost use Rattle.babel_dump.specs.Run.{output};
 ghost use Rattle.babel_dump.specs.SlicedRows.{diff_lines};
 ghost use Rattle.babel_dump.specs.Slices.{HasRoom, TookRoom, WroteFront};
 
 use crate::byte_out::ByteOut;
+use crate::changes::Changes;
 use crate::push::{push_pair, push_text};
 use crate::run_fault::Side;
 use crate::slices::make_room;
@@ -22,7 +24,7 @@ pub(crate) struct DiffRows {
     /// Whether the rows are in colour.
     pub coloured: bool,
     pub view: View,
-    pub list: Vec<Difference>,
+    pub changes: Changes,
 }
 
 /// Writes these lines, but for the last of them, which the buffer has.
@@ -39,7 +41,14 @@ pub(crate) fn write_diff<W: ByteOut>(
         (diff_lines style.now diff.now) buffer.new.items result }
 {
     write_all(writer, &diff.heads)?;
-    write_changes(writer, style, diff.coloured, diff.view, &diff.list, buffer)
+    write_changes(
+        writer,
+        style,
+        diff.coloured,
+        diff.view,
+        &diff.changes,
+        buffer,
+    )
 }
 
 /// Writes the rows of differences, but for the last of them, which the buffer has.
@@ -48,17 +57,18 @@ fn write_changes<W: ByteOut>(
     style: &Style,
     coloured: bool,
     view: View,
-    list: &[Difference],
+    changes: &Changes,
     buffer: &mut Vec<u8>,
 ) -> Result<(), WriteFailed>
     requires few_failures { (W.state writer.old).failures < 2 ^ 64 - 1 }
     requires empty { buffer.old.items ≡ [] }
     requires room { 2048 ≤ vec_capacity buffer.old }
     ensures { WroteFront (output (W.state writer.old) (W.state writer.new))
-        (flat_map (change_text style.now coloured view) list.now) buffer.new.items result }
+        (flat_map (change_text style.now coloured view) (changes_of changes.now))
+        buffer.new.items result }
 {
-    for difference in list {
-        let Difference { key, left, right } = *difference;
+    for difference in changes.iter() {
+        let Difference { key, left, right } = difference;
         write_row(
             writer,
             style,

@@ -1,4 +1,5 @@
 ghost use Rattle.std.specs.Prelude.{◌≡◌, ◌++◌, IfErr, IfOk};
+ghost use Rattle.babel_dump.specs.Changes.{changes_of};
 ghost use Rattle.babel_dump.specs.Command.{HasManyDifferences, ListsDifferences};
 ghost use Rattle.babel_dump.specs.InFormat.{differences_in};
 ghost use Rattle.babel_dump.specs.Parts.{ComparedTooMany, Says};
@@ -6,11 +7,12 @@ ghost use Rattle.babel_dump.specs.RunText.{differences_status};
 ghost use Rattle.babel_dump.specs.SlicedRows.{lines_of};
 
 use crate::both::SeenTables;
+use crate::changes::Changes;
 use crate::format::Format;
 use crate::output::{count_output, same_output};
 use crate::run_fault::RunFault;
 use crate::slices::{Found, Rows};
-use babel_canon::{Difference, difference_count};
+use babel_canon::difference_count;
 use babel_table::Limits;
 use babel_tlv::View;
 use std::alloc::{AllocError, Global};
@@ -39,7 +41,7 @@ pub(crate) fn found_differences(
     let differences = babel_canon::differences(alloc, limits, &seen.left, &seen.right)?;
     let outcome = seen.compared(alloc, differences_status(differences.len()))?;
     drop(seen);
-    let (rows, after) = difference_rows(alloc, view, format, differences)?;
+    let (rows, after) = difference_rows(alloc, view, format, Changes::Listed(differences))?;
     Ok(Found::rows(rows, after, outcome))
 }
 
@@ -48,15 +50,15 @@ pub(crate) fn difference_rows(
     alloc: Global,
     view: View,
     format: &Format,
-    differences: Vec<Difference>,
+    changes: Changes,
 ) -> Result<(Rows, Vec<u8>), AllocError>
     ensures { IfOk result (λ found. lines_of format.now found.0 ++ found.1.items
-        ≡ differences_in format.now view differences.items) }
+        ≡ differences_in format.now view (changes_of changes)) }
 {
-    if differences.is_empty() {
+    if changes.is_empty() {
         return Ok((Rows::Empty, same_output(alloc, format)?));
     }
-    Ok((Rows::Differences(view, differences), Vec::new(alloc)))
+    Ok((Rows::Differences(view, changes), Vec::new(alloc)))
 }
 
 /// The status for this many differences.

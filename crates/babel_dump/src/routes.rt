@@ -1,15 +1,15 @@
 //! The routes of dumps: the rows of their tables, as a view sees them.
-ghost use Rattle.std.specs.Prelude.{◌≡◌, ◌++◌, IfErr, IfOk, List};
-ghost use Rattle.babel_canon.specs.Routes.{AreRouteDifferences};
-ghost use Rattle.babel_canon.specs.declared.every_difference.Difference.{Difference};
+ghost use Rattle.std.specs.Prelude.{◌≡◌, ◌++◌, IfErr, IfOk};
+ghost use Rattle.babel_canon.specs.Joined.{differing};
 ghost use Rattle.babel_dump.specs.Command.{IsOfMemory, Tells, TellsRoutes};
 ghost use Rattle.babel_dump.specs.Filter.{kept_rows};
-ghost use Rattle.babel_dump.specs.InFormat.{listed_in, listed_of, listing_in, rows_or_count_in};
+ghost use Rattle.babel_dump.specs.InFormat.{listed_in, rows_or_count_in};
 ghost use Rattle.babel_dump.specs.Parts.{Says};
 ghost use Rattle.babel_dump.specs.SlicedRows.{lines_of};
 
 use crate::both::SeenTables;
-use crate::differences::{difference_rows, differences_status};
+use crate::changes::Changes;
+use crate::differences::difference_rows;
 use crate::filter::Filter;
 use crate::format::Format;
 use crate::job::Listed;
@@ -17,7 +17,7 @@ use crate::outcome::Outcome;
 use crate::output::{count_output, rows_name};
 use crate::run_fault::RunFault;
 use crate::slices::{Found, Rows};
-use babel_canon::{Difference, first_route_difference, route_differences};
+use babel_canon::Difference;
 use babel_table::Table;
 use babel_tlv::View;
 use std::alloc::{AllocError, Global};
@@ -50,49 +50,36 @@ pub(crate) fn found_route_differences(
     view: View,
     listed: Listed,
     format: &Format,
-    seen: &SeenTables,
+    seen: SeenTables,
 ) -> Result<Found, RunFault>
     ensures ok { IfOk result (Says format.now (TellsRoutes
-        (λ rows differences. listed_in format.now view listed differences)
-        seen.now.left seen.now.right)) }
+        (λ rows differences. listed_in format.now view listed differences) seen.left seen.right)) }
     ensures err { IfErr result IsOfMemory }
 {
-    let list = listed_differences(alloc, listed, seen)?;
-    let outcome = seen.outcome(differences_status(list.len()));
-    let (rows, after) = listed_rows(alloc, view, listed, format, list)?;
+    let outcome = seen.compared_routes();
+    let (rows, after) = listed_rows(alloc, view, listed, format, seen)?;
     Ok(Found::rows(rows, after, outcome))
 }
 
-/// The differences that are listed: the first alone, or all.
-fn listed_differences(
-    alloc: Global,
-    listed: Listed,
-    seen: &SeenTables,
-) -> Result<Vec<Difference>, AllocError>
-    ensures { IfOk result (λ list. (differences : List Difference)
-        × AreRouteDifferences seen.now.left.rows seen.now.right.rows differences
-        × (list.items ≡ listed_of listed differences)) }
-{
-    match listed {
-        Listed::First => first_route_difference(alloc, &seen.left, &seen.right),
-        Listed::All | Listed::Count => route_differences(alloc, &seen.left, &seen.right),
-    }
-}
-
-/// The lines of these differences, or no line, and the line of how many there are.
+/// The lines of the differences that are listed, or no line, and that of how many there are.
 fn listed_rows(
     alloc: Global,
     view: View,
     listed: Listed,
     format: &Format,
-    list: Vec<Difference>,
+    seen: SeenTables,
 ) -> Result<(Rows, Vec<u8>), AllocError>
     ensures { IfOk result (λ found. lines_of format.now found.0 ++ found.1.items
-        ≡ listing_in format.now view listed list.items) }
+        ≡ listed_in format.now view listed (differing seen.left.rows seen.right.rows)) }
 {
     match listed {
-        Listed::First | Listed::All => difference_rows(alloc, view, format, list),
+        Listed::First => {
+            let first = seen.first_route_difference(alloc)?;
+            difference_rows(alloc, view, format, Changes::Listed(first))
+        }
+        Listed::All => difference_rows(alloc, view, format, Changes::OfRoutes(seen)),
         Listed::Count => {
+            let list: Vec<Difference> = seen.route_differences().collect(alloc)?;
             let text = count_output(alloc, format, "differences", list.len())?;
             Ok((Rows::Empty, text))
         }

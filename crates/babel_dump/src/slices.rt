@@ -5,6 +5,7 @@ ghost use Rattle.std.specs.Prelude.{◌≡◌, ◌∷◌, ◌++◌, ◌-◌, ◌
 ghost use Rattle.std.specs.Prelude.{vec_capacity};
 ghost use Rattle.std.specs.List.{flat_map};
 ghost use Rattle.babel_dump.specs.CaptureText.{escape, sender_in, senders_in, with_times};
+ghost use Rattle.babel_dump.specs.Changes.{changes_of};
 ghost use Rattle.babel_dump.specs.NameText.{escaped};
 ghost use Rattle.babel_dump.specs.Device.{HasRoomToWrite};
 ghost use Rattle.babel_dump.specs.Filter.{kept_rows};
@@ -19,6 +20,7 @@ use crate::addr_pair::AddrPair;
 use crate::aside::Aside;
 use crate::byte_out::ByteOut;
 use crate::capture_notes::CaptureNotes;
+use crate::changes::Changes;
 use crate::diff_rows::{DiffRows, write_diff};
 use crate::filter::Filter;
 use crate::format::Format;
@@ -31,7 +33,7 @@ use crate::push::{push_name_octet, push_octets};
 use crate::run_fault::RunFault;
 use crate::slice_buffer::{LONGEST_LINE, slice_buffer};
 use crate::write::{WriteFailed, write_all, write_text};
-use babel_canon::{CanonicalPairs, Difference};
+use babel_canon::CanonicalPairs;
 use babel_capture::{Gathered, Origin, Tally};
 use babel_table::Table;
 use babel_tlv::{Held, Key, View};
@@ -47,7 +49,7 @@ pub(crate) enum Rows {
     /// What a table answers for each of these pairs, with the row that answers or without.
     Answers(bool, Vec<AddrPair>, Table),
     /// Differences, as a view shows them.
-    Differences(View, Vec<Difference>),
+    Differences(View, Changes),
     /// What two dumps hold differently, as people read it.
     Diff(DiffRows),
     /// The senders in a capture.
@@ -156,8 +158,8 @@ fn write_rows<W: ByteOut>(
         Rows::Answers(with_prefix, asked, table) => {
             write_answers(writer, format, with_prefix, &asked, &table, buffer)
         }
-        Rows::Differences(view, listed) => {
-            write_differences(writer, format, view, &listed, buffer)
+        Rows::Differences(view, changes) => {
+            write_differences(writer, format, view, &changes, buffer)
         }
         Rows::Diff(diff) => write_diff(writer, format.style(), &diff, buffer),
         Rows::Senders(gathered) => write_senders(writer, format, &gathered, buffer),
@@ -271,18 +273,19 @@ fn write_differences<W: ByteOut>(
     writer: &mut W,
     format: &Format,
     view: View,
-    differences: &[Difference],
+    changes: &Changes,
     buffer: &mut Vec<u8>,
 ) -> Result<(), WriteFailed>
     requires few_failures { (W.state writer.old).failures < 2 ^ 64 - 1 }
     requires empty { buffer.old.items ≡ [] }
     requires room { 2048 ≤ vec_capacity buffer.old }
     ensures { WroteFront (output (W.state writer.old) (W.state writer.new))
-        (flat_map (difference_in format.now view) differences.now) buffer.new.items result }
+        (flat_map (difference_in format.now view) (changes_of changes.now))
+        buffer.new.items result }
 {
-    for difference in differences {
+    for difference in changes.iter() {
         make_room(writer, buffer)?;
-        push_difference(buffer, format, view, *difference);
+        push_difference(buffer, format, view, difference);
     }
     Ok(())
 }

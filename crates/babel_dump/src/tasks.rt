@@ -101,10 +101,10 @@ pub(crate) fn found_of_both(
                 Listed::All => found_differences(alloc, one.limits, view, false, format, seen),
                 Listed::Count => found_differences(alloc, one.limits, view, true, format, seen),
             },
-            Form::Routes => found_route_differences(alloc, view, listed, format, &seen),
+            Form::Routes => found_route_differences(alloc, view, listed, format, seen),
         },
         Comparison::Diff(style) => found_diff(
-            alloc, one, two, view, style, format, file, other_file, &seen,
+            alloc, one, two, view, style, format, file, other_file, seen,
         ),
     }
 }

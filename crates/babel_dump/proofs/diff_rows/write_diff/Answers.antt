@@ -9,4 +9,4 @@ returns-in_err-write_all g c =
 pub returns : goal.returns
 returns g c =
     wrote_after _ _ _ c.args.diff.now.heads.items _ _ c.write_changes.result (rw c.deref.ensures.value at c.in_ok-write_all.ensures)
-    (rw c.deref-2.ensures.value at c.write_changes.ensures)
+    c.write_changes.ensures

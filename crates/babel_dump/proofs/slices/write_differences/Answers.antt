@@ -1,6 +1,6 @@
-use Rattle.std.proofs.Common.{arith}
+use Rattle.std.proofs.Common.{ap, arith, flat_map}
 use Rattle.babel_dump.specs.InFormat.{difference_in}
-use Rattle.babel_dump.proofs.SliceLaws.{broke_on, front_at_err, pushed_next, took_more}
+use Rattle.babel_dump.proofs.SliceLaws.{broke_on, front_at_err, pushed, took_more}
 use Rattle.babel_dump.proofs.slices.write_differences.Goals as goal
 
 pub returns-in_err-make_room : goal.returns-in_err-make_room
@@ -13,6 +13,6 @@ loop-difference-preserved g c =
     let left = c.make_room.new.buffer.items in
     let took = took_more _ _ _ _ c.loop-difference.buffer.items left _ c.loop-difference.invariant.took c.in_ok-make_room.ensures.front in
     record {
-      took = pushed_next (difference_in c.args.format.now c.args.view) c.args.differences.now c.loop-difference.difference-index c.difference-item.result _ _ left _ took (omega arith) c.difference-item.is c.push_difference.ensures.text;
+      took = pushed _ _ left _ _ _ _ took c.push_difference.ensures.text (ap (flat_map (difference_in c.args.format.now c.args.view)) c.in-Some.ensures.steps);
       room = omega (arith, c.push_difference.ensures.room, c.in_ok-make_room.ensures.room);
     }
