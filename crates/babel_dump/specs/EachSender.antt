@@ -71,12 +71,16 @@ capture_read_by each = record {
   limit = capture_limit each.limits.bytes;
   window = each.window;
   accept_cut = each.accept_cut;
+  accept_missing = each.accept_missing;
   strict = false;
 }
 
 -- what a reader gave of a capture of which the datagrams of each sender are wanted
 abbrev pub each_from : EachSender → (old new : InputState) → CaptureInput
-each_from each old new = capture_from old new (capture_read_by each) everyone
+each_from each old new =
+    capture_from old new (capture_read_by each) (record everyone {
+      accepts_missing = each.accept_missing;
+    })
 
 abbrev pub read_by : EachSender → Origin → (seed : ℕ) → Reading
 read_by each origin seed = record {
@@ -90,6 +94,7 @@ read_by each origin seed = record {
   time_option = None;
   expiry = each.expiry;
   accept_cut = each.accept_cut;
+  accept_missing = each.accept_missing;
   strict = each.strict;
 }
 

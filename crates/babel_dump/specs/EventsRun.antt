@@ -73,8 +73,12 @@ followed_extent events =
 -- Whose datagrams are wanted, as they come. Where a capture is read strictly, one sender more than
 -- 65,536 is a fault.
 abbrev pub followed_by : Events → Wanted
-followed_by events =
-    record { sender = events.sender; place = events.place; are_listed = events.strict }
+followed_by events = record {
+  sender = events.sender;
+  place = events.place;
+  are_listed = events.strict;
+  accepts_missing = events.accept_missing;
+}
 
 abbrev pub asked_by : Events → AskedFor
 asked_by events = option_map (λ (pair : AddrPair). (pair.dst, pair.src)) events.pair

@@ -114,6 +114,7 @@ impl<'a> Followed<'a> {
             sender,
             place,
             are_listed: events.strict,
+            accepts_missing: events.accept_missing,
         };
         let capture = Capture::within(alloc, MOST, events.window, events.accept_cut, wanted);
         let follower = Follower::new(alloc, events);

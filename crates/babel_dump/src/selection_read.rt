@@ -51,7 +51,11 @@ impl SelectionRead {
     {
         let mut selecting = Selecting::new(alloc, select, seed);
         let how = select.each.capture_reading();
-        let read = read_capture(alloc, how, Wanted::everyone(), reader, &mut selecting);
+        let wanted = Wanted {
+            accepts_missing: how.accept_missing,
+            ..Wanted::everyone()
+        };
+        let read = read_capture(alloc, how, wanted, reader, &mut selecting);
         if selecting.has_failed() {
             return Err(InputFault::from(AllocError));
         }
