@@ -89,39 +89,40 @@ _babel_dump_valued="--from --other-from --interface --at --other-interface --sin
 _babel_dump_options() {
     case $1 in
         show) echo --from --interface --since --until --expiry --hold --v4-via-v6 --quiet \
-            --accept-cut --max-routes --max-octets --within --match --source --id --summary \
-            --origins --json --names --short --help ;;
+            --accept-cut --accept-missing --max-routes --max-octets --within --match --source --id \
+            --summary --origins --json --names --short --help ;;
         lookup) echo --from --interface --since --until --expiry --hold --v4-via-v6 --quiet \
-            --accept-cut --max-routes --max-octets --strict --json --names --short --with-prefix \
-            --to --src --each --help ;;
+            --accept-cut --accept-missing --max-routes --max-octets --strict --json --names \
+            --short --with-prefix --to --src --each --help ;;
         normalise) echo --from --interface --since --until --expiry --hold --v4-via-v6 --quiet \
-            --accept-cut --max-routes --max-octets --strict --ignore --routes --body --hex --help \
-            ;;
+            --accept-cut --accept-missing --max-routes --max-octets --strict --ignore --routes \
+            --body --hex --help ;;
         key) echo --from --interface --since --until --expiry --hold --v4-via-v6 --quiet \
-            --accept-cut --max-routes --max-octets --strict --ignore --routes --json --help ;;
+            --accept-cut --accept-missing --max-routes --max-octets --strict --ignore --routes \
+            --json --help ;;
         pairs) echo --from --interface --since --until --expiry --hold --v4-via-v6 --quiet \
-            --accept-cut --max-routes --max-octets --within --match --source --id --strict \
-            --ignore --routes --json --names --short --count --help ;;
+            --accept-cut --accept-missing --max-routes --max-octets --within --match --source --id \
+            --strict --ignore --routes --json --names --short --count --help ;;
         compare) echo --from --other-from --interface --other-interface --since --until --expiry \
-            --hold --v4-via-v6 --quiet --accept-cut --max-routes --max-octets --other-since \
-            --other-until --strict --ignore --json --names --short --routes --all --count --help \
-            ;;
+            --hold --v4-via-v6 --quiet --accept-cut --accept-missing --max-routes --max-octets \
+            --other-since --other-until --strict --ignore --json --names --short --routes --all \
+            --count --help ;;
         diff) echo --from --other-from --interface --other-interface --since --until --expiry \
-            --hold --v4-via-v6 --quiet --accept-cut --max-routes --max-octets --other-since \
-            --other-until --within --match --source --id --strict --ignore --origins --and --stat \
-            --color --json --names --short --help ;;
+            --hold --v4-via-v6 --quiet --accept-cut --accept-missing --max-routes --max-octets \
+            --other-since --other-until --within --match --source --id --strict --ignore --origins \
+            --and --stat --color --json --names --short --help ;;
         senders) echo --since --until --strict --accept-cut --quiet --max-octets --json --short \
             --help ;;
-        links) echo --interface --since --until --expiry --accept-cut --quiet --max-octets --json \
-            --short --help ;;
-        extract) echo --from --interface --hex --since --until --strict --accept-cut --quiet \
-            --max-octets --help ;;
+        links) echo --interface --since --until --expiry --accept-cut --accept-missing --quiet \
+            --max-octets --json --short --help ;;
+        extract) echo --from --interface --hex --since --until --strict --accept-cut \
+            --accept-missing --quiet --max-octets --help ;;
         events) echo --from --interface --since --until --expiry --ignore --to --src --requests \
-            --strict --v4-via-v6 --accept-cut --max-routes --json --quiet --within --match \
-            --source --id --names --short --help ;;
+            --strict --v4-via-v6 --accept-cut --accept-missing --max-routes --json --quiet \
+            --within --match --source --id --names --short --help ;;
         select) echo --at --interface --since --until --expiry --to --src --etx --cost --strict \
-            --v4-via-v6 --accept-cut --max-routes --json --quiet --within --match --source --short \
-            --help ;;
+            --v4-via-v6 --accept-cut --accept-missing --max-routes --json --quiet --within --match \
+            --source --short --help ;;
     esac
 }
 

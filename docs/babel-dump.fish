@@ -154,6 +154,8 @@ __babel_dump_option 'show lookup normalise key pairs compare diff' -l quiet \
     -d 'Suppress the notes on standard error, and, of show, what comes after the routes'
 __babel_dump_option 'show lookup normalise key pairs compare diff senders links extract events select' -l accept-cut \
     -d 'Read a truncated capture up to its last complete record'
+__babel_dump_option 'show lookup normalise key pairs compare diff links extract events select' -l accept-missing \
+    -d 'Leave out datagrams of which fragments are missing'
 __babel_dump_option 'show lookup normalise key pairs compare diff' -l max-routes -x \
     -d 'How many routes, and how many canonical pairs or differences, there may be, at most 51746593'
 __babel_dump_option 'events' -l max-routes -x \

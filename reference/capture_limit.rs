@@ -5,7 +5,7 @@
 //!     rustc -O --edition 2021 capture_limit.rs
 //!     capture_limit senders [--json] [--strict] [--accept-cut] [--max-octets N] [CAPTURE]
 //!     capture_limit extract --from A [--interface PLACE] [--hex] [--strict] [--accept-cut]
-//!         [--max-octets N] [CAPTURE]
+//!         [--accept-missing] [--max-octets N] [CAPTURE]
 //!     capture_limit show --from A [--hold] [--expiry K] [--interface PLACE] [--v4-via-v6]
 //!         [--accept-cut] [--max-routes N] [CAPTURE]
 //!     capture_limit show [--origins] [--hold] [--expiry K] .. [CAPTURE]
@@ -706,10 +706,10 @@ fn look_into_ipv6(packet: Part<'_>) -> Option<Seen<'_>> {
         sender: Addr::V6(u128::from_be_bytes(octets_at(header, 8))),
         is_cut: packet.whole < 40 + len,
     };
-    let (number, part) = past_extensions(header[6], packet.after(40).first(len));
+    let (number, part, again) = past_extensions(header[6], packet.after(40).first(len), false);
     match (number, part.octets.first_chunk::<8>()) {
         (UDP, _) => look_into_udp(ip, part),
-        (FRAGMENT, Some(extension)) => {
+        (FRAGMENT, Some(extension)) if !again => {
             let destination = u128::from_be_bytes(octets_at(header, 24));
             let (field, part) = (u16_at(extension, 2), part.after(8));
             let said = Fragment {
@@ -729,22 +729,27 @@ fn look_into_ipv6(packet: Part<'_>) -> Option<Seen<'_>> {
 }
 
 /// What stands after up to eight extension headers, and its number. An atomic fragment has one of
-/// them (RFC 6946).
+/// them (RFC 6946), unless one came before it; whether one came.
 #[inline(always)]
-fn past_extensions(mut number: u8, mut part: Part<'_>) -> (u8, Part<'_>) {
+fn past_extensions(
+    mut number: u8,
+    mut part: Part<'_>,
+    mut in_fragment: bool,
+) -> (u8, Part<'_>, bool) {
     for _ in 0..MOST_EXTENSIONS {
         let Some(extension) = part.octets.first_chunk::<8>() else {
             break;
         };
         let len = match number {
             0 | 43 | 60 => 8 * (usize::from(extension[1]) + 1),
-            FRAGMENT if u16_at(extension, 2) & 0xfff9 == 0 => 8,
+            FRAGMENT if !in_fragment && u16_at(extension, 2) & 0xfff9 == 0 => 8,
             _ => break,
         };
+        in_fragment |= number == FRAGMENT;
         number = extension[0];
         part = part.after(len);
     }
-    (number, part)
+    (number, part, in_fragment)
 }
 
 /// A fragment that can be a part of a datagram, the first of which has all headers up to that of
@@ -759,7 +764,7 @@ fn look_into_fragment<'a>(
         return None;
     }
     if said.offset == 0 {
-        let (number, upper) = past_extensions(number, part);
+        let (number, upper, _) = past_extensions(number, part, true);
         if number == FRAGMENT {
             return None;
         }
@@ -912,6 +917,7 @@ struct Tally {
 struct Wanted {
     sender: Option<Addr>,
     place: Option<Place>,
+    accepts_missing: bool,
 }
 
 #[derive(Clone, Copy)]
@@ -1120,7 +1126,7 @@ impl Found {
         let reason = match (is_of_routers, sender.may_send()) {
             (false, _) => Reason::OtherPort,
             (true, false) => Reason::NotLinkLocal,
-            (true, true) if self.wanted.sender.is_some() => {
+            (true, true) if self.wanted.sender.is_some() && !self.wanted.accepts_missing => {
                 return Err(Fault::Lacking(at, Lack::Fragment));
             }
             (true, true) => Reason::Fragment,
@@ -1327,8 +1333,8 @@ fn read_words(mut words: impl Iterator<Item = String>) -> Option<Words> {
     while let Some(word) = words.next() {
         match word.strip_prefix("--") {
             Some(
-                flag @ ("hex" | "strict" | "accept-cut" | "json" | "quiet" | "hold" | "v4-via-v6"
-                | "origins"),
+                flag @ ("hex" | "strict" | "accept-cut" | "accept-missing" | "json" | "quiet" | "hold"
+                | "v4-via-v6" | "origins"),
             ) => {
                 flags.push(flag.to_string());
             }
@@ -1438,6 +1444,7 @@ impl Words {
         Ok(Wanted {
             sender: self.address("from")?,
             place: self.place()?,
+            accepts_missing: self.has("accept-missing"),
         })
     }
 
@@ -1537,6 +1544,7 @@ fn senders(words: &Words) -> Result<u8, Failure> {
     let everyone = Wanted {
         sender: None,
         place: None,
+        accepts_missing: false,
     };
     let mut reader = words.read(everyone, Sink::Tallies)?;
     let senders = reader.found.senders();

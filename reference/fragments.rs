@@ -63,6 +63,8 @@ enum Standing {
     Open,
     Whole,
     Dropped,
+    /// It is none of Babel's.
+    Other,
 }
 
 /// Of which datagram a fragment is.
@@ -205,6 +207,7 @@ pub struct Came {
 pub struct Known {
     clock: i128,
     octets: usize,
+    unfinished: usize,
     datagrams: HashMap<Key, Datagram, Seed>,
     /// The oldest first; one that another took the place of has another number.
     order: VecDeque<(u64, Key)>,
@@ -215,6 +218,7 @@ impl Known {
         Known {
             clock: 0,
             octets: 0,
+            unfinished: 0,
             datagrams: HashMap::with_hasher(Seed::new()),
             order: VecDeque::new(),
         }
@@ -223,6 +227,7 @@ impl Known {
     fn remove(&mut self, key: &Key) -> Option<Datagram> {
         let datagram = self.datagrams.remove(key)?;
         self.octets -= datagram.len;
+        self.unfinished -= usize::from(datagram.standing == Standing::Open);
         Some(datagram)
     }
 
@@ -236,7 +241,8 @@ impl Known {
                 continue;
             };
             let is_past = self.clock - datagram.came > LIFETIME
-                || self.datagrams.len() > MOST_DATAGRAMS
+                || self.unfinished > MOST_DATAGRAMS
+                || self.datagrams.len() - self.unfinished > MOST_DATAGRAMS
                 || self.octets > MOST_OCTETS;
             if !all && !is_past {
                 return None;
@@ -267,26 +273,33 @@ impl Known {
             identification: fragment.identification,
         };
         if let Some(datagram) = self.datagrams.get_mut(&key) {
-            if datagram.standing == Standing::Dropped || datagram.repeats(fragment) {
+            let is_dropped = match datagram.standing {
+                Standing::Dropped => true,
+                Standing::Other => fragment.udp.is_none(),
+                _ => datagram.repeats(fragment),
+            };
+            if is_dropped {
                 return Step::Nothing;
             }
             if datagram.standing == Standing::Open && !fragment.is_of_another() {
                 if datagram.overlaps(fragment) {
                     datagram.standing = Standing::Dropped;
+                    self.unfinished -= 1;
                     return Step::Overlaps(Missing::of(&key, datagram));
                 }
                 datagram.add(fragment);
                 self.octets += fragment.len;
                 return match datagram.standing {
-                    Standing::Whole => Step::Completes(datagram.joined()),
+                    Standing::Whole => {
+                        self.unfinished -= 1;
+                        Step::Completes(datagram.joined())
+                    }
                     _ => Step::Nothing,
                 };
             }
             self.remove(&key);
         }
-        if !fragment.is_of_another() {
-            self.begin(key, came, fragment);
-        }
+        self.begin(key, came, fragment);
         Step::Nothing
     }
 
@@ -298,13 +311,17 @@ impl Known {
             ends_within: came.ends_within,
             is_to_group: fragment.is_to_group,
             udp: None,
-            standing: Standing::Open,
+            standing: Standing::Other,
             octets: Vec::new(),
             pieces: Vec::new(),
             len: 0,
         };
-        datagram.add(fragment);
-        self.octets += fragment.len;
+        if !fragment.is_of_another() {
+            datagram.standing = Standing::Open;
+            datagram.add(fragment);
+            self.octets += fragment.len;
+            self.unfinished += 1;
+        }
         self.order.push_back((came.number, key));
         self.datagrams.insert(key, datagram);
     }

@@ -391,17 +391,19 @@ def in_ipv4(packet, whole):
 TELLING = {0: 2, 43: 2, 60: 2, 44: 4}
 
 
-def past_headers(number, carried, length):
+def past_headers(number, carried, length, in_fragment=False):
     """RFC 8200, 4: the header after at most eight extension headers, its octets, and how many there
-    were. A fragment header is skipped where the fragment is all of the packet (RFC 6946)."""
+    were. A fragment header is skipped where the fragment is all of the packet (RFC 6946), and no
+    other came before it. Whether one came."""
     for _ in range(8):
         if len(carried) < TELLING.get(number, math.inf):
             break
-        if number == 44 and (big(carried, 2, 2) & 0xFFF9):
+        if number == 44 and (in_fragment or big(carried, 2, 2) & 0xFFF9):
             break
+        in_fragment = in_fragment or number == 44
         header = 8 if number == 44 else 8 + 8 * carried[1]
         number, carried, length = carried[0], carried[header:], max(length - header, 0)
-    return number, carried, length
+    return number, carried, length, in_fragment
 
 
 def is_unkept(number, carried, length):
@@ -418,9 +420,9 @@ def in_ipv6(packet, whole):
     if len(packet) < 7:
         return SHORT
     said = big(packet, 4, 2)
-    number, carried, length = past_headers(packet[6], packet[40 : 40 + said], said)
+    number, carried, length, again = past_headers(packet[6], packet[40 : 40 + said], said)
     ends = [ipaddress.IPv6Address(packet[at : at + 16].ljust(16, b"\0")) for at in (8, 24)]
-    if number == 44:
+    if number == 44 and not again:
         if length < 8:
             return OTHER
         if len(packet) < 40 or len(carried) < 8:
@@ -446,7 +448,7 @@ def in_fragment(piece, is_cut, number):
     piece.is_to_group = number == UDP and piece.destination == GROUP[piece.destination.version]
     if piece.offset:
         return piece
-    upper, carried, length = past_headers(number, piece.octets, piece.length)
+    upper, carried, length, _ = past_headers(number, piece.octets, piece.length, True)
     if upper == UDP and length >= 8:
         if len(carried) < 4:
             return SHORT
@@ -795,7 +797,8 @@ def miss(found, datagram, wanted):
 
 def leave_out(found, origin, number, reason, at, wanted):
     """A datagram is left out, of which the first block is at this offset."""
-    if reason in LACKS and wanted.names:
+    is_accepted = wanted.accepts_missing and reason == "fragment"
+    if reason in LACKS and wanted.names and not is_accepted:
         raise Fault(f"{LACKS[reason]} at {at}")
     found.left_out.setdefault(reason, []).append(number)
     found.unread.append((origin, number, reason, len(found.records)))
@@ -803,10 +806,12 @@ def leave_out(found, origin, number, reason, at, wanted):
 
 @dataclass
 class Wanted:
-    """Which datagrams are looked at: of one sender, or of all; at one place, or at all."""
+    """Which datagrams are looked at: of one sender, or of all; at one place, or at all. Whether one
+    that lacks fragments refuses nobody."""
 
     sender: object = None
     interface: str = None
+    accepts_missing: bool = False
 
     @property
     def names(self):
@@ -913,7 +918,7 @@ def short_note(found):
 def notes_of(found):
     """The notes on a capture, as text and as an object: what was left out, and where it is cut."""
     reasons = [
-        {"reason": reason, "count": len(numbers), "first": numbers[0]}
+        {"reason": reason, "count": len(numbers), "first": min(numbers)}
         for reason in REASONS
         if (numbers := found.left_out.get(reason))
     ]
@@ -959,7 +964,7 @@ def json_value(value):
 
 
 def refuse_if_strict(found, strict):
-    firsts = [(numbers[0], reason) for reason, numbers in found.left_out.items()]
+    firsts = [(min(numbers), reason) for reason, numbers in found.left_out.items()]
     if strict and firsts:
         number, reason = min(firsts)
         raise Fault(f"datagram left out at packet {number}: {reason}")
@@ -1011,6 +1016,7 @@ def extract(
     as_hex=False,
     strict=False,
     accept_cut=False,
+    accept_missing=False,
     limit=USUAL_OCTETS,
     since=None,
     until=None,
@@ -1019,7 +1025,8 @@ def extract(
     sender = ipaddress.ip_address(sender)
     try:
         window = window_of(since, until)
-        found = find(octets, limit, Wanted(sender, interface), accept_cut, window)
+        wanted = Wanted(sender, interface, accept_missing)
+        found = find(octets, limit, wanted, accept_cut, window)
         refuse_if_strict(found, strict)
         only_place(found)
     except (Fault, NoTime) as fault:

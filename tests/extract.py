@@ -7,6 +7,7 @@ import itertools
 import os
 import random
 import resource
+import shutil
 import signal
 import subprocess
 import tempfile
@@ -158,6 +159,9 @@ HEADERS = {
     "a first fragment": [made.fragment_header(0, True)],
     "a first fragment with reserved bits": [made.fragment_header(0, True, 3)],
     "two first fragments": [made.fragment_header(0, True), made.fragment_header(0, True)],
+    "two atomic fragments": [made.fragment_header(0, False), made.fragment_header(0, False)],
+    "a first fragment in an atomic one": [made.fragment_header(0, more) for more in (False, True)],
+    "an atomic fragment in a first one": [made.fragment_header(0, more) for more in (True, False)],
     "a later fragment": [made.fragment_header(185, False)],
     "a header that is not known": [made.extension(139, 0, b"")],
 }
@@ -581,10 +585,55 @@ def fragment_cases():
         lost = rng.randrange(len(parts))
         capture = made.pcap([made.Record(part) for part in parts[:lost] + parts[lost + 1 :]])
         yield from both_of(f"{what}, one lost", capture, sender)
+        for strict in None, True:
+            how = {"accept_missing": True, "strict": strict}
+            yield extract_of(f"{what}, one lost, which is accepted", capture, sender, **how)
         yield extract_of(f"{what}, one lost of another", capture, OTHER)
-        yield from both_of(f"{what}, one cut", with_one(rng, parts, lambda part: part[:-8]), sender)
+        snapped = list(map(made.Record, parts))
+        snapped[lost] = made.snapped(snapped[lost], len(parts[lost]) - 1)
+        cut = f"{what}, one cut by the recorder"
+        yield extract_of(cut, made.pcap(snapped), sender, accept_missing=True)
+        cut = with_one(rng, parts, lambda part: part[:-8])
+        yield from both_of(f"{what}, one cut", cut, sender)
+        yield extract_of(f"{what}, one cut, fragments accepted", cut, sender, accept_missing=True)
         yield from both_of(f"{what}, one other", with_one(rng, parts, changed_last), sender)
         yield from fragments_in_time(what, parts, sender)
+
+
+def check_tshark(tally):
+    """Datagrams in fragments, in any order and several at once, beside what tshark puts together,
+    where it is there."""
+    if shutil.which("tshark") is None:
+        print("extract: there is no command tshark on the PATH; it is not compared", flush=True)
+        return
+    rng = random.Random(64)
+    packets = made.packets_of(dump_of())
+    words = ["tshark", "-r", "-", "-T", "fields", "-e", "udp.payload", "udp.port == 6696"]
+    for sender, (tags, frame_of) in itertools.product((SENDER, OVER_IPV4), FRAMES.items()):
+        parts, _ = fragmented(rng, sender, packets, frame_of)
+        capture = made.pcap(list(map(made.Record, parts)))
+        run = subprocess.run(words, input=capture, capture_output=True, timeout=SECONDS)
+        dump = bytes.fromhex(run.stdout.decode())
+        what = f"fragments with {tags}, {sender}, beside tshark"
+        expect(tally, what, reader.extract(capture, sender).output, dump)
+
+
+def other_fragments():
+    """A datagram of other ports in fragments, to the group of routers: in order, and with the first
+    one last, or twice, or left out."""
+    for sender in SENDER, OVER_IPV4:
+        datagram = made.udp(bytes(64), source=53, destination=53)
+        first, *later = map(made.ethernet, made.fragments(sender, datagram, 2, 7))
+        for what, frames in {
+            "in order": [first, *later],
+            "the first one last": [*later, first],
+            "the first one twice": [first, *later, first, *later],
+            "the first one missing": later,
+        }.items():
+            capture = made.pcap([made.Record(frame) for frame in frames])
+            for strict in None, True:
+                yield senders_of(f"other ports, {what}, {sender}", capture, strict=strict)
+            yield extract_of(f"other ports, {what}, {sender}", capture, sender)
 
 
 def fragments_in_time(what, parts, sender):
@@ -904,6 +953,7 @@ def cases_of(tally):
     yield from version_cases()
     yield from snapped_cases()
     yield from fragment_cases()
+    yield from other_fragments()
     yield from broken_cases()
     yield from limit_cases()
     yield from cut_cases()
@@ -913,6 +963,7 @@ def cases_of(tally):
 def check(tally, _long):
     program = built_program()
     dumps = check_cases(program, cases_of(tally), tally)
+    check_tshark(tally)
     check_framing(program, dumps, tally)
     check_pieces(program, tally)
     check_way(program, tally)

@@ -90,6 +90,8 @@ class Datagram:
 
     def step(self, fragment):
         """What one more is to it, and the datagram after it."""
+        if self.standing == "other":
+            return "anew" if fragment.udp else "ignored"
         if self.standing == "dropped" or any(map(fragment.repeats, self.pieces)):
             return "ignored"
         if self.standing == "whole" or fragment.is_of_another:
@@ -119,9 +121,11 @@ class Known:
 
     def is_past(self, oldest):
         octets = sum(piece.length for one in self.datagrams.values() for piece in one.pieces)
+        unfinished = sum(one.standing == "open" for one in self.datagrams.values())
         return (
             self.clock - oldest.came > LIFETIME
-            or len(self.datagrams) > MOST_DATAGRAMS
+            or unfinished > MOST_DATAGRAMS
+            or len(self.datagrams) - unfinished > MOST_DATAGRAMS
             or octets > MOST_OCTETS
         )
 
@@ -153,9 +157,10 @@ class Known:
         if step != "anew":
             return step, datagram
         self.datagrams.pop(key, None)
-        if not fragment.is_of_another:
-            one = Datagram(place, number, at, self.clock, counts, fragment)
+        one = self.datagrams[key] = Datagram(place, number, at, self.clock, counts, fragment)
+        if fragment.is_of_another:
+            one.standing = "other"
+        else:
             one.udp = fragment.udp
             one.pieces.append(fragment)
-            self.datagrams[key] = one
         return step, None

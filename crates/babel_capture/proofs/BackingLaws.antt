@@ -283,9 +283,9 @@ past_header-part header =
     let octets = header.octets in
     let all = header.whole in
     let same : IsPast header header = record { part = IsPart-self octets all } in
-    let options : NextHeader = record { number = slice_index octets 0; octets = drop (header_len octets) octets; whole = all - header_len octets } in
-    let atomic : NextHeader = record { number = slice_index octets 0; octets = drop 8 octets; whole = all - 8 } in
-    let is_one = header.number == 44 && is_atomic octets in
+    let options : NextHeader = record { number = slice_index octets 0; octets = drop (header_len octets) octets; whole = all - header_len octets; in_fragment = header.in_fragment } in
+    let atomic : NextHeader = record { number = slice_index octets 0; octets = drop 8 octets; whole = all - 8; in_fragment = true } in
+    let is_one = header.number == 44 && is_atomic octets && not header.in_fragment in
     let long : NextHeader = if has_len header.number then options else (if is_one then atomic else header) in
     past_either (nat_lt (length octets) (telling_len header.number)) header long header same
     (past_either (has_len header.number) options (if is_one then atomic else header) header (record { part = IsPart-after (header_len octets) octets all })
@@ -342,7 +342,7 @@ ipv6_backed place octets all =
     let carried : Sight = ipv6_carried_sight place octets all upper in
     let fragment : Sight = ipv6_fragment_sight place octets all upper in
     let unkept : Sight = if is_unkept upper then too_short else other in
-    let no_udp : Sight = if upper.number == 44 then fragment else unkept in
+    let no_udp : Sight = if upper.number == 44 && not upper.in_fragment then fragment else unkept in
     let of_upper : Sight = upper_sight place octets all upper in
     let told : Sight = if nat_lt (length octets) 7 then too_short else of_upper in
     let ip : Sight = if not (ip_version octets == 6) then other else told in
@@ -350,7 +350,7 @@ ipv6_backed place octets all =
     (either octets all (not (ip_version octets == 6)) other told tt
     (either octets all (nat_lt (length octets) 7) too_short of_upper tt
     (either octets all (upper.number == 17) carried no_udp (ipv6_carried_backed place octets all)
-    (either octets all (upper.number == 44) fragment unkept (ipv6_fragment_backed place octets all)
+    (either octets all (upper.number == 44 && not upper.in_fragment) fragment unkept (ipv6_fragment_backed place octets all)
     (either octets all (is_unkept upper) too_short other tt tt)))))
 
 -- ---- EtherTypes

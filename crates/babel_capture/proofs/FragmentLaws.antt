@@ -1,5 +1,5 @@
 -- The datagrams that came in fragments: limits, and numbers.
-use Rattle.std.proofs.Common.{◌≡◌, ◌≤◌, ◌<◌, ℕ, false, Option, None, Some, List, [], ◌∷◌, arith, refl, sym, subst, ◌∙◌}
+use Rattle.std.proofs.Common.{◌≡◌, ◌≤◌, ◌<◌, ◌+◌, ℕ, Bool, true, false, ◌||◌, nat_lt, Option, None, Some, List, [], ◌∷◌, length, arith, refl, sym, subst, ◌∙◌}
 use Rattle.std.specs.BTreeMap.{insert_entry, is_at}
 use Rattle.std.specs.List.{All}
 use Rattle.std.specs.Map.{keys_of, lookup}
@@ -12,17 +12,41 @@ use Rattle.std.proofs.lemmas.Map.Entries.{sum_by-remove_entry}
 use Rattle.std.proofs.lemmas.Map.Views.{All-keys-insert_entry, All-map-remove_entry}
 use Rattle.babel_capture.specs.declared.datagram.Datagram.{Datagram}
 use Rattle.babel_capture.specs.declared.fragment.DatagramId.{DatagramId}
-use Rattle.babel_capture.specs.Fragments.{Known, changed, changed_with, forgotten, forgotten_with, is_past, octets_in, of_id}
+use Rattle.babel_capture.specs.Fragments.{Known, are_too_many, as_open, changed, changed_with, forgotten, forgotten_with, is_old, is_past, octets_in, of_id, open_in}
 use Rattle.babel_capture.specs.Indexing.{AreUpTo}
 use Rattle.babel_capture.specs.Pieces.{Fragment, len_of}
 
 abbrev IsUpTo : ℕ → ℕ → Type 0
 IsUpTo last number = number ≤ last
 
--- where none is given up, they have few octets
+at_most : (most n : ℕ) → nat_lt most n ≡ false → n ≤ most
+at_most most n is = grind (arith, nat_tests)
+
+neither : (a b : Bool) → (a || b) ≡ false → (a ≡ false) × (b ≡ false)
+neither true b is = absurd cc
+neither false b is = (refl, is)
+
+-- where none is given up, they have few octets, and few lack fragments
 pub few-octets : (clock : ℕ) (known : Known) → is_past clock known ≡ false → octets_in known ≤ 16777216
 few-octets clock [] is = omega arith
-few-octets clock (one ∷ known) is = grind (arith, nat_tests)
+few-octets clock (one ∷ known) is =
+    let all : Known = one ∷ known in
+    let few = (neither (is_old clock one.1) (are_too_many all) is).1 in
+    let rest = (neither (nat_lt 65536 (open_in all)) _ few).1 in
+    at_most 16777216 (octets_in all) (neither (nat_lt (open_in all + 65536) (length all)) (nat_lt 16777216 (octets_in all)) rest).1
+
+pub few-open : (clock : ℕ) (known : Known) → is_past clock known ≡ false → open_in known ≤ 65536
+few-open clock [] is = omega arith
+few-open clock (one ∷ known) is =
+    let all : Known = one ∷ known in
+    at_most 65536 (open_in all) (neither (nat_lt 65536 (open_in all)) _ (neither (is_old clock one.1) (are_too_many all) is).1).0
+
+pub open-forgotten : (id : DatagramId) (known : Known) → open_in (forgotten id known) ≤ open_in known
+open-forgotten id known = by (of_id id known)
+  where
+    by : (one : Option (ℕ × Datagram)) → open_in (forgotten_with known one) ≤ open_in known
+    by None = omega arith
+    by (Some one) = (let sum = sum_by-remove_entry as_open (is_at (nat_cmp one.0)) known in omega (arith, sum))
 
 pub octets-forgotten : (id : DatagramId) (known : Known) → octets_in (forgotten id known) ≤ octets_in known
 octets-forgotten id known = by (of_id id known)

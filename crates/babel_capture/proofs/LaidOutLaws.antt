@@ -24,7 +24,7 @@ use Rattle.babel_capture.specs.Headers.{NextHeader, has_len, past_header, past_h
 use Rattle.babel_capture.specs.Ipv4.{ipv4_ends, ipv4_sight, ipv4_header_len, total_len, carries_udp, is_fragment}
 use Rattle.babel_capture.specs.Ipv6.{ipv6_ends, ipv6_sight, payload_len, first_header}
 use Rattle.babel_capture.specs.LaidOut.{UdpDatagram, ends4, ends6, udp_octets, udp_size, IsBabel, Ipv4Header, ipv4_header, ipv4_octets, IsIpv4, Ipv6Header, ipv6_header, ipv6_octets, IsIpv6}
-use Rattle.babel_capture.specs.LaidOut.{Extension, IsExtension, extensions, extensions_before, first_before, first_number, HasFlags, IsOverIp}
+use Rattle.babel_capture.specs.LaidOut.{AreExtensions, Extension, IsFragment, IsOptions, extensions, extensions_before, first_before, first_number, HasFlags, IsOverIp}
 use Rattle.babel_capture.specs.LinkHeaders.{Tag, IsTag, first_type, after_type, vlans_of, IsTyped, IsCooked2, IsFamily, HasEtherType, HasFamily, IsHeader, IsOtherType, IsOtherFamily}
 use Rattle.babel_capture.specs.Octets.{network_number, ip_version}
 use Rattle.babel_capture.specs.Place.{no_vlans, place_on, with_vlan}
@@ -133,16 +133,16 @@ unfolding past_headers
 past-first_header zero header = refl
 past-first_header (suc n) header = ap past_header (past-first_header n header)
 
-abbrev pub header_of : ℕ → List ℕ → ℕ → NextHeader
-header_of number octets all = record { number = number; octets = octets; whole = all }
+abbrev pub header_of : ℕ → List ℕ → ℕ → Bool → NextHeader
+header_of number octets all in_fragment = record { number = number; octets = octets; whole = all; in_fragment = in_fragment }
 
 has_len_of : (number : ℕ) → Contains (0 ∷ 43 ∷ 60 ∷ []) number → has_len number ≡ true
 has_len_of number one = grind (arith, nat_tests, one)
 
-past_options : (number units next : ℕ) (more rest : List ℕ) (all : ℕ) → Contains (0 ∷ 43 ∷ 60 ∷ []) number → length more ≡ 6 + 8 * units
-    → past_header (header_of number (next ∷ units ∷ (more ++ rest)) all) ≡ header_of next rest (all - (2 + length more))
+past_options : (number units next : ℕ) (more rest : List ℕ) (all : ℕ) (b : Bool) → Contains (0 ∷ 43 ∷ 60 ∷ []) number → length more ≡ 6 + 8 * units
+    → past_header (header_of number (next ∷ units ∷ (more ++ rest)) all b) ≡ header_of next rest (all - (2 + length more)) b
 unfolding past_header
-past_options number units next more rest all one sized =
+past_options number units next more rest all b one sized =
     let octets = next ∷ units ∷ (more ++ rest) in
     let has = has_len_of number one in
     let long : nat_lt (length octets) 2 ≡ false = grind (arith, nat_tests) in
@@ -151,7 +151,7 @@ past_options number units next more rest all one sized =
     rw (has, long, front, at_rest) refl
 
 past_fragment : (bits reserved next : ℕ) (id rest : List ℕ) (all : ℕ) → bits < 2 ^ 16 → (bit_and bits 0xfff8 == 0) ≡ true → not (bit_and bits 0x0001 == 0) ≡ false → length id ≡ 4
-    → past_header (header_of 44 (next ∷ reserved ∷ (big_bytes 2 bits ++ (id ++ rest))) all) ≡ header_of next rest (all - 8)
+    → past_header (header_of 44 (next ∷ reserved ∷ (big_bytes 2 bits ++ (id ++ rest))) all false) ≡ header_of next rest (all - 8) true
 unfolding past_header
 past_fragment bits reserved next id rest all fits offset last sized =
     let front = next ∷ reserved ∷ (big_bytes 2 bits ++ id) in
@@ -173,60 +173,105 @@ last_in bits =
     let none : bit_and (2 * bits + 0) 0x0001 ≡ 0 = and_mask (2 * bits + 0) 1 ∙ omega arith in
     rw none refl
 
-past_extension : (header : Extension) (next : ℕ) (rest : List ℕ) (all : ℕ) → IsExtension header
-    → past_header (header_of header.number (next ∷ (header.holds ++ rest)) all) ≡ header_of next rest (all - (1 + length header.holds))
-past_extension header next rest all (inl is) =
+past_option : (header : Extension) (next : ℕ) (rest : List ℕ) (all : ℕ) (b : Bool) → IsOptions header
+    → past_header (header_of header.number (next ∷ (header.holds ++ rest)) all b) ≡ header_of next rest (all - (1 + length header.holds)) b
+past_option header next rest all b is =
     let count : length header.holds ≡ 1 + length is.more = ap length is.is_held ∙ omega arith in
     let same : all - (2 + length is.more) ≡ all - (1 + length header.holds) = omega arith in
-    ap (λ (holds : List ℕ). past_header (header_of header.number (next ∷ (holds ++ rest)) all)) is.is_held
-    ∙ past_options header.number is.units next is.more rest all is.is_number is.sized ∙ ap (header_of next rest) same
-past_extension header next rest all (inr is) =
+    ap (λ (holds : List ℕ). past_header (header_of header.number (next ∷ (holds ++ rest)) all b)) is.is_held
+    ∙ past_options header.number is.units next is.more rest all b is.is_number is.sized ∙ ap (λ (n : ℕ). header_of next rest n b) same
+
+past_atomic : (header : Extension) (next : ℕ) (rest : List ℕ) (all : ℕ) → IsFragment 0 header
+    → past_header (header_of header.number (next ∷ (header.holds ++ rest)) all false) ≡ header_of next rest (all - (1 + length header.holds)) true
+past_atomic header next rest all is =
     let count : length header.holds ≡ 7 = ap length is.is_held ∙ omega (arith, is.sized) in
     let same : all - 8 ≡ all - (1 + length header.holds) = omega arith in
-    ap (λ (number : ℕ). past_header (header_of number (next ∷ (header.holds ++ rest)) all)) is.is_number
-    ∙ ap (λ (holds : List ℕ). past_header (header_of 44 (next ∷ (holds ++ rest)) all)) is.is_held
+    ap (λ (number : ℕ). past_header (header_of number (next ∷ (header.holds ++ rest)) all false)) is.is_number
+    ∙ ap (λ (holds : List ℕ). past_header (header_of 44 (next ∷ (holds ++ rest)) all false)) is.is_held
     ∙ past_fragment (2 * is.bits + 0) is.reserved next is.id rest all (omega (arith, is.bits_fit)) (offset_in is.bits 0 is.bits_fit (omega arith)) (last_in is.bits) is.sized
-    ∙ ap (header_of next rest) same
+    ∙ ap (λ (n : ℕ). header_of next rest n true) same
+
+-- whether a fragment header is among them, or came before
+in_after : (b : Bool) (headers : List Extension) → AreExtensions b headers → Bool
+in_after b [] are = b
+in_after b (header ∷ headers) (inl is) = in_after b headers is.1
+in_after b (header ∷ headers) (inr is) = in_after true headers is.2
 
 -- headers before what comes after them
 abbrev headers_of : List Extension → List ℕ → ℕ → NextHeader
-headers_of headers rest all = header_of (first_number headers) (extensions headers ++ rest) all
+headers_of headers rest all = header_of (first_number headers) (extensions headers ++ rest) all false
 
--- past the headers before what is of another number
-pub past-before : (headers : List Extension) (last n : ℕ) (rest : List ℕ) (all : ℕ) → length headers ≤ n → All IsExtension headers
-    → past_headers n (header_of (first_before headers last) (extensions_before headers last ++ rest) all)
-    ≡ past_headers (n - length headers) (header_of last rest (all - length (extensions_before headers last)))
-past-before [] last n rest all few are =
-    let count : n ≡ n - 0 = omega arith in
-    let left : all ≡ all - 0 = omega arith in
-    ap (λ (m : ℕ). past_headers m (header_of last rest all)) count ∙ ap (λ (m : ℕ). past_headers (n - 0) (header_of last rest m)) left
-past-before (header ∷ headers) last zero rest all few are = absurd (omega arith)
-past-before (header ∷ headers) last (suc n) rest all few are =
+-- past the first of them, then past the others
+past-one : (header : Extension) (headers : List Extension) (last n : ℕ) (rest : List ℕ) (all : ℕ) (b c d : Bool)
+    → past_header (header_of header.number (first_before headers last ∷ (header.holds ++ (extensions_before headers last ++ rest))) all b)
+    ≡ header_of (first_before headers last) (extensions_before headers last ++ rest) (all - (1 + length header.holds)) c
+    → past_headers n (header_of (first_before headers last) (extensions_before headers last ++ rest) (all - (1 + length header.holds)) c)
+    ≡ past_headers (n - length headers) (header_of last rest (all - (1 + length header.holds) - length (extensions_before headers last)) d)
+    → past_headers (suc n) (header_of header.number (extensions_before (header ∷ headers) last ++ rest) all b)
+    ≡ past_headers (suc n - length (header ∷ headers)) (header_of last rest (all - length (extensions_before (header ∷ headers) last)) d)
+past-one header headers last n rest all b c d first others =
     let inner = extensions_before headers last in
     let long : length (extensions_before (header ∷ headers) last) ≡ 1 + length header.holds + length inner = omega (arith, length-append header.holds inner) in
     let less : suc n - length (header ∷ headers) ≡ n - length headers = omega arith in
     let left : all - (1 + length header.holds) - length inner ≡ all - length (extensions_before (header ∷ headers) last) = omega (arith, long) in
-    past-first_header n (header_of header.number (extensions_before (header ∷ headers) last ++ rest) all)
-    ∙ ap (λ (octets : List ℕ). past_headers n (past_header (header_of header.number octets all))) (ap (λ (more : List ℕ). first_before headers last ∷ more) (append_assoc header.holds inner rest))
-    ∙ ap (past_headers n) (past_extension header (first_before headers last) (inner ++ rest) all (All-head IsExtension header headers are))
-    ∙ past-before headers last n rest (all - (1 + length header.holds)) (omega arith) (All-tail IsExtension header headers are)
-    ∙ ap (λ (m : ℕ). past_headers (n - length headers) (header_of last rest m)) left
-    ∙ ap (λ (m : ℕ). past_headers m (header_of last rest (all - length (extensions_before (header ∷ headers) last)))) (sym less)
+    past-first_header n (header_of header.number (extensions_before (header ∷ headers) last ++ rest) all b)
+    ∙ ap (λ (octets : List ℕ). past_headers n (past_header (header_of header.number octets all b))) (ap (λ (more : List ℕ). first_before headers last ∷ more) (append_assoc header.holds inner rest))
+    ∙ ap (past_headers n) first
+    ∙ others
+    ∙ ap (λ (m : ℕ). past_headers (n - length headers) (header_of last rest m d)) left
+    ∙ ap (λ (m : ℕ). past_headers m (header_of last rest (all - length (extensions_before (header ∷ headers) last)) d)) (sym less)
 
-past-extensions : (headers : List Extension) (n : ℕ) (rest : List ℕ) (all : ℕ) → length headers ≤ n → All IsExtension headers
-    → past_headers n (headers_of headers rest all) ≡ header_of 17 rest (all - length (extensions headers))
+-- past the headers before what is of another number
+past-before : (b : Bool) (headers : List Extension) (last n : ℕ) (rest : List ℕ) (all : ℕ) → length headers ≤ n → (are : AreExtensions b headers)
+    → past_headers n (header_of (first_before headers last) (extensions_before headers last ++ rest) all b)
+    ≡ past_headers (n - length headers) (header_of last rest (all - length (extensions_before headers last)) (in_after b headers are))
+unfolding in_after
+past-before b [] last n rest all few are =
+    let count : n ≡ n - 0 = omega arith in
+    let left : all ≡ all - 0 = omega arith in
+    ap (λ (m : ℕ). past_headers m (header_of last rest all b)) count ∙ ap (λ (m : ℕ). past_headers (n - 0) (header_of last rest m b)) left
+past-before b (header ∷ headers) last zero rest all few are = absurd (omega arith)
+past-before b (header ∷ headers) last (suc n) rest all few (inl is) =
+    past-one header headers last n rest all b b (in_after b headers is.1) (past_option header (first_before headers last) (extensions_before headers last ++ rest) all b is.0)
+    (past-before b headers last n rest (all - (1 + length header.holds)) (omega arith) is.1)
+past-before b (header ∷ headers) last (suc n) rest all few (inr is) =
+    past-one header headers last n rest all b true (in_after true headers is.2)
+    (ap (λ (c : Bool). past_header (header_of header.number (first_before headers last ∷ (header.holds ++ (extensions_before headers last ++ rest))) all c)) is.1
+    ∙ past_atomic header (first_before headers last) (extensions_before headers last ++ rest) all is.0)
+    (past-before true headers last n rest (all - (1 + length header.holds)) (omega arith) is.2)
+
+-- where all of them are options
+are-extensions : (headers : List Extension) → All IsOptions headers → AreExtensions false headers
+are-extensions [] are = tt
+are-extensions (header ∷ headers) are = inl (All-head IsOptions header headers are, are-extensions headers (All-tail IsOptions header headers are))
+
+in-none : (headers : List Extension) (are : All IsOptions headers) → in_after false headers (are-extensions headers are) ≡ false
+unfolding in_after are-extensions
+in-none [] are = refl
+in-none (header ∷ headers) are = in-none headers (All-tail IsOptions header headers are)
+
+pub past-options : (headers : List Extension) (last n : ℕ) (rest : List ℕ) (all : ℕ) → length headers ≤ n → All IsOptions headers
+    → past_headers n (header_of (first_before headers last) (extensions_before headers last ++ rest) all false)
+    ≡ past_headers (n - length headers) (header_of last rest (all - length (extensions_before headers last)) false)
+past-options headers last n rest all few are =
+    past-before false headers last n rest all few (are-extensions headers are)
+    ∙ ap (λ (b : Bool). past_headers (n - length headers) (header_of last rest (all - length (extensions_before headers last)) b)) (in-none headers are)
+
+past-extensions : (headers : List Extension) (n : ℕ) (rest : List ℕ) (all : ℕ) → length headers ≤ n → (are : AreExtensions false headers)
+    → past_headers n (headers_of headers rest all) ≡ header_of 17 rest (all - length (extensions headers)) (in_after false headers are)
 past-extensions headers n rest all few are =
-    past-before headers 17 n rest all few are ∙ past-udp (n - length headers) (header_of 17 rest (all - length (extensions headers))) refl
+    let b = in_after false headers are in
+    past-before false headers 17 n rest all few are ∙ past-udp (n - length headers) (header_of 17 rest (all - length (extensions headers)) b) refl
 
 -- ---- IPv6
 
-ipv6_seen : (place : Place) (octets inner carried : List ℕ) (number total len all : ℕ) (ends : Ends) → 40 ≤ length octets → ip_version octets ≡ 6 → payload_len octets ≡ total
+ipv6_seen : (place : Place) (octets inner carried : List ℕ) (number total len all : ℕ) (ends : Ends) (b : Bool) → 40 ≤ length octets → ip_version octets ≡ 6 → payload_len octets ≡ total
     → slice_index octets 6 ≡ number → ipv6_ends octets ≡ ends → 40 + total ≤ all → take total (drop 40 octets) ≡ inner
-    → past_headers 8 (header_of number inner total) ≡ header_of 17 carried len
+    → past_headers 8 (header_of number inner total false) ≡ header_of 17 carried len b
     → ipv6_sight place octets all ≡ udp_sight place ends false carried len
 unfolding ipv6_sight
-ipv6_seen place octets inner carried number total len all ends long version said first from there kept past =
-    let upper : past_headers 8 (first_header octets) ≡ header_of 17 carried len = rw (said, kept, first) past in
+ipv6_seen place octets inner carried number total len all ends b long version said first from there kept past =
+    let upper : past_headers 8 (first_header octets) ≡ header_of 17 carried len b = rw (said, kept, first) past in
     let some : nat_lt (length octets) 1 ≡ false = grind (arith, nat_tests) in
     let is_ip : not (ip_version octets == 6) ≡ false = rw version refl in
     let next : nat_lt (length octets) 7 ≡ false = grind (arith, nat_tests) in
@@ -238,11 +283,11 @@ pub ipv6_version : (ip : Ipv6Header) (len number : ℕ) (tail : List ℕ) → ip
 ipv6_version ip len number tail fits = let class = ip.class in omega arith
 
 -- a packet that says `len` octets after these headers
-ipv6_laid_out : (place : Place) (ip : Ipv6Header) (headers : List Extension) (tail : List ℕ) (len all : ℕ) → IsIpv6 ip (length (extensions headers) + len)
-    → past_headers 8 (headers_of headers (take len tail) (length (extensions headers) + len)) ≡ header_of 17 (take len tail) len → 40 + (length (extensions headers) + len) ≤ all
+ipv6_laid_out : (place : Place) (ip : Ipv6Header) (headers : List Extension) (tail : List ℕ) (len all : ℕ) (b : Bool) → IsIpv6 ip (length (extensions headers) + len)
+    → past_headers 8 (headers_of headers (take len tail) (length (extensions headers) + len)) ≡ header_of 17 (take len tail) len b → 40 + (length (extensions headers) + len) ≤ all
     → ipv6_sight place (ipv6_header ip (length (extensions headers) + len) (first_number headers) ++ (extensions headers ++ tail)) all
     ≡ udp_sight place (ends6 ip) false (take len tail) len
-ipv6_laid_out place ip headers tail len all fits past there =
+ipv6_laid_out place ip headers tail len all b fits past there =
     let inner = extensions headers in
     let total = length inner + len in
     let number = first_number headers in
@@ -254,7 +299,7 @@ ipv6_laid_out place ip headers tail len all fits past there =
     let to_sender = front ++ big_bytes 2 total ++ number ∷ ip.hop_limit ∷ [] in
     let at_sender : network_number 8 16 octets ≡ ip.sender = number-back to_sender 16 ip.sender behind fits.sender_fits in
     let at_destination : network_number 24 16 octets ≡ ip.destination = number-back (to_sender ++ big_bytes 16 ip.sender) 16 ip.destination (inner ++ tail) fits.destination_fits in
-    ipv6_seen place octets (inner ++ take len tail) (take len tail) number total len all (ends6 ip) (omega arith)
+    ipv6_seen place octets (inner ++ take len tail) (take len tail) number total len all (ends6 ip) b (omega arith)
     (ipv6_version ip total number (inner ++ tail) fits.class_fits) at_total refl (rw (at_sender, at_destination) refl) there
     (take-append-add inner tail len) past
 
@@ -388,12 +433,12 @@ cut_over_ipv4 place ether_type ip carried more n all sight type fits there no_fr
 ipv6_long : (ip : Ipv6Header) (headers : List Extension) (carried : List ℕ) (more : ℕ) → length (ipv6_octets ip headers carried more) ≡ 40 + (length (extensions headers) + length carried)
 ipv6_long ip headers carried more = omega (arith, length-append (extensions headers) carried)
 
-whole_over_ipv6 : (place : Place) (ether_type : ℕ) (ip : Ipv6Header) (headers : List Extension) (carried after : List ℕ) (more all : ℕ) (sight : Sight) → ether_type ≡ 0x86dd
+whole_over_ipv6 : (place : Place) (ether_type : ℕ) (ip : Ipv6Header) (headers : List Extension) (carried after : List ℕ) (more all : ℕ) (sight : Sight) (b : Bool) → ether_type ≡ 0x86dd
     → IsIpv6 ip (length (extensions headers) + (length carried + more)) → length (ipv6_octets ip headers carried more) + more ≤ all
-    → ((rest : List ℕ) (whole : ℕ) → past_headers 8 (headers_of headers rest whole) ≡ header_of 17 rest (whole - length (extensions headers)))
+    → ((rest : List ℕ) (whole : ℕ) → past_headers 8 (headers_of headers rest whole) ≡ header_of 17 rest (whole - length (extensions headers)) b)
     → ((rest : List ℕ) → udp_sight place (ends6 ip) false (carried ++ rest) (length carried + more) ≡ sight)
     → SeenIn place ether_type (ipv6_octets ip headers carried more ++ after) all sight
-whole_over_ipv6 place ether_type ip headers carried after more all sight type fits there past seen =
+whole_over_ipv6 place ether_type ip headers carried after more all sight b type fits there past seen =
     let len = length carried + more in
     let inner = extensions headers in
     let total = length inner + len in
@@ -401,20 +446,21 @@ whole_over_ipv6 place ether_type ip headers carried after more all sight type fi
     let tail = carried ++ after in
     let kept : take len tail ≡ carried ++ take more after = take-append-add carried after more in
     let left : total - length inner ≡ len = omega arith in
-    let passed : past_headers 8 (headers_of headers (take len tail) total) ≡ header_of 17 (take len tail) len = past (take len tail) total ∙ ap
-    (header_of 17 (take len tail)) left in
-    let laid = ipv6_laid_out place ip headers tail len all fits passed (omega (arith, ipv6_long ip headers carried more)) in
+    let passed : past_headers 8 (headers_of headers (take len tail) total) ≡ header_of 17 (take len tail) len b = past (take len tail) total ∙ ap
+    (λ (n : ℕ). header_of 17 (take len tail) n b) left in
+    let laid = ipv6_laid_out place ip headers tail len all b fits passed (omega (arith, ipv6_long ip headers carried more)) in
     let octets_are : ipv6_octets ip headers carried more ++ after ≡ front ++ (inner ++ tail) = append_assoc front (inner ++ carried) after ∙ ap (λ (o : List ℕ). front ++ o)
     (append_assoc inner carried after) in
     over_ipv6 place ether_type ip total (first_number headers) all (inner ++ tail) (ipv6_octets ip headers carried more ++ after) sight type fits.class_fits octets_are
     (laid ∙ ap (λ (c : List ℕ). udp_sight place (ends6 ip) false c len) kept ∙ seen (take more after))
 
 cut_over_ipv6 : (place : Place) (ether_type : ℕ) (ip : Ipv6Header) (headers : List Extension) (carried : List ℕ) (more n all : ℕ) (sight : Sight) → ether_type ≡ 0x86dd
-    → IsIpv6 ip (length (extensions headers) + (length carried + more)) → length (ipv6_octets ip headers carried more) + more ≤ all → length headers ≤ 8 → All IsExtension headers
+    → IsIpv6 ip (length (extensions headers) + (length carried + more)) → length (ipv6_octets ip headers carried more) + more ≤ all → length headers ≤ 8 → AreExtensions false headers
     → n ≤ length carried
     → udp_sight place (ends6 ip) false (take n carried) (length carried + more) ≡ sight
     → SeenIn place ether_type (take (40 + (length (extensions headers) + n)) (ipv6_octets ip headers carried more)) all sight
 cut_over_ipv6 place ether_type ip headers carried more n all sight type fits there few are less seen =
+    let b = in_after false headers are in
     let len = length carried + more in
     let inner = extensions headers in
     let total = length inner + len in
@@ -422,9 +468,9 @@ cut_over_ipv6 place ether_type ip headers carried more n all sight type fits the
     let tail = take n carried in
     let kept : take len tail ≡ tail = take_all len tail (omega (arith, length-take-le n carried less)) in
     let left : total - length inner ≡ len = omega arith in
-    let passed : past_headers 8 (headers_of headers (take len tail) total) ≡ header_of 17 (take len tail) len = past-extensions headers 8 (take len tail) total few are ∙ ap
-    (header_of 17 (take len tail)) left in
-    let laid = ipv6_laid_out place ip headers tail len all fits passed (omega (arith, ipv6_long ip headers carried more)) in
+    let passed : past_headers 8 (headers_of headers (take len tail) total) ≡ header_of 17 (take len tail) len b = past-extensions headers 8 (take len tail) total few are ∙ ap
+    (λ (n : ℕ). header_of 17 (take len tail) n b) left in
+    let laid = ipv6_laid_out place ip headers tail len all b fits passed (omega (arith, ipv6_long ip headers carried more)) in
     let part : take (40 + (length inner + n)) (ipv6_octets ip headers carried more) ≡ front ++ (inner ++ tail) = take-append-add front (inner ++ carried) (length inner + n) ∙ ap
     (λ (o : List ℕ). front ++ o) (take-append-add inner carried n) in
     over_ipv6 place ether_type ip total (first_number headers) all (inner ++ tail) (take (40 + (length inner + n)) (ipv6_octets ip headers carried more)) sight type fits.class_fits part
@@ -446,7 +492,7 @@ whole_seen place ether_type ends udp packet after more all babel (inl over) ther
 whole_seen place ether_type ends udp packet after more all babel (inr over) there =
     let ip = over.ip in
     rw (over.is_packet, over.are_ends)
-    (whole_over_ipv6 place ether_type ip over.headers (udp_octets udp) after more all (datagram place (ends6 ip) (carries udp.payload)) over.is_type over.fits
+    (whole_over_ipv6 place ether_type ip over.headers (udp_octets udp) after more all (datagram place (ends6 ip) (carries udp.payload)) (in_after false over.headers over.are_headers) over.is_type over.fits
     (omega (arith, ap length over.is_packet))
     (λ (rest : List ℕ) (whole : ℕ). past-extensions over.headers 8 rest whole over.few over.are_headers)
     (λ (rest : List ℕ). udp_laid_out place (ends6 ip) udp rest (length (udp_octets udp) + more) babel (local_may ip.sender over.fits.link_local) (omega arith)))

@@ -1,5 +1,5 @@
 -- What is read of one sender at one place.
-use Rattle.std.proofs.Common.{◌≡◌, ◌≤◌, ◌⊎◌, ℕ, Bool, true, false, cond, List, [], ◌∷◌, ◌++◌, Option, length, refl, sym, ap, subst, ◌∙◌, inl, inr, arith}
+use Rattle.std.proofs.Common.{◌≡◌, ◌≤◌, ◌⊎◌, ℕ, Bool, true, false, ◌&&◌, cond, List, [], ◌∷◌, ◌++◌, Option, length, refl, sym, ap, subst, ◌∙◌, inl, inr, arith}
 use Rattle.std.specs.Prelude.{None, Some, fold}
 use Rattle.std.specs.declared.cmp.Ordering.{Ordering}
 use Rattle.std.specs.declared.cmp.Ordering.TheVariants.{Equal}
@@ -17,9 +17,10 @@ use Rattle.babel_capture.specs.Blocks.{BlockAt, sightings_to_end}
 use Rattle.babel_capture.specs.Passage.{Sighting}
 use Rattle.babel_capture.specs.Counts.{Made, counts_of}
 use Rattle.babel_capture.specs.Dumps.{packets_made, timed_found}
-use Rattle.babel_capture.specs.Findings.{CarriedIs, Finds, Found, PayloadIs, everyone, found, lack_found, left, passed, refused, untold}
+use Rattle.babel_capture.specs.Findings.{CarriedIs, Finds, Found, PayloadIs, found, missed_found, left, passed, refused, untold}
 use Rattle.babel_capture.specs.Gathering.{AreMade, IsTaken}
-use Rattle.babel_capture.specs.OneOrigin.{AloneIsTheSame, MissingIsNone, NamedIsOne, is_missed, missed_from, only}
+use Rattle.babel_capture.specs.OneOrigin.{AloneIsTheSame, MissingIsNone, NamedIsOne, all_senders, is_missed, missed_from, only}
+use Rattle.babel_capture.specs.Lack.{lack_reason, lacks_fragments}
 use Rattle.babel_capture.specs.Senders.{is_from, made_from}
 use Rattle.babel_capture.specs.Sight.{Carried, Sight, carries, datagram, fragmented, lacking, not_link_local, other, other_port, too_short}
 use Rattle.babel_capture.specs.Tallies.{Senders, origin_cmp, senders_listed, senders_of, senders_with}
@@ -44,14 +45,15 @@ carried_of : (wanted : Wanted) (place : Place) (ends : Ends) (carried : Carried)
     → CarriedIs wanted place ends carried (found there from packet has_trailer) → (there ≡ place) × (from ≡ ends)
 carried_of wanted place ends other_port there from packet has_trailer is = absurd cc
 carried_of wanted place ends not_link_local there from packet has_trailer is = absurd cc
-carried_of wanted place ends (lacking lack) there from packet has_trailer is = absurd (by wanted.sender is)
+carried_of wanted place ends (lacking lack) there from packet has_trailer is = absurd (by (wanted.accepts_missing && lacks_fragments lack) wanted.sender is)
   where
-    by : (named : Option Address) → found there from packet has_trailer ≡ lack_found named place ends.sender lack → ⊥
-    by None is = cc
-    by (Some one) is = cc
+    by : (accepted : Bool) (named : Option Address) → found there from packet has_trailer ≡ cond accepted (left (lack_reason lack) None) (missed_found named place ends.sender lack) → ⊥
+    by true named is = cc
+    by false None is = cc
+    by false (Some one) is = cc
 carried_of wanted place ends (carries payload) there from packet has_trailer is = payload_of place ends payload there from packet has_trailer is
 
-module _ (origin : Origin) where
+module _ (accepts : Bool) (origin : Origin) where
   -- ---- this sender at this place
 
   abbrev is_own : Place → Address → Bool
@@ -74,13 +76,13 @@ module _ (origin : Origin) where
       by true is = absurd (not (own_wanted place sender is))
       by false is = is
 
-  found_of : (sight : Sight) (place : Place) (ends : Ends) (packet : List ℕ) (has_trailer : Bool) → Finds (only origin) sight (found place ends packet has_trailer)
+  found_of : (sight : Sight) (place : Place) (ends : Ends) (packet : List ℕ) (has_trailer : Bool) → Finds (only accepts origin) sight (found place ends packet has_trailer)
       → (ends.sender ≡ origin.sender) × (place ≡ origin.place)
   found_of other place ends packet has_trailer is = absurd cc
   found_of too_short place ends packet has_trailer is = absurd cc
   found_of (fragmented fragment) place sender packet has_trailer is = absurd cc
   found_of (datagram there from carried) place ends packet has_trailer (inl (wants, is)) =
-      let parts = carried_of (only origin) there from carried place ends packet has_trailer is in (ap (λ (e : Ends). e.sender) parts.1 ∙ wants.0, parts.0 ∙ wants.1)
+      let parts = carried_of (only accepts origin) there from carried place ends packet has_trailer is in (ap (λ (e : Ends). e.sender) parts.1 ∙ wants.0, parts.0 ∙ wants.1)
   found_of (datagram there from carried) place ends packet has_trailer (inr (not, is)) = absurd cc
 
   -- ---- where it alone is wanted, it alone is counted
@@ -96,7 +98,7 @@ module _ (origin : Origin) where
   put_at_most senders put (inl none) = inr (put, ap (λ (s : Senders). insert_entry origin_cmp s origin put) none)
   put_at_most senders put (inr (tally, is)) = inr (put, ap (λ (s : Senders). insert_entry origin_cmp s origin put) is ∙ put_one tally put)
 
-  with_at_most : (sight : Sight) (senders : Senders) (time : Option ℕ) (what : Found) → Finds (only origin) sight what → IsOneAtMost senders → IsOneAtMost (senders_with senders time what)
+  with_at_most : (sight : Sight) (senders : Senders) (time : Option ℕ) (what : Found) → Finds (only accepts origin) sight what → IsOneAtMost senders → IsOneAtMost (senders_with senders time what)
   with_at_most sight senders time passed finds most = most
   with_at_most sight senders time untold finds most = most
   with_at_most sight senders time (left reason missed) finds most = most
@@ -106,7 +108,7 @@ module _ (origin : Origin) where
       let is : at place ends.sender ≡ origin = ap (λ (p : Place). at p ends.sender) same.1 ∙ ap (at origin.place) same.0 in
       subst (λ (o : Origin). IsOneAtMost (senders_with senders time (found o.place (record { sender = o.sender; destination = ends.destination }) packet has_trailer))) (sym is) (put_at_most senders _ most)
 
-  all_at_most : (sightings : List Sighting) (made : List Made) (senders : Senders) → AreMade (only origin) sightings made → IsOneAtMost senders
+  all_at_most : (sightings : List Sighting) (made : List Made) (senders : Senders) → AreMade (only accepts origin) sightings made → IsOneAtMost senders
       → IsOneAtMost (fold (λ (s : Senders) (one : Made). senders_with s (time_of one.came) one.what) senders made)
   all_at_most [] made senders are most =
       subst (λ (ms : List Made). IsOneAtMost (fold (λ (s : Senders) (one : Made). senders_with s (time_of one.came) one.what) senders ms)) (sym are) most
@@ -118,7 +120,7 @@ module _ (origin : Origin) where
   few senders (inl none) = omega (arith, ap length none)
   few senders (inr (tally, is)) = omega (arith, ap length is)
 
-  one_at_most : (sightings : List Sighting) (made : List Made) → AreMade (only origin) sightings made → length (senders_of made) ≤ 1
+  one_at_most : (sightings : List Sighting) (made : List Made) → AreMade (only accepts origin) sightings made → length (senders_of made) ≤ 1
   one_at_most sightings made are = few (senders_of made) (all_at_most sightings made [] are (inl refl))
 
   -- ---- and what is found is all of it
@@ -129,7 +131,7 @@ module _ (origin : Origin) where
   from_cons : (one : Made) (made : List Made) → made_from origin (one ∷ made) ≡ if_from one.what (one ∷ []) ++ made_from origin made
   from_cons one made = filter-append (λ (m : Made). is_from origin m.what) (one ∷ []) made
 
-  found_own : (sight : Sight) (one : Made) (what : Found) → one.what ≡ what → Finds (only origin) sight what → packets_made (one ∷ []) ≡ packets_made (if_from what (one ∷ []))
+  found_own : (sight : Sight) (one : Made) (what : Found) → one.what ≡ what → Finds (only accepts origin) sight what → packets_made (one ∷ []) ≡ packets_made (if_from what (one ∷ []))
   found_own sight one passed is finds = ap (λ (w : Found). timed_found one.came w ++ []) is
   found_own sight one untold is finds = ap (λ (w : Found). timed_found one.came w ++ []) is
   found_own sight one (left reason missed) is finds = ap (λ (w : Found). timed_found one.came w ++ []) is
@@ -137,7 +139,7 @@ module _ (origin : Origin) where
   found_own sight one (found place ends packet has_trailer) is finds =
       ap (λ (b : Bool). packets_made (cond b (one ∷ []) [])) (sym (wanted_own place ends.sender (found_of sight place ends packet has_trailer finds)))
 
-  all_own : (sightings : List Sighting) (made : List Made) → AreMade (only origin) sightings made → packets_made made ≡ packets_made (made_from origin made)
+  all_own : (sightings : List Sighting) (made : List Made) → AreMade (only accepts origin) sightings made → packets_made made ≡ packets_made (made_from origin made)
   all_own [] made are = ap packets_made are ∙ sym (ap (λ (m : List Made). packets_made (made_from origin m)) are)
   all_own (sighting ∷ later) made (one, others, is, number, link, came, finds, takes, are) =
       ap packets_made is ∙ packets-append (one ∷ []) others
@@ -148,30 +150,35 @@ module _ (origin : Origin) where
 
   -- ---- what is made of each packet where it alone is wanted, by what is made where nobody is named
 
-  not_from : (place : Place) (ends : Ends) (carried : Carried) (what : Found) → is_own place ends.sender ≡ false → CarriedIs everyone place ends carried what → is_from origin what ≡ false
+  not_from : (place : Place) (ends : Ends) (carried : Carried) (what : Found) → is_own place ends.sender ≡ false → CarriedIs (all_senders accepts) place ends carried what → is_from origin what ≡ false
   not_from place ends carried passed is made = refl
   not_from place ends carried untold is made = refl
   not_from place ends carried (left reason missed) is made = refl
   not_from place ends carried (refused lack) is made = refl
   not_from place ends carried (found there from packet has_trailer) is made =
-      let parts = carried_of everyone place ends carried there from packet has_trailer made in
+      let parts = carried_of (all_senders accepts) place ends carried there from packet has_trailer made in
       ap (λ (p : Place). is_own p from.sender) parts.0 ∙ ap (λ (e : Ends). is_own place e.sender) parts.1 ∙ is
 
-  own_carried : (place : Place) (ends : Ends) (carried : Carried) (what : Found) → is_own place ends.sender ≡ true → is_missed origin what ≡ false → CarriedIs everyone place ends carried what
-      → CarriedIs (only origin) place ends carried what
+  own_carried : (place : Place) (ends : Ends) (carried : Carried) (what : Found) → is_own place ends.sender ≡ true → is_missed origin what ≡ false → CarriedIs (all_senders accepts) place ends carried what
+      → CarriedIs (only accepts origin) place ends carried what
   own_carried place ends other_port what is there made = made
   own_carried place ends not_link_local what is there made = made
   own_carried place ends (carries payload) what is there made = made
-  own_carried place ends (lacking lack) what is there made = (let wrong : true ≡ false = sym is ∙ sym (ap (is_missed origin) made) ∙ there in absurd cc)
+  own_carried place ends (lacking lack) what is there made = by (accepts && lacks_fragments lack) made
+    where
+      by : (accepted : Bool) → what ≡ cond accepted (left (lack_reason lack) None) (missed_found None place ends.sender lack)
+          → what ≡ cond accepted (left (lack_reason lack) None) (missed_found (Some origin.sender) place ends.sender lack)
+      by true made = made
+      by false made = (let wrong : true ≡ false = sym is ∙ sym (ap (is_missed origin) made) ∙ there in absurd cc)
 
   -- it is the same, or passed
   record IsMine (sight : Sight) (what : Found) : Type 0 where
     mine : Found
-    finds : Finds (only origin) sight mine
+    finds : Finds (only accepts origin) sight mine
     taken : IsTaken mine
     same : (made : Found → Made) → if_from mine (made mine ∷ []) ≡ if_from what (made what ∷ [])
 
-  one_mine : (sight : Sight) (what : Found) → Finds everyone sight what → IsTaken what → is_missed origin what ≡ false → IsMine sight what
+  one_mine : (sight : Sight) (what : Found) → Finds (all_senders accepts) sight what → IsTaken what → is_missed origin what ≡ false → IsMine sight what
   one_mine other what is taken there = record { mine = passed; finds = refl; taken = tt; same = λ made. ap (λ (w : Found). if_from w (made w ∷ [])) (sym is) }
   one_mine too_short what is taken there = record { mine = untold; finds = refl; taken = tt; same = λ made. ap (λ (w : Found). if_from w (made w ∷ [])) (sym is) }
   one_mine (fragmented fragment) what is taken there = record { mine = passed; finds = refl; taken = tt; same = λ made. ap (λ (w : Found). if_from w (made w ∷ [])) (sym is) }
@@ -198,10 +205,10 @@ module _ (origin : Origin) where
 
   record AreMine (sightings : List Sighting) (made : List Made) : Type 0 where
     mine : List Made
-    are_made : AreMade (only origin) sightings mine
+    are_made : AreMade (only accepts origin) sightings mine
     same : made_from origin mine ≡ made_from origin made
 
-  all_mine : (sightings : List Sighting) (made : List Made) → AreMade everyone sightings made → missed_from origin made ≡ [] → AreMine sightings made
+  all_mine : (sightings : List Sighting) (made : List Made) → AreMade (all_senders accepts) sightings made → missed_from origin made ≡ [] → AreMine sightings made
   all_mine [] made are none = record { mine = []; are_made = refl; same = ap (made_from origin) (sym are) }
   all_mine (sighting ∷ later) made (one, others, is, number, link, came, finds, takes, are) none =
       let there = none_here one others (ap (missed_from origin) (sym is) ∙ none) in
@@ -222,7 +229,7 @@ module _ (origin : Origin) where
   payload_there place ends payload what (inr (inr (inl (long, magic, is)))) = ap (is_missed origin) is
   payload_there place ends payload what (inr (inr (inr (long, magic, version, is)))) = ap (is_missed origin) is
 
-  one_there : (sight : Sight) (what mine : Found) → Finds everyone sight what → Finds (only origin) sight mine → IsTaken mine → is_missed origin what ≡ false
+  one_there : (sight : Sight) (what mine : Found) → Finds (all_senders accepts) sight what → Finds (only accepts origin) sight mine → IsTaken mine → is_missed origin what ≡ false
   one_there other what mine is finds taken = ap (is_missed origin) is
   one_there too_short what mine is finds taken = ap (is_missed origin) is
   one_there (fragmented fragment) what mine is finds taken = ap (is_missed origin) is
@@ -230,10 +237,19 @@ module _ (origin : Origin) where
   one_there (datagram place ends other_port) what mine (inl (wants, is)) finds taken = ap (is_missed origin) is
   one_there (datagram place ends not_link_local) what mine (inl (wants, is)) finds taken = ap (is_missed origin) is
   one_there (datagram place ends (carries payload)) what mine (inl (wants, is)) finds taken = payload_there place ends payload what is
-  one_there (datagram place ends (lacking lack)) what mine (inl (wants, is)) (inl (own, refuses)) taken = absurd (subst IsTaken refuses taken)
-  one_there (datagram place ends (lacking lack)) what mine (inl (wants, is)) (inr (not, passes)) taken = ap (is_missed origin) is ∙ unwanted place ends.sender not
+  one_there (datagram place ends (lacking lack)) what mine (inl (wants, is)) (inl (own, refuses)) taken = by (accepts && lacks_fragments lack) is refuses
+    where
+      by : (accepted : Bool) → what ≡ cond accepted (left (lack_reason lack) None) (missed_found None place ends.sender lack)
+          → mine ≡ cond accepted (left (lack_reason lack) None) (missed_found (Some origin.sender) place ends.sender lack) → is_missed origin what ≡ false
+      by true is refuses = ap (is_missed origin) is
+      by false is refuses = absurd (subst IsTaken refuses taken)
+  one_there (datagram place ends (lacking lack)) what mine (inl (wants, is)) (inr (not, passes)) taken = by (accepts && lacks_fragments lack) is
+    where
+      by : (accepted : Bool) → what ≡ cond accepted (left (lack_reason lack) None) (missed_found None place ends.sender lack) → is_missed origin what ≡ false
+      by true is = ap (is_missed origin) is
+      by false is = ap (is_missed origin) is ∙ unwanted place ends.sender not
 
-  all_there : (sightings : List Sighting) (made mine : List Made) → AreMade everyone sightings made → AreMade (only origin) sightings mine → missed_from origin made ≡ []
+  all_there : (sightings : List Sighting) (made mine : List Made) → AreMade (all_senders accepts) sightings made → AreMade (only accepts origin) sightings mine → missed_from origin made ≡ []
   all_there [] made mine are are_mine = ap (missed_from origin) are
   all_there (sighting ∷ later) made mine (one, others, is, number, link, came, finds, takes, are) (my_one, my_others, my_is, my_number, my_link, my_came, my_finds, my_takes, are_mine) =
       ap (missed_from origin) is
@@ -243,19 +259,19 @@ module _ (origin : Origin) where
 -- ---- so with captures
 
 pub named_is_one : NamedIsOne
-named_is_one limit octets gathering cut origin read wanted =
+named_is_one limit octets gathering cut accepts origin read wanted =
     let gathered = read.is_read.gathered in
     subst (λ (s : Senders). length s ≤ 1) (sym (gathered.senders ∙ ap (λ (w : Wanted). senders_listed w.are_listed gathered.made) wanted))
-    (one_at_most origin (sightings_to_end read.is_read.blocks) gathered.made
+    (one_at_most accepts origin (sightings_to_end read.is_read.blocks) gathered.made
     (subst (λ (w : Wanted). AreMade w (sightings_to_end read.is_read.blocks) gathered.made) wanted gathered.taken.are_made))
 
 pub alone_is_the_same : AloneIsTheSame
-alone_is_the_same limit octets all cut origin read wanted none =
+alone_is_the_same limit octets all cut accepts origin read wanted none =
     let sightings = sightings_to_end read.is_read.blocks in
     let gathered = read.is_read.gathered in
-    let are = all_mine origin sightings gathered.made (subst (λ (w : Wanted). AreMade w sightings gathered.made) wanted gathered.taken.are_made) none in
-    let most = one_at_most origin sightings are.mine are.are_made in (
-      record { wanted = only origin; names = all.names; report = counts_of are.mine; senders = senders_of are.mine },
+    let are = all_mine accepts origin sightings gathered.made (subst (λ (w : Wanted). AreMade w sightings gathered.made) wanted gathered.taken.are_made) none in
+    let most = one_at_most accepts origin sightings are.mine are.are_made in (
+      record { wanted = only accepts origin; names = all.names; report = counts_of are.mine; senders = senders_of are.mine },
       record {
         read = read.read;
         rest = read.rest;
@@ -273,15 +289,15 @@ alone_is_the_same limit octets all cut origin read wanted none =
       },
       refl,
       are.same,
-      all_own origin sightings are.mine are.are_made ∙ ap packets_made are.same,
+      all_own accepts origin sightings are.mine are.are_made ∙ ap packets_made are.same,
     )
 
 pub missing_is_none : MissingIsNone
-missing_is_none limit octets all own cut own_cut origin read wanted some alone alone_wanted =
+missing_is_none limit octets all own cut own_cut accepts origin read wanted some alone alone_wanted =
     let gathered = read.is_read.gathered in
     let own_gathered = alone.is_read.gathered in
     let same : read.is_read.blocks ≡ alone.is_read.blocks = (same_blocks limit octets all own cut own_cut read alone).0 in
-    some (all_there origin (sightings_to_end read.is_read.blocks) gathered.made own_gathered.made
+    some (all_there accepts origin (sightings_to_end read.is_read.blocks) gathered.made own_gathered.made
     (subst (λ (w : Wanted). AreMade w (sightings_to_end read.is_read.blocks) gathered.made) wanted gathered.taken.are_made)
-    (subst (λ (b : List BlockAt). AreMade (only origin) (sightings_to_end b) own_gathered.made) (sym same)
+    (subst (λ (b : List BlockAt). AreMade (only accepts origin) (sightings_to_end b) own_gathered.made) (sym same)
     (subst (λ (w : Wanted). AreMade w (sightings_to_end alone.is_read.blocks) own_gathered.made) alone_wanted own_gathered.taken.are_made)))

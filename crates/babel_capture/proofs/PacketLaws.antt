@@ -1,5 +1,5 @@
 -- What is found in a capture is whole packets.
-use Rattle.std.proofs.Common.{◌≡◌, ℕ, List, [], ◌∷◌, ◌++◌, Option, None, Some, sym, ap, subst, ◌∙◌, inl, inr}
+use Rattle.std.proofs.Common.{◌≡◌, ℕ, Bool, true, false, ◌&&◌, if◌then◌else◌, List, [], ◌∷◌, ◌++◌, Option, None, Some, sym, ap, subst, ◌∙◌, inl, inr}
 use Rattle.std.specs.List.{flat_map}
 use Rattle.std.proofs.lemmas.List.{append-nil}
 use Rattle.std.proofs.lemmas.List.Concat.{flat_map-append}
@@ -15,7 +15,8 @@ use Rattle.babel_capture.specs.Passage.{Sighting}
 use Rattle.babel_capture.specs.Capture.{IsRead}
 use Rattle.babel_capture.specs.Counts.{Made}
 use Rattle.babel_capture.specs.Dumps.{dump_of}
-use Rattle.babel_capture.specs.Findings.{Found, Finds, PayloadIs, CarriedIs, lack_found, octets_found}
+use Rattle.babel_capture.specs.Findings.{Found, Finds, PayloadIs, CarriedIs, left, missed_found, octets_found}
+use Rattle.babel_capture.specs.Lack.{lack_reason, lacks_fragments}
 use Rattle.babel_capture.specs.Gathering.{AreMade, Gathering}
 use Rattle.babel_capture.specs.Packets.{ArePackets}
 use Rattle.babel_capture.specs.Sight.{Sight, Carried, other, too_short, fragmented, datagram, other_port, not_link_local, lacking, carries}
@@ -45,14 +46,16 @@ in_payload place ends payload what (inr (inl (short, is))) = nothing_found (octe
 in_payload place ends payload what (inr (inr (inl (header, magic, is)))) = nothing_found (octets_found what) (ap octets_found is)
 in_payload place ends payload what (inr (inr (inr (header, magic, version, is)))) = nothing_found (octets_found what) (ap octets_found is)
 
-in_lack : (named : Option Address) (place : Place) (sender : Address) (lack : Lack) (what : Found) → what ≡ lack_found named place sender lack → ArePackets (octets_found what)
-in_lack None place sender lack what is = nothing_found (octets_found what) (ap octets_found is)
-in_lack (Some named) place sender lack what is = nothing_found (octets_found what) (ap octets_found is)
+in_lack : (accepted : Bool) (named : Option Address) (place : Place) (sender : Address) (lack : Lack) (what : Found)
+    → what ≡ (if accepted then left (lack_reason lack) None else missed_found named place sender lack) → ArePackets (octets_found what)
+in_lack true named place sender lack what is = nothing_found (octets_found what) (ap octets_found is)
+in_lack false None place sender lack what is = nothing_found (octets_found what) (ap octets_found is)
+in_lack false (Some named) place sender lack what is = nothing_found (octets_found what) (ap octets_found is)
 
 in_carried : (wanted : Wanted) (place : Place) (ends : Ends) (carried : Carried) (what : Found) → CarriedIs wanted place ends carried what → ArePackets (octets_found what)
 in_carried wanted place ends other_port what is = nothing_found (octets_found what) (ap octets_found is)
 in_carried wanted place ends not_link_local what is = nothing_found (octets_found what) (ap octets_found is)
-in_carried wanted place ends (lacking lack) what is = in_lack wanted.sender place ends.sender lack what is
+in_carried wanted place ends (lacking lack) what is = in_lack (wanted.accepts_missing && lacks_fragments lack) wanted.sender place ends.sender lack what is
 in_carried wanted place ends (carries payload) what is = in_payload place ends payload what is
 
 pub in_sight : (wanted : Wanted) (sight : Sight) (what : Found) → Finds wanted sight what → ArePackets (octets_found what)

@@ -15,11 +15,11 @@ use Rattle.babel_capture.specs.IpFragments.{IpFragment, fragment_sight}
 use Rattle.babel_capture.specs.Ipv4.{ipv4_sight, ipv4_fragment, ipv4_header_len, total_len, fragment_offset, has_more_fragments, is_fragment}
 use Rattle.babel_capture.specs.Ipv6.{ipv6_sight, ipv6_fragment, payload_len, first_header}
 use Rattle.std.specs.List.{All}
-use Rattle.babel_capture.specs.LaidOut.{Extension, IsExtension, Ipv4Header, Ipv6Header, HasOffset, IsIpv4, IsOfSeveral, IsPartHeader, IsPartOverIp, PartHeader}
+use Rattle.babel_capture.specs.LaidOut.{Extension, IsOptions, Ipv4Header, Ipv6Header, HasOffset, IsIpv4, IsOfSeveral, IsPartHeader, IsPartOverIp, PartHeader}
 use Rattle.babel_capture.specs.LaidOut.{extensions_before, first_before, ipv4_header, ipv6_header, part_header}
 use Rattle.babel_capture.specs.LinkHeaders.{IsHeader}
 use Rattle.babel_capture.specs.Octets.{network_number, ip_version}
-use Rattle.babel_capture.proofs.LaidOutLaws.{header_of, in_frame, ipv4_version, ipv6_version, number-back, over_ipv4, over_ipv6, past-before, words_of}
+use Rattle.babel_capture.proofs.LaidOutLaws.{header_of, in_frame, ipv4_version, ipv6_version, number-back, over_ipv4, over_ipv6, past-options, words_of}
 
 -- a flag, as it is read
 flag_is : (flag : ℕ) (bit : ℕ) → flag < 2 → bit ≡ flag * 2 ^ 13 → not (bit == 0) ≡ (flag == 1)
@@ -57,7 +57,7 @@ module _ (place : Place) (ip : Ipv4Header) (carried after : List ℕ) (flag unit
     offset = 8 * units;
     more = flag == 1;
     is_cut = false;
-    carried = record { number = 17; octets = carried; whole = len };
+    carried = record { number = 17; octets = carried; whole = len; in_fragment = true };
   }
 
   ipv4_part : ipv4_sight place octets all ≡ fragment_sight part4
@@ -138,7 +138,7 @@ module _ (place : Place) (ip : Ipv6Header) (headers : List Extension) (part : Pa
     offset = 8 * part.units;
     more = part.flag == 1;
     is_cut = false;
-    carried = record { number = part.next; octets = carried; whole = length carried };
+    carried = record { number = part.next; octets = carried; whole = length carried; in_fragment = true };
   }
 
   unless_both : (a b : Bool) → (not a || b) ≡ true → (a && not b) ≡ false
@@ -146,7 +146,7 @@ module _ (place : Place) (ip : Ipv6Header) (headers : List Extension) (part : Pa
   unless_both true false is = absurd cc
   unless_both false b is = refl
 
-  ipv6_part : length headers ≤ 8 → All IsExtension headers → IsPartHeader part → ip.class < 2 ^ 4 → ip.sender < 2 ^ 128 → ip.destination < 2 ^ 128 → total6 < 2 ^ 16 → 40 + total6 ≤ all
+  ipv6_part : length headers ≤ 8 → All IsOptions headers → IsPartHeader part → ip.class < 2 ^ 4 → ip.sender < 2 ^ 128 → ip.destination < 2 ^ 128 → total6 < 2 ^ 16 → 40 + total6 ≤ all
       → ipv6_sight place octets6 all ≡ fragment_sight part6
   unfolding ipv6_sight
   ipv6_part few are is class_fits sender_fits destination_fits len_fits there =
@@ -171,11 +171,11 @@ module _ (place : Place) (ip : Ipv6Header) (headers : List Extension) (part : Pa
       let long : length kept6 ≡ 8 + length carried = omega arith in
       let taken : take total6 (drop 40 octets6) ≡ inner ++ kept6 = take-append-add inner (kept6 ++ after) (8 + length carried)
       ∙ ap (λ (c : List ℕ). inner ++ c) (ap (λ (n : ℕ). take n (kept6 ++ after)) (sym long) ∙ take-append_seam kept6 after) in
-      let held = header_of 44 kept6 (8 + length carried) in
+      let held = header_of 44 kept6 (8 + length carried) false in
       let left : total6 - length inner ≡ 8 + length carried = omega arith in
-      let first : first_header octets6 ≡ header_of number (inner ++ kept6) total6 = rw (at_total, taken) refl in
+      let first : first_header octets6 ≡ header_of number (inner ++ kept6) total6 false = rw (at_total, taken) refl in
       let passed : past_headers 8 (first_header octets6) ≡ held =
-      ap (past_headers 8) first ∙ past-before headers 44 8 kept6 total6 few are ∙ ap (λ (n : ℕ). past_headers (8 - length headers) (header_of 44 kept6 n)) left
+      ap (past_headers 8) first ∙ past-options headers 44 8 kept6 total6 few are ∙ ap (λ (n : ℕ). past_headers (8 - length headers) (header_of 44 kept6 n false)) left
       ∙ stays-all (8 - length headers) held refl is_part in
       let some : nat_lt (length octets6) 1 ≡ false = grind (arith, nat_tests) in
       let is_ip : not (ip_version octets6 == 6) ≡ false = rw (ipv6_version ip total6 number behind class_fits) refl in

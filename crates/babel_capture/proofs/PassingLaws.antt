@@ -17,7 +17,7 @@ use Rattle.babel_capture.specs.declared.wanted.Wanted.{Wanted}
 use Rattle.babel_capture.specs.Backing.{Backs}
 use Rattle.babel_capture.specs.Contents.{Captured}
 use Rattle.babel_capture.specs.Counts.{Made}
-use Rattle.babel_capture.specs.Fragments.{Known, begun, begun_in, changed_with, forgotten, forgotten_with, is_of_another, is_past, known_by, known_with, of_id, step_of}
+use Rattle.babel_capture.specs.Fragments.{Known, begins, begun_in, changed_with, forgotten, forgotten_with, is_past, known_by, known_with, of_id, step_of}
 use Rattle.babel_capture.specs.Gathering.{AreLeft, Gathering, IsRefused, RefusesSight}
 use Rattle.babel_capture.specs.Passage.{Passage, Sighting, clock_after, given_up, known_after, missing_at, missing_in, passage_to, passed_at, seen_at, sight_at, sight_in, sighting_as, sightings_at, sightings_skipped, skipped_of}
 use Rattle.babel_capture.specs.Passing.{GivesUp, Passed, passage_of_passed, ticked}
@@ -58,11 +58,7 @@ changed-same known fragment None = refl
 changed-same known fragment (Some one) = length-set_value (is_at (nat_cmp one.0)) known _
 
 begun-longer : (known : Known) (number at clock : ℕ) (within : Bool) (fragment : Fragment) → length (begun_in known number at clock within fragment) ≤ length known + 1
-begun-longer known number at clock within fragment = by (is_of_another fragment)
-  where
-    by : (b : Bool) → length (cond b known (insert_entry nat_cmp known number (begun at clock within fragment))) ≤ length known + 1
-    by true = omega arith
-    by false = one-longer number (begun at clock within fragment) known
+begun-longer known number at clock within fragment = one-longer number (begins at clock within fragment) known
 
 -- where none is found, or where it is no step that tells of one
 pub step-none : (step : Step) (found : Option (ℕ × Datagram)) → found ≡ None → (missing_at step found ≡ []) × (sight_at step found ≡ sights.other)

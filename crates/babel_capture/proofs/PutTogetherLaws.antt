@@ -22,7 +22,7 @@ use Rattle.babel_capture.specs.declared.datagram.Step.TheVariants as steps
 use Rattle.babel_capture.specs.declared.fragment.DatagramId.{DatagramId}
 use Rattle.babel_capture.specs.declared.fragment.UdpPlace.{UdpPlace}
 use Rattle.babel_capture.specs.declared.pieces.Meeting.TheVariants as meetings
-use Rattle.babel_capture.specs.Fragments.{begun, ends_of, is_of_another, step_by, step_in, step_to_open, step_with, stepped, whole_by, whole_sight, with_fragment}
+use Rattle.babel_capture.specs.Fragments.{begins, begun, ends_of, is_of_another, step_by, step_in, step_to_open, step_with, stepped, whole_by, whole_sight, with_fragment}
 use Rattle.babel_capture.specs.Passage.{Sighting, missing_at, sight_at, sighting_as}
 use Rattle.babel_capture.specs.LaidOut.{udp_octets}
 use Rattle.babel_capture.specs.Pieces.{Fragment, KeptPiece, KeptPieces, end_of, furthest, is_last, is_whole, joined, len_of, meeting, meeting_with, piece_of, share}
@@ -363,6 +363,11 @@ module _ (sent : List ℕ) where
         subst (λ (s : Step). seen (stepped one next s)) (sym step) there
 
     -- the first one
+    begins-part : (at came : ℕ) (ends_within : Bool) (first : Fragment) → IsPart sent udp first → begins at came ends_within first ≡ begun at came ends_within first
+    begins-part at came ends_within first part =
+        let one = begun at came ends_within first in
+        ap (λ (b : Bool). cond b (record one { standing = standings.Other; pieces = [] }) one) (not-another first part)
+
     begun-open : (at came : ℕ) (ends_within : Bool) (first : Fragment) → IsPart sent udp first → IsOpen first.id (begun at came ends_within first)
     begun-open at came ends_within first part = record {
       own = refl;
@@ -387,14 +392,17 @@ is_whole_then sent udp at came ends_within first between last is =
     let part = is.parts.0 in
     let lens = lens-cons sent udp first (between ++ last ∷ []) in
     let all = is.all in
-    to-last sent udp first.id (begun at came ends_within first) between last (begun-open sent udp at came ends_within first part) is.parts.2
-    (free-begun sent udp first (between ++ last ∷ []) is.parts.1) (omega (arith, lens, all))
+    let whole = to-last sent udp first.id (begun at came ends_within first) between last (begun-open sent udp at came ends_within first part) is.parts.2
+    (free-begun sent udp first (between ++ last ∷ []) is.parts.1) (omega (arith, lens, all)) in
+    let seen : Datagram → Type 0 = λ d. (step_in (after_fragments d between) last ≡ steps.Completes)
+    × (whole_sight (stepped (after_fragments d between) last steps.Completes) ≡ udp_sight first.id.origin.place (ends_of first.id) false (drop udp.at sent) (length sent - udp.at)) in
+    subst (λ (d : Datagram). seen d) (sym (begins-part sent udp at came ends_within first part)) whole
 
 pub is_read_then : PutTogetherIsRead
 is_read_then headers babel udp at came ends_within first between last is_babel may place is before number block packet found =
     let sent = headers ++ udp_octets babel in
     let whole = is_whole_then sent udp at came ends_within first between last is in
-    let one = after_fragments (begun at came ends_within first) between in
+    let one = after_fragments (begins at came ends_within first) between in
     let octets : drop udp.at sent ≡ udp_octets babel = ap (λ (n : ℕ). drop n sent) place ∙ drop-append_seam headers (udp_octets babel) in
     let len : length sent - udp.at ≡ length (udp_octets babel) = omega (arith, place, length-append headers (udp_octets babel)) in
     let told : Step → ℕ × Datagram → List Sighting = λ s d. missing_at s (Some d) ++ sighting_as (before.count + 1) block packet (sight_at s (Some d)) ∷ [] in

@@ -5,7 +5,7 @@ use Rattle.std.specs.Prelude.{Contains}
 use Rattle.std.specs.List.{All}
 use Rattle.std.proofs.lemmas.Bool.Decides.{nat_tests}
 use Rattle.std.proofs.lemmas.List.{drop-drop, drop-take, length-drop, length-take, length-take-le}
-use Rattle.std.proofs.lemmas.List.Elements.{All-cons, All-drop, All-nil, All-take}
+use Rattle.std.proofs.lemmas.List.Elements.{All-drop, All-take}
 use Rattle.std.proofs.lemmas.Nat.{and_mask}
 use Rattle.std.proofs.lemmas.Nat.Bits.{and_high_mask, and_pow}
 use Rattle.byteorder.specs.Endian.{big_bytes}
@@ -18,7 +18,7 @@ use Rattle.babel_capture.specs.IpFragments.{IpFragment, first_sight, fragment_si
 use Rattle.babel_capture.specs.InFrame.{AreOctets}
 use Rattle.babel_capture.specs.Ipv4.{carries_udp, fragment_offset, has_more_fragments, ipv4_carried_sight, ipv4_fragment, ipv4_header_len, ipv4_ends, ipv4_sight, is_fragment, total_len}
 use Rattle.babel_capture.specs.Ipv6.{first_header, ipv6_carried_sight, ipv6_fragment, ipv6_fragment_sight, ipv6_ends, ipv6_sight, payload_len, upper_sight}
-use Rattle.babel_capture.specs.LaidOut.{Extension, HasFlags, IsBabel, IsExtension, IsWhole, Ipv4Header, Ipv6Header, UdpDatagram, extensions, first_number}
+use Rattle.babel_capture.specs.LaidOut.{AreExtensions, Extension, HasFlags, IsBabel, IsWhole, Ipv4Header, Ipv6Header, UdpDatagram, extensions, first_number}
 use Rattle.babel_capture.specs.LaidOut.{ipv4_header, ipv4_octets, ipv6_header, ipv6_octets, udp_octets, udp_size}
 use Rattle.babel_capture.specs.Octets.{ip_version, network_number}
 use Rattle.babel_capture.specs.Sight.{Carried, Sight, carries, datagram, fragmented, lacking, not_link_local, other, other_port, too_short}
@@ -360,6 +360,7 @@ module _ (header : NextHeader) where
     number = slice_index header.octets 0;
     octets = drop (header_len header.octets) header.octets;
     whole = header.whole - header_len header.octets;
+    in_fragment = header.in_fragment;
   }
 
   abbrev fragment_next : NextHeader
@@ -367,6 +368,7 @@ module _ (header : NextHeader) where
     number = slice_index header.octets 0;
     octets = drop 8 header.octets;
     whole = header.whole - 8;
+    in_fragment = true;
   }
 
   abbrev Steps : NextHeader → Type 0
@@ -374,9 +376,10 @@ module _ (header : NextHeader) where
       (next ≡ header)
       ⊎ ((nat_lt (length header.octets) (telling_len header.number) ≡ false) × (has_len header.number ≡ true) × (next ≡ options_next))
       ⊎ ((nat_lt (length header.octets) (telling_len header.number) ≡ false) × (has_len header.number ≡ false)
-      × ((header.number == 44 && is_atomic header.octets) ≡ true) × (next ≡ fragment_next))
+      × ((header.number == 44 && is_atomic header.octets && not header.in_fragment) ≡ true) × (next ≡ fragment_next))
 
-  step_by : (a b c : Bool) → nat_lt (length header.octets) (telling_len header.number) ≡ a → has_len header.number ≡ b → (header.number == 44 && is_atomic header.octets) ≡ c
+  step_by : (a b c : Bool) → nat_lt (length header.octets) (telling_len header.number) ≡ a → has_len header.number ≡ b
+      → (header.number == 44 && is_atomic header.octets && not header.in_fragment) ≡ c
       → Steps (if a then header else if b then options_next else if c then fragment_next else header)
   step_by true b c is_a is_b is_c = inl refl
   step_by false true c is_a is_b is_c = inr (inl (is_a, is_b, refl))
@@ -385,7 +388,9 @@ module _ (header : NextHeader) where
 
   step_of : Steps (past_header header)
   unfolding past_header
-  step_of = step_by (nat_lt (length header.octets) (telling_len header.number)) (has_len header.number) (header.number == 44 && is_atomic header.octets) refl refl refl
+  step_of =
+      step_by (nat_lt (length header.octets) (telling_len header.number)) (has_len header.number) (header.number == 44 && is_atomic header.octets && not header.in_fragment)
+      refl refl refl
 
 -- octets past headers are octets
 bytes_after : (header next : NextHeader) → Steps header next → AreOctets header.octets → AreOctets next.octets
@@ -404,13 +409,14 @@ past-bytes (suc n) header are = bytes_after (past_headers n header) (past_header
 record IsPast (n : ℕ) (header upper : NextHeader) : Type 0 where
   headers : List Extension
   few : length headers ≤ n
-  are : All IsExtension headers
+  are : AreExtensions header.in_fragment headers
   number : header.number ≡ first_number headers
   laid : header.octets ≡ extensions headers ++ upper.octets
   left : upper.whole ≡ header.whole - length (extensions headers)
 
 -- with one header more before it
-one-past : (n : ℕ) (header next upper : NextHeader) (holds : List ℕ) → IsExtension (record { number = header.number; holds = holds })
+one-past : (n : ℕ) (header next upper : NextHeader) (holds : List ℕ)
+    → ((headers : List Extension) → AreExtensions next.in_fragment headers → AreExtensions header.in_fragment (record { number = header.number; holds = holds } ∷ headers))
     → header.octets ≡ next.number ∷ (holds ++ next.octets) → next.whole ≡ header.whole - (1 + length holds) → IsPast n next upper → IsPast (suc n) header upper
 one-past n header next upper holds is laid left past =
     let first : Extension = record { number = header.number; holds = holds } in
@@ -418,7 +424,7 @@ one-past n header next upper holds is laid left past =
     record {
       headers = first ∷ past.headers;
       few = omega (arith, past.few);
-      are = All-cons IsExtension first past.headers is past.are;
+      are = is past.headers past.are;
       number = refl;
       laid = laid ∙ ap (λ (n : ℕ). n ∷ (holds ++ next.octets)) past.number
           ∙ ap (λ (t : List ℕ). first_number past.headers ∷ t) (ap (λ (t : List ℕ). holds ++ t) past.laid ∙ sym (append_assoc holds inner upper.octets));
@@ -470,7 +476,7 @@ options_past n header upper has told some past =
     let laid : octets ≡ slice_index octets 0 ∷ units ∷ (more ++ drop (header_len octets) octets) =
     octet_is 0 octets (omega arith) ∙ ap (λ (t : List ℕ). slice_index octets 0 ∷ t) (octet_is 1 octets (omega arith) ∙ ap (λ (t : List ℕ). units ∷ t) rest) in
     one-past n header (options_next header) upper (units ∷ more)
-    (inl (record { is_number = is_options header.number has; units = units; more = more; is_held = refl; sized = sized })) laid (omega arith) past
+    (λ headers are. inl (record { is_number = is_options header.number has; units = units; more = more; is_held = refl; sized = sized }, are)) laid (omega arith) past
 
 -- the bits of an atomic fragment
 bits_in : (bits : ℕ) → bits < 2 ^ 16 → (bit_and bits 0xfff8 == 0) ≡ true → not (bit_and bits 0x0001 == 0) ≡ false → (bits / 2 < 2 ^ 2) × (bits ≡ 2 * (bits / 2) + 0)
@@ -481,10 +487,12 @@ bits_in bits fits offset last =
     let even : bit_and bits 0x0001 ≡ 0 = number_is (bit_and bits 0x0001) 0 (not_not (bit_and bits 0x0001 == 0) last) in
     (omega arith, omega arith)
 
-fragment_past : (n : ℕ) (header upper : NextHeader) → AreOctets header.octets → (header.number == 44 && is_atomic header.octets) ≡ true
+fragment_past : (n : ℕ) (header upper : NextHeader) → AreOctets header.octets → (header.number == 44 && is_atomic header.octets && not header.in_fragment) ≡ true
     → 0 < length (drop 8 header.octets) → IsPast n (fragment_next header) upper → IsPast (suc n) header upper
-fragment_past n header upper are one some past =
+fragment_past n header upper are is_one some past =
     let octets = header.octets in
+    let one = and_left (header.number == 44 && is_atomic header.octets) (not header.in_fragment) is_one in
+    let apart : header.in_fragment ≡ false = is_not header.in_fragment (and_right (header.number == 44 && is_atomic header.octets) (not header.in_fragment) is_one) in
     let bits = network_number 2 2 octets in
     let atomic : is_atomic octets ≡ true = and_right (header.number == 44) (is_atomic octets) one in
     let first : (offset_in octets == 0) ≡ true = and_left (offset_in octets == 0) (not (flagged octets)) atomic in
@@ -499,7 +507,7 @@ fragment_past n header upper are one some past =
     octet_is 0 octets (omega arith) ∙ ap (λ (t : List ℕ). slice_index octets 0 ∷ t) (octet_is 1 octets (omega arith) ∙ ap (λ (t : List ℕ). slice_index octets 1 ∷ t)
     (field_is 2 2 octets are (omega arith) ∙ ap (λ (b : ℕ). big_bytes 2 b ++ drop 4 octets) in_bits.1 ∙ ap (λ (t : List ℕ). big_bytes 2 (2 * (bits / 2) + 0) ++ t) rest)) in
     one-past n header (fragment_next header) upper (slice_index octets 1 ∷ (big_bytes 2 (2 * (bits / 2) + 0) ++ id))
-    (inr (record { is_number = number; reserved = slice_index octets 1; bits = bits / 2; bits_fit = in_bits.0; id = id; is_held = refl; sized = sized })) laid
+    (λ headers are. inr (record { is_number = number; reserved = slice_index octets 1; bits = bits / 2; bits_fit = in_bits.0; id = id; is_held = refl; sized = sized }, apart, are)) laid
     (omega (arith, sized)) past
 
 -- more may be passed over
@@ -541,7 +549,7 @@ unfolding past_headers
 past-in zero header are udp some = record {
   headers = [];
   few = omega arith;
-  are = All-nil IsExtension;
+  are = tt;
   number = udp;
   laid = refl;
   left = omega arith;
@@ -672,7 +680,7 @@ module _ (place : Place) (octets : List ℕ) (all : ℕ) (are : AreOctets octets
       let carried : Sight = ipv6_carried_sight place octets all upper in
       let fragment : Sight = ipv6_fragment_sight place octets all upper in
       let unkept : Sight = if is_unkept upper then too_short else other in
-      let no_udp : Sight = if upper.number == 44 then fragment else unkept in
+      let no_udp : Sight = if upper.number == 44 && not upper.in_fragment then fragment else unkept in
       let of_upper : Sight = upper_sight place octets all upper in
       let told : Sight = if nat_lt (length octets) 7 then too_short else of_upper in
       let is_other = not (ip_version octets == 6) in
@@ -682,4 +690,4 @@ module _ (place : Place) (octets : List ℕ) (all : ℕ) (are : AreOctets octets
       unless Over6 (nat_lt (length octets) 7) too_short of_upper tt (λ _.
       choose Over6 (upper.number == 17) carried no_udp
       (λ udp. ipv6_carried_seen (number_is (ip_version octets) 6 (not_not (ip_version octets == 6) version)) (number_is upper.number 17 udp))
-      (λ _. choose Over6 (upper.number == 44) fragment unkept (λ _. ipv6_fragment_seen) (λ _. unless Over6 (is_unkept upper) too_short other tt (λ _. tt))))))
+      (λ _. choose Over6 (upper.number == 44 && not upper.in_fragment) fragment unkept (λ _. ipv6_fragment_seen) (λ _. unless Over6 (is_unkept upper) too_short other tt (λ _. tt))))))

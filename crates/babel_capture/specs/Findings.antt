@@ -1,7 +1,7 @@
 -- What is made of the packets of a capture. It is this project's own, but for what a Babel packet
 -- is: RFC 8966, 4.2.
 use Rattle.std.specs.Prelude.{◌≡◌, ◌≢◌, ℕ, ◌<◌, Bool, List, [], length, slice_index}
-use Rattle.std.specs.Prelude.{Option, Some, None, ◌⊎◌, nat_lt, if◌then◌else◌, true}
+use Rattle.std.specs.Prelude.{Option, Some, None, ◌⊎◌, nat_lt, if◌then◌else◌, ◌&&◌, false, true}
 use Rattle.babel_prefix.specs.Address.{Address}
 use Rattle.babel_tlv.specs.Framing.{framed}
 use Rattle.babel_tlv.specs.FrameFaults.{BeginsPacket, HasHeader, LacksBody}
@@ -15,7 +15,7 @@ use Rattle.babel_capture.specs.declared.reason.Reason.{Reason}
 use Rattle.babel_capture.specs.declared.reason.Reason.TheVariants as reasons
 use Rattle.babel_capture.specs.declared.tallies.Origin.{Origin}
 use Rattle.babel_capture.specs.declared.wanted.Wanted.{Wanted}
-use Rattle.babel_capture.specs.Lack.{lack_reason}
+use Rattle.babel_capture.specs.Lack.{lack_reason, lacks_fragments}
 use Rattle.babel_capture.specs.Sight.{Sight, Carried, other, too_short, fragmented, datagram}
 use Rattle.babel_capture.specs.Sight.{other_port, not_link_local, lacking, carries}
 
@@ -64,9 +64,14 @@ abbrev pub reason_left : Found → Option Reason
 reason_left (left reason missed) = Some reason
 reason_left what = None
 
--- nobody is named, and no place, and senders are listed
+-- nobody is named, and no place, senders are listed, and missing fragments are not accepted
 abbrev pub everyone : Wanted
-everyone = record { sender = None; place = None; are_listed = true }
+everyone = record {
+  sender = None;
+  place = None;
+  are_listed = true;
+  accepts_missing = false;
+}
 
 -- it is this one, if one is named
 abbrev pub IsOrAny : {A : Type 0} → Option A → A → Type 0
@@ -95,17 +100,23 @@ PayloadIs place ends payload what =
 
 -- a datagram that lacks something refuses the capture where a sender is named, and else it is left
 -- out, and missed
-abbrev pub lack_found : (named : Option Address) → Place → Address → Lack → Found
-lack_found None place sender lack =
+abbrev pub missed_found : (named : Option Address) → Place → Address → Lack → Found
+missed_found None place sender lack =
     left (lack_reason lack) (Some (record { place = place; sender = sender }))
-lack_found (Some named) place sender lack = refused lack
+missed_found (Some named) place sender lack = refused lack
+
+-- but one of which fragments are missing is left out, and not missed, where that is accepted
+abbrev pub lack_found : Wanted → Place → Address → Lack → Found
+lack_found wanted place sender lack =
+    if wanted.accepts_missing && lacks_fragments lack then left (lack_reason lack) None
+    else missed_found wanted.sender place sender lack
 
 -- what is made of a wanted datagram
 abbrev pub CarriedIs : Wanted → Place → Ends → Carried → Found → Type 0
 CarriedIs wanted place ends other_port what = what ≡ left reasons.OtherPort None
 CarriedIs wanted place ends not_link_local what = what ≡ left reasons.NotLinkLocal None
 CarriedIs wanted place ends (lacking lack) what =
-    what ≡ lack_found wanted.sender place ends.sender lack
+    what ≡ lack_found wanted place ends.sender lack
 CarriedIs wanted place ends (carries payload) what = PayloadIs place ends payload what
 
 -- what is made of a packet

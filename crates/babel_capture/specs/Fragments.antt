@@ -1,8 +1,8 @@
 -- Datagrams that are put together of their fragments: RFC 791, 3.2; RFC 8200, 4.5; RFC 5722, 4. For
 -- how long a datagram is known after it is whole, and how much is kept, is this project's own.
-use Rattle.std.specs.Prelude.{ℕ, ◌-◌, Bool, not, true, false, ◌==◌, ◌&&◌, ◌||◌, nat_lt, is_some}
-use Rattle.std.specs.Prelude.{if◌then◌else◌, List, [], ◌∷◌, drop, length, max, sum_by, Option}
-use Rattle.std.specs.Prelude.{None, Some}
+use Rattle.std.specs.Prelude.{ℕ, ◌+◌, ◌-◌, Bool, not, true, false, ◌==◌, ◌&&◌, ◌||◌, nat_lt}
+use Rattle.std.specs.Prelude.{is_some, if◌then◌else◌, List, [], ◌∷◌, drop, length, max, sum_by}
+use Rattle.std.specs.Prelude.{Option, None, Some}
 use Rattle.std.specs.declared.cmp.Ordering.{Ordering}
 use Rattle.std.specs.BTreeMap.{insert_entry, is_at}
 use Rattle.std.specs.List.{find}
@@ -55,6 +55,13 @@ begun at came ends_within fragment = record {
   pieces = (fragment.offset, piece_of fragment) ∷ [];
 }
 
+-- one that is none of Babel's, as its first fragment says, is known as that, and nothing of it kept
+abbrev pub begins : (at came : ℕ) → (ends_within : Bool) → Fragment → Datagram
+begins at came ends_within fragment =
+    if is_of_another fragment
+    then record (begun at came ends_within fragment) { standing = standings.Other; pieces = [] }
+    else begun at came ends_within fragment
+
 -- with one more
 abbrev pub with_fragment : Datagram → Fragment → Datagram
 with_fragment datagram fragment =
@@ -82,11 +89,16 @@ abbrev pub step_to_whole : Meeting → Step
 step_to_whole meetings.Repeats = steps.Ignored
 step_to_whole other = steps.Anew
 
+-- and to one that is none of Babel's: the first one of a datagram of Babel begins that
+abbrev pub step_to_other : Fragment → Step
+step_to_other fragment = if is_some fragment.udp then steps.Anew else steps.Ignored
+
 -- and to one that was dropped: it is dropped with it
 abbrev pub step_by : Datagram → Fragment → Standing → Step
 step_by datagram fragment standings.Open =
     step_to_open datagram fragment (meeting datagram.pieces fragment)
 step_by datagram fragment standings.Whole = step_to_whole (meeting datagram.pieces fragment)
+step_by datagram fragment standings.Other = step_to_other fragment
 step_by datagram fragment standings.Dropped = steps.Ignored
 
 abbrev pub step_in : Datagram → Fragment → Step
@@ -140,6 +152,17 @@ of_id id known = find (λ one. is_at (id_cmp id) one.1.id) known
 abbrev pub octets_in : Known → ℕ
 octets_in known = sum_by (λ datagram. len_of datagram.pieces) (values_of known)
 
+-- how many of them lack fragments, of which each is one or none
+abbrev pub is_open : Standing → Bool
+is_open standings.Open = true
+is_open standing = false
+
+abbrev pub as_open : Datagram → ℕ
+as_open datagram = if is_open datagram.standing then 1 else 0
+
+abbrev pub open_in : Known → ℕ
+open_in known = sum_by as_open (values_of known)
+
 -- what a fragment is to them
 abbrev pub step_with : Fragment → Option (ℕ × Datagram) → Step
 step_with fragment None = steps.Anew
@@ -171,12 +194,10 @@ forgotten_with known (Some one) = remove_entry (is_at (nat_cmp one.0)) known
 abbrev pub forgotten : DatagramId → Known → Known
 forgotten id known = forgotten_with known (of_id id known)
 
--- A datagram begins anew with a fragment, in place of one of the same identification. One that is
--- not Babel's is dropped at once.
+-- a datagram begins anew with a fragment, in place of one of the same identification
 abbrev pub begun_in : Known → (number at came : ℕ) → (ends_within : Bool) → Fragment → Known
 begun_in known number at came ends_within fragment =
-    if is_of_another fragment then known
-    else insert_entry nat_cmp known number (begun at came ends_within fragment)
+    insert_entry nat_cmp known number (begins at came ends_within fragment)
 
 abbrev pub known_by : Step → Known → (number at came : ℕ) → (ends_within : Bool) → Fragment
     → Known
@@ -201,12 +222,18 @@ pub record Reassembly : Type 0 where
 abbrev pub is_old : (clock : ℕ) → Datagram → Bool
 is_old clock datagram = nat_lt 60000000000 (clock - datagram.came)
 
--- the oldest one is given up: it is old, or they are more than 65,536, or of more than 16 MiB
+-- more than 65,536 lack fragments, or more than 65,536 others are known, or all are of more than
+-- 16 MiB
+abbrev pub are_too_many : Known → Bool
+are_too_many known =
+    nat_lt 65536 (open_in known)
+    || (nat_lt (open_in known + 65536) (length known) || nat_lt 16777216 (octets_in known))
+
+-- the oldest one is given up: it is old, or they are too many
 abbrev pub is_past : (clock : ℕ) → Known → Bool
 is_past clock [] = false
 is_past clock (oldest ∷ known) =
-    is_old clock oldest.1
-    || (nat_lt 65536 (length (oldest ∷ known)) || nat_lt 16777216 (octets_in (oldest ∷ known)))
+    is_old clock oldest.1 || are_too_many (oldest ∷ known)
 
 -- a record that came then moves the clock, if it has a time
 abbrev pub clock_at : (clock : ℕ) → Option ℕ → ℕ

@@ -1,16 +1,17 @@
 -- The extension headers of IPv6 packets: RFC 8200, 4.
-use Rattle.std.specs.Prelude.{ℕ, zero, suc, ◌+◌, ◌-◌, ◌*◌, Bool, not, ◌==◌, ◌&&◌, ◌||◌, nat_lt}
+use Rattle.std.specs.Prelude.{ℕ, zero, suc, ◌+◌, ◌-◌, ◌*◌, Bool, true, not, ◌==◌, ◌&&◌, ◌||◌, nat_lt}
 use Rattle.std.specs.Prelude.{nat_le}
 use Rattle.std.specs.Prelude.{bit_and}
 use Rattle.std.specs.Prelude.{if◌then◌else◌, List, length, drop, slice_index}
 use Rattle.babel_capture.specs.Octets.{network_number}
 
 -- a header after the fixed one: its number; the octets from its first one on that the recorder
--- kept, and how many there were
+-- kept, and how many there were; and whether a fragment header came before it
 pub record NextHeader : Type 0 where
   pub number : ℕ
   pub octets : List ℕ
   pub whole : ℕ
+  pub in_fragment : Bool
 
 -- RFC 8200, 4.3, 4.4, 4.6: the hop-by-hop options, routing and destination options headers
 abbrev pub has_len : ℕ → Bool
@@ -42,7 +43,7 @@ is_unkept header =
     nat_le (telling_len header.number) header.whole
     && nat_lt (length header.octets) (telling_len header.number)
 
--- past the next header, where it is one of these
+-- Past the next header, where it is one of these. A packet has one fragment header at most.
 unfoldable pub past_header : NextHeader → NextHeader
 past_header header =
     if nat_lt (length header.octets) (telling_len header.number) then header
@@ -50,11 +51,13 @@ past_header header =
       number = slice_index header.octets 0;
       octets = drop (header_len header.octets) header.octets;
       whole = header.whole - header_len header.octets;
+      in_fragment = header.in_fragment;
     }
-    else if header.number == 44 && is_atomic header.octets then record {
+    else if header.number == 44 && is_atomic header.octets && not header.in_fragment then record {
       number = slice_index header.octets 0;
       octets = drop 8 header.octets;
       whole = header.whole - 8;
+      in_fragment = true;
     }
     else header
 

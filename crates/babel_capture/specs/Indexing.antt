@@ -7,7 +7,7 @@ use Rattle.std.specs.Map.{keys_of, lookup}
 use Rattle.std.specs.Ordering.{nat_cmp}
 use Rattle.babel_capture.specs.declared.datagram.Datagram.{Datagram}
 use Rattle.babel_capture.specs.declared.fragment.DatagramId.{DatagramId}
-use Rattle.babel_capture.specs.Fragments.{Known, id_cmp, octets_in}
+use Rattle.babel_capture.specs.Fragments.{Known, id_cmp, octets_in, open_in}
 
 -- the datagram with this number has this identification
 pub record Holds (known : Known) (id : DatagramId) (number : ℕ) : Type 0 where
@@ -15,13 +15,15 @@ pub record Holds (known : Known) (id : DatagramId) (number : ℕ) : Type 0 where
   pub found : lookup (is_at (nat_cmp number)) known ≡ Some datagram
   pub own : datagram.id ≡ id
 
--- each is found by its identification, and what is kept of their octets is so
-pub record IsIndexed (numbers : List (DatagramId × ℕ)) (known : Known) (octets : ℕ) : Type 0 where
-  pub rising : IsStrictlySortedBy nat_cmp (keys_of known)
-  pub ids : IsStrictlySortedBy id_cmp (keys_of numbers)
-  pub held : (id : DatagramId) (number : ℕ)
-      → (lookup (is_at (id_cmp id)) numbers ≡ Some number) ↔ Holds known id number
-  pub octets_are : octets ≡ octets_in known
+-- each is found by its identification, and so many octets they have, and so many lack fragments
+pub record IsIndexed (numbers : List (DatagramId × ℕ)) (known : Known) (octets opens : ℕ) : Type 0
+  where
+    pub rising : IsStrictlySortedBy nat_cmp (keys_of known)
+    pub ids : IsStrictlySortedBy id_cmp (keys_of numbers)
+    pub held : (id : DatagramId) (number : ℕ)
+        → (lookup (is_at (id_cmp id)) numbers ≡ Some number) ↔ Holds known id number
+    pub octets_are : octets ≡ octets_in known
+    pub open_are : opens ≡ open_in known
 
 -- none of them has a number after this one
 abbrev pub AreUpTo : ℕ → Known → Type 0

@@ -1,5 +1,5 @@
 -- IPv4 packets: RFC 791.
-use Rattle.std.specs.Prelude.{ℕ, ◌-◌, ◌*◌, Bool, not, ◌==◌, ◌||◌, nat_lt, bit_and}
+use Rattle.std.specs.Prelude.{ℕ, ◌-◌, ◌*◌, Bool, not, ◌==◌, ◌||◌, nat_lt, bit_and, true}
 use Rattle.std.specs.Prelude.{if◌then◌else◌, List, length, drop, take, slice_index}
 use Rattle.babel_prefix.specs.declared.family.Family.TheVariants.{V4}
 use Rattle.babel_capture.specs.declared.ends.Ends.{Ends}
@@ -61,7 +61,12 @@ ipv4_fragment place octets all = record {
   offset = fragment_offset octets;
   more = has_more_fragments octets;
   is_cut = is_cut octets all;
-  carried = record { number = 17; octets = ipv4_carried octets; whole = carried_len octets };
+  carried = record {
+    number = 17;
+    octets = ipv4_carried octets;
+    whole = carried_len octets;
+    in_fragment = true;
+  };
 }
 
 -- what is carried by a packet of UDP of at least 20 octets

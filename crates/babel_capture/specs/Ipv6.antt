@@ -1,6 +1,6 @@
 -- IPv6 packets: RFC 8200.
-use Rattle.std.specs.Prelude.{ℕ, ◌+◌, ◌-◌, Bool, not, ◌==◌, ◌||◌, nat_lt, if◌then◌else◌, List}
-use Rattle.std.specs.Prelude.{length, drop, take, slice_index}
+use Rattle.std.specs.Prelude.{ℕ, ◌+◌, ◌-◌, Bool, true, false, not, ◌==◌, ◌&&◌, ◌||◌, nat_lt}
+use Rattle.std.specs.Prelude.{if◌then◌else◌, List, length, drop, take, slice_index}
 use Rattle.babel_prefix.specs.declared.family.Family.TheVariants.{V6}
 use Rattle.babel_capture.specs.declared.ends.Ends.{Ends}
 use Rattle.babel_capture.specs.declared.place.Place.{Place}
@@ -28,6 +28,7 @@ first_header octets = record {
   number = slice_index octets 6;
   octets = take (payload_len octets) (drop 40 octets);
   whole = payload_len octets;
+  in_fragment = false;
 }
 
 -- it says more octets than its frame had
@@ -55,6 +56,7 @@ ipv6_fragment place octets all header = record {
     number = slice_index header.octets 0;
     octets = drop 8 header.octets;
     whole = header.whole - 8;
+    in_fragment = true;
   };
 }
 
@@ -65,11 +67,12 @@ ipv6_fragment_sight place octets all header =
     else fragment_sight (ipv6_fragment place octets all header)
 
 -- RFC 768: UDP has the number 17; before another extension header whose octets the recorder did not
--- keep, nobody can tell
+-- keep, nobody can tell. A packet with a second fragment header is passed over.
 abbrev pub upper_sight : Place → List ℕ → ℕ → NextHeader → Sight
 upper_sight place octets all upper =
     if upper.number == 17 then ipv6_carried_sight place octets all upper
-    else if upper.number == 44 then ipv6_fragment_sight place octets all upper
+    else if upper.number == 44 && not upper.in_fragment
+    then ipv6_fragment_sight place octets all upper
     else if is_unkept upper then too_short
     else other
 

@@ -1,5 +1,5 @@
 -- Datagrams that are not all there. It is this project's own.
-use Rattle.std.specs.Prelude.{ℕ}
+use Rattle.std.specs.Prelude.{ℕ, Bool, false, true}
 use Rattle.babel_capture.specs.declared.fault.Fault.{Fault}
 use Rattle.babel_capture.specs.declared.fault.Fault.TheVariants as faults
 use Rattle.babel_capture.specs.declared.lack.Lack.{Lack}
@@ -12,6 +12,11 @@ abbrev pub lack_reason : Lack → Reason
 lack_reason lacks.Fragment = reasons.Fragment
 lack_reason lacks.CutShort = reasons.CutShort
 lack_reason lacks.Snapped = reasons.Snapped
+
+-- fragments of it are missing
+abbrev pub lacks_fragments : Lack → Bool
+lacks_fragments lacks.Fragment = true
+lacks_fragments lack = false
 
 -- the fault of a capture whose dump lacks the datagram in the block at this offset
 abbrev pub lack_fault : ℕ → Lack → Fault

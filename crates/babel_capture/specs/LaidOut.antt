@@ -1,6 +1,6 @@
 -- Babel datagrams in IP packets, as their headers lay them out: RFC 768; RFC 791, 3.1; RFC 8200, 3.
 use Rattle.std.specs.Prelude.{◌≡◌, ℕ, ◌+◌, ◌*◌, ◌/◌, ◌^◌, ◌<◌, ◌≤◌, ◌⊎◌, List, [], ◌∷◌, ◌++◌}
-use Rattle.std.specs.Prelude.{length, Contains, ◌==◌, false}
+use Rattle.std.specs.Prelude.{length, Contains, Bool, ◌==◌, false, true}
 use Rattle.std.specs.List.{All}
 use Rattle.byteorder.specs.Endian.{big_bytes}
 use Rattle.babel_prefix.specs.declared.family.Family.TheVariants.{V4, V6}
@@ -68,9 +68,13 @@ pub record IsFragment (flag : ℕ) (header : Extension) : Type 0 where
   pub is_held : header.holds ≡ reserved ∷ (big_bytes 2 (2 * bits + flag) ++ id)
   pub sized : length id ≡ 4
 
--- what a whole packet may have: an atomic fragment, RFC 6946, is all that there is
-abbrev pub IsExtension : Extension → Type 0
-IsExtension header = IsOptions header ⊎ IsFragment 0 header
+-- what a whole packet may have, in a fragment or not: an atomic fragment, RFC 6946, is all that
+-- there is, and has no other in it
+abbrev pub AreExtensions : (in_fragment : Bool) → List Extension → Type 0
+AreExtensions in_fragment [] = Unit {0}
+AreExtensions in_fragment (header ∷ headers) =
+    (IsOptions header × AreExtensions in_fragment headers)
+    ⊎ (IsFragment 0 header × (in_fragment ≡ false) × AreExtensions true headers)
 
 -- the number of what comes first, an extension header if there are any, and else what is after
 -- them, of this number; and the octets of these headers, each of which begins with the number of
@@ -187,7 +191,7 @@ pub record OverIpv6 (ether_type : ℕ) (ends : Ends) (udp : UdpDatagram) (packet
   pub are_ends : ends ≡ ends6 ip
   pub headers : List Extension
   pub few : length headers ≤ 8
-  pub are_headers : All IsExtension headers
+  pub are_headers : AreExtensions false headers
   pub fits : IsIpv6 ip (length (extensions headers) + (length (udp_octets udp) + more))
   pub is_packet : packet ≡ ipv6_octets ip headers (udp_octets udp) more
 
@@ -230,7 +234,12 @@ pub record PartOverIpv4 (ether_type : ℕ) (place : Place) (packet : List ℕ)
     offset = 8 * units;
     more = flag == 1;
     is_cut = false;
-    carried = record { number = 17; octets = carried; whole = length carried };
+    carried = record {
+      number = 17;
+      octets = carried;
+      whole = length carried;
+      in_fragment = true;
+    };
   }
 
 -- RFC 8200, 4.5: the header of fragments: the number of what the datagram begins with, a reserved
@@ -261,7 +270,7 @@ pub record PartOverIpv6 (ether_type : ℕ) (place : Place) (packet : List ℕ)
   pub ip : Ipv6Header
   pub headers : List Extension
   pub few : length headers ≤ 8
-  pub are_headers : All IsExtension headers
+  pub are_headers : All IsOptions headers
   pub part : PartHeader
   pub is_part : IsPartHeader part
   pub carried : List ℕ
@@ -282,7 +291,12 @@ pub record PartOverIpv6 (ether_type : ℕ) (place : Place) (packet : List ℕ)
     offset = 8 * part.units;
     more = part.flag == 1;
     is_cut = false;
-    carried = record { number = part.next; octets = carried; whole = length carried };
+    carried = record {
+      number = part.next;
+      octets = carried;
+      whole = length carried;
+      in_fragment = true;
+    };
   }
 
 abbrev pub IsPartOverIp : ℕ → Place → List ℕ → IpFragment → Type 0

@@ -21,6 +21,7 @@ next_header held = record {
   number = held.number;
   octets = held.part.octets.now;
   whole = held.part.whole;
+  in_fragment = held.in_fragment;
 }
 
 abbrev pub ip_fragment : HeldFragment → IpFragment

@@ -5,14 +5,12 @@ use Rattle.std.specs.Prelude.{map, length, max, Option, None, Some}
 use Rattle.std.specs.List.{filter}
 use Rattle.babel_prefix.specs.Address.{Address}
 use Rattle.babel_capture.specs.declared.datagram.Datagram.{Datagram}
-use Rattle.babel_capture.specs.declared.datagram.Standing.{Standing}
-use Rattle.babel_capture.specs.declared.datagram.Standing.TheVariants as standings
 use Rattle.babel_capture.specs.declared.datagram.Step.{Step}
 use Rattle.babel_capture.specs.declared.datagram.Step.TheVariants as steps
 use Rattle.babel_capture.specs.declared.link.Link.{Link}
 use Rattle.babel_capture.specs.declared.link.Link.TheVariants as links
 use Rattle.babel_capture.specs.Contents.{Captured}
-use Rattle.babel_capture.specs.Fragments.{Known, clock_at, is_past, known_with, lost_sight}
+use Rattle.babel_capture.specs.Fragments.{Known, clock_at, is_open, is_past, known_with, lost_sight}
 use Rattle.babel_capture.specs.Fragments.{of_id_after, step_of, whole_sight}
 use Rattle.babel_capture.specs.Frame.{frame_sight}
 use Rattle.babel_capture.specs.Pieces.{Fragment}
@@ -71,12 +69,7 @@ left_known clock [] = []
 left_known clock (oldest ∷ known) =
     if is_past clock (oldest ∷ known) then left_known clock known else oldest ∷ known
 
--- fragments of it are missing
-abbrev pub is_open : Standing → Bool
-is_open standings.Open = true
-is_open standing = false
-
--- so that it counts, where its 60 seconds end within the window
+-- it counts if fragments of it are missing, where its 60 seconds end within the window
 abbrev pub is_lost : Datagram → Bool
 is_lost one = is_open one.standing && one.ends_within
 

@@ -8,7 +8,7 @@ use Rattle.babel_capture.specs.declared.datagram.Datagram.{Datagram}
 use Rattle.babel_capture.specs.declared.datagram.Step.TheVariants as steps
 use Rattle.babel_capture.specs.declared.fragment.UdpPlace.{UdpPlace}
 use Rattle.babel_capture.specs.Contents.{Captured}
-use Rattle.babel_capture.specs.Fragments.{begun, ends_of, of_id, step_in, stepped, whole_sight}
+use Rattle.babel_capture.specs.Fragments.{begins, ends_of, of_id, step_in, stepped, whole_sight}
 use Rattle.babel_capture.specs.LaidOut.{IsBabel, UdpDatagram, udp_octets}
 use Rattle.babel_capture.specs.Passage.{Passage, seen_at}
 use Rattle.babel_capture.specs.Pieces.{Fragment}
@@ -53,7 +53,7 @@ PutTogetherIsWhole =
     (sent : List ℕ) (udp : UdpPlace) (at came : ℕ) (ends_within : Bool) (first : Fragment)
     (between : List Fragment) (last : Fragment)
     → AreAllParts sent udp (first ∷ (between ++ last ∷ []))
-    → let before : Datagram = after_fragments (begun at came ends_within first) between in
+    → let before : Datagram = after_fragments (begins at came ends_within first) between in
     (step_in before last ≡ steps.Completes)
     × (whole_sight (stepped before last steps.Completes)
     ≡ udp_sight first.id.origin.place (ends_of first.id) false (drop udp.at sent)
@@ -69,6 +69,6 @@ PutTogetherIsRead =
     → IsBabel babel → may_send first.id.origin.sender ≡ true → udp.at ≡ length headers
     → AreAllParts (headers ++ udp_octets babel) udp (first ∷ (between ++ last ∷ []))
     → (before : Passage) (number block : ℕ) (packet : Captured) → of_id last.id before.known
-    ≡ Some (number, after_fragments (begun at came ends_within first) between)
+    ≡ Some (number, after_fragments (begins at came ends_within first) between)
     → seen_at before block packet (fragmented last) ≡ seen_at before block packet
     (datagram first.id.origin.place (ends_of first.id) (carries babel.payload))

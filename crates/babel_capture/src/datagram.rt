@@ -1,8 +1,9 @@
 ghost use Rattle.std.specs.Prelude.{◌≡◌, ◌+◌, ◌^◌, ◌<◌, IfOk, OnErr, false};
 ghost use Rattle.std.specs.Map.{values_of};
-ghost use Rattle.babel_capture.specs.Fragments.{begun, is_of_another, step_in, step_to_whole};
+ghost use Rattle.babel_capture.specs.Fragments.{as_open, begins, is_of_another, is_open, step_in};
+ghost use Rattle.babel_capture.specs.Fragments.{step_to_other, step_to_whole};
 ghost use Rattle.babel_capture.specs.Fragments.{lost_sight, stepped, whole_sight};
-ghost use Rattle.babel_capture.specs.Passage.{is_lost, is_open};
+ghost use Rattle.babel_capture.specs.Passage.{is_lost};
 ghost use Rattle.babel_capture.specs.Pieces.{fragment_of, joined, meeting};
 ghost use Rattle.babel_capture.specs.Sight.{sight_of};
 ghost use Rattle.babel_capture.specs.declared.datagram.Standing.TheVariants as standings;
@@ -42,12 +43,14 @@ pub(crate) enum Standing {
     Whole,
     /// Fragments of it overlap, so that it is dropped: RFC 5722, 4.
     Dropped,
+    /// It is none of Babel's, as its first fragment says.
+    Other,
 }
 
 /// What a fragment is to the datagrams that are known.
 #[derive(Clone, Copy)]
 pub(crate) enum Step {
-    /// It repeats another, or its datagram was dropped.
+    /// It repeats another, or its datagram was dropped, or is none of Babel's.
     Ignored,
     /// It is one more of a datagram, which lacks others still.
     Added,
@@ -60,7 +63,7 @@ pub(crate) enum Step {
 }
 
 /// Whether the fragment is the first one of a datagram that is not Babel's.
-pub(crate) fn is_of_another(fragment: &Fragment<'_>) -> bool
+fn is_of_another(fragment: &Fragment<'_>) -> bool
     ensures { result ≡ is_of_another (fragment_of fragment.now) }
 {
     fragment.offset == 0 && fragment.udp.is_none()
@@ -76,12 +79,30 @@ fn step_to_whole(meeting: Meeting) -> Step
     }
 }
 
+/// What one is to a datagram that is none of Babel's.
+fn step_to_other(fragment: &Fragment<'_>) -> Step
+    ensures { result ≡ step_to_other (fragment_of fragment.now) }
+{
+    if fragment.udp.is_some() {
+        Step::Anew
+    } else {
+        Step::Ignored
+    }
+}
+
 impl Datagram {
     /// Whether fragments of it are missing.
     fn is_open(&self) -> bool
         ensures { result ≡ is_open self.now.standing }
     {
         matches!(self.standing, Standing::Open)
+    }
+
+    /// How many datagrams it is of which fragments are missing: one or none.
+    pub(crate) fn as_open(&self) -> usize
+        ensures { result ≡ as_open self.now }
+    {
+        usize::from(self.is_open())
     }
 
     /// Whether fragments of it are missing, and it counts within the window.
@@ -91,7 +112,8 @@ impl Datagram {
         self.is_open() && self.ends_within
     }
 
-    /// One of which a fragment came then, in the block at this offset.
+    /// One of which a fragment came then, in the block at this offset. If that says that it is none
+    /// of Babel's, nothing of it is kept.
     pub(crate) fn new(
         alloc: Global,
         at: u64,
@@ -100,21 +122,26 @@ impl Datagram {
         fragment: &Fragment<'_>,
     ) -> Result<Datagram, AllocError>
         requires { fragment.now.offset + fragment.now.len < 2 ^ 16 }
-        ensures { IfOk result
-            (λ datagram. datagram ≡ begun at came ends_within (fragment_of fragment.now)) }
+        ensures datagram { IfOk result
+            (λ datagram. datagram ≡ begins at came ends_within (fragment_of fragment.now)) }
+        ensures id { IfOk result (λ datagram. datagram.id ≡ fragment.now.id) }
     {
-        let mut pieces = Pieces::new(alloc);
-        pieces.add(alloc, fragment)?;
-        Ok(Datagram {
+        let mut datagram = Datagram {
             id: fragment.id,
             at,
             came,
             ends_within,
             is_to_group: fragment.is_to_group,
             udp: fragment.udp,
-            standing: Standing::Open,
-            pieces,
-        })
+            standing: Standing::Other,
+            pieces: Pieces::new(alloc),
+        };
+        if is_of_another(fragment) {
+            return Ok(datagram);
+        }
+        datagram.standing = Standing::Open;
+        datagram.pieces.add(alloc, fragment)?;
+        Ok(datagram)
     }
 
     /// What it is where fragments of it are missing: as the first one tells or, without that, as
@@ -170,6 +197,7 @@ impl Datagram {
     {
         match self.standing {
             Standing::Dropped => Ok(Step::Ignored),
+            Standing::Other => Ok(step_to_other(fragment)),
             Standing::Whole => Ok(step_to_whole(self.pieces.meeting(fragment))),
             Standing::Open => self.take_open(alloc, fragment),
         }

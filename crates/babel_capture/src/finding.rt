@@ -147,8 +147,11 @@ impl Wanted {
     /// What is made of a wanted datagram that lacks something.
     fn lack_finding(&self, origin: Origin, lack: Lack) -> Finding<'static>
         ensures { finding_of result
-            ≡ lack_found self.now.sender origin.place origin.sender lack }
+            ≡ lack_found self.now origin.place origin.sender lack }
     {
+        if self.accepts_missing && lack.is_of_fragments() {
+            return Finding::left(origin, lack.reason());
+        }
         if self.sender.is_some() {
             return Finding::Refused(lack);
         }

@@ -1,19 +1,20 @@
 ghost use Rattle.std.specs.Prelude.{◌≡◌, ◌+◌, ◌^◌, ◌<◌, ◌≤◌, ◌∷◌, [], IfNone, IfOk, IfSome, OnOk};
 ghost use Rattle.std.specs.Prelude.{◌≢◌, false, true};
 ghost use Rattle.std.specs.Option.{option_map};
-ghost use Rattle.babel_capture.specs.Fragments.{begun_in, clock_at, forgotten, is_old, is_past};
-ghost use Rattle.babel_capture.specs.Fragments.{known_with, of_id, of_id_after, step_of};
+ghost use Rattle.babel_capture.specs.Fragments.{are_too_many, begun_in, clock_at, forgotten};
+ghost use Rattle.babel_capture.specs.Fragments.{is_old, is_past, known_with, of_id, of_id_after};
+ghost use Rattle.babel_capture.specs.Fragments.{step_of};
 ghost use Rattle.babel_capture.specs.Pieces.{fragment_of};
 
-use crate::datagram::{Datagram, Step, is_of_another};
+use crate::datagram::{Datagram, Step};
 use crate::fragment::{DatagramId, Fragment};
 use crate::known::Known;
 use crate::time::Time;
 use std::alloc::{AllocError, Global};
 use std::marker::Model;
 
-/// How many datagrams are known at most, and how many octets their fragments have, before one more
-/// fragment is taken.
+/// How many datagrams lack fragments at most, and how many others are known, and how many octets
+/// the fragments of all have, before one more fragment is taken.
 const MAX_DATAGRAMS: usize = 65_536;
 
 const MAX_OCTETS: u64 = 16 * 1024 * 1024;
@@ -71,14 +72,23 @@ impl Fragments {
     }
 
     /// Whether the oldest datagram is given up.
-    fn is_past(&self) -> bool
+    #[inline(always)]
+    pub(crate) fn is_past(&self) -> bool
         ensures { result ≡ is_past self.now.clock self.now.known }
     {
         let Some(oldest) = self.known.oldest() else {
             return false;
         };
-        is_old(self.clock, oldest)
-            || self.known.len() > MAX_DATAGRAMS
+        is_old(self.clock, oldest) || self.are_too_many()
+    }
+
+    /// Whether too many datagrams lack fragments, or are known else, or have too many octets.
+    fn are_too_many(&self) -> bool
+        ensures { result ≡ are_too_many self.now.known }
+    {
+        let open_count = self.known.open_count();
+        open_count > MAX_DATAGRAMS
+            || self.known.len() > open_count + MAX_DATAGRAMS
             || self.known.octets() > MAX_OCTETS
     }
 
@@ -170,9 +180,6 @@ impl Fragments {
         ensures last { self.new.last ≤ number }
     {
         self.known.forget(&fragment.id);
-        if is_of_another(fragment) {
-            return Ok(());
-        }
         let datagram = Datagram::new(self.alloc, at, self.clock, ends_within, fragment)?;
         self.known.add(number, datagram)?;
         self.last = number;

@@ -7,6 +7,7 @@ ghost use Rattle.babel_capture.specs.Gathering.{name_of};
 ghost use Rattle.babel_capture.specs.Passage.{missing_of, sighting_as, skipped_of};
 ghost use Rattle.babel_capture.specs.Sight.{other, sight_of};
 ghost use Rattle.babel_capture.specs.Sinking.{GatherMore, Sinks};
+ghost use Rattle.babel_capture.specs.Times.{time_in};
 
 use crate::block::Packet;
 use crate::datagram::Datagram;
@@ -103,16 +104,19 @@ impl Gathered {
         self.outside.first()
     }
 
-    /// Takes the packet in the block at this offset, which is seen so, and tells the sink what is
-    /// found in it.
+    /// Takes the packet in the block at this offset, which came then and is seen so, and tells the
+    /// sink what is found in it.
+    #[inline(always)]
     pub(crate) fn take_seen<S: Sink>(
         &mut self,
         at: u64,
         packet: &Packet<'_>,
+        came: &Option<Time>,
         seen: &Seen<'_>,
         sink: &mut S,
     ) -> Result<(), Fault>
-        requires { self.old.report.packets + 1 + self.old.report.missing < 2 ^ 64 }
+        requires count { self.old.report.packets + 1 + self.old.report.missing < 2 ^ 64 }
+        requires time { came.now ≡ time_in (captured_of packet.now).moment }
         ensures wanted { self.new.wanted ≡ self.old.wanted }
         ensures names { self.new.names ≡ self.old.names }
         ensures packets { OnOk result
@@ -131,7 +135,7 @@ impl Gathered {
     {
         // Nearly all packets of most captures end here.
         if let Seen::Other = seen {
-            self.pass(packet, sink);
+            self.pass(packet, came, sink);
             return Ok(());
         }
         let finding = self.wanted.finding(seen);
@@ -139,10 +143,9 @@ impl Gathered {
             return Err(lack.fault(at));
         }
         self.outside.note(&self.wanted, packet, seen, &finding);
-        let came = packet.time();
-        let (counted, time) = (came, came);
+        let (counted, time) = (*came, *came);
         let are_listed = self.wanted.are_listed;
-        let interval = self.senders.take(at, came, &finding, are_listed)?;
+        let interval = self.senders.take(at, *came, &finding, are_listed)?;
         let section = packet.babel_section(seen);
         self.report
             .count(packet.link, counted, section, &finding, interval);
@@ -194,9 +197,11 @@ impl Gathered {
         Ok(())
     }
 
-    /// Takes a packet at which nothing of Babel is seen, and tells the sink of it.
-    pub(crate) fn pass<S: Sink>(&mut self, packet: &Packet<'_>, sink: &mut S)
-        requires { self.old.report.packets + 1 < 2 ^ 64 }
+    /// Takes a packet at which nothing of Babel is seen, and which came then, and tells the sink of
+    /// it.
+    pub(crate) fn pass<S: Sink>(&mut self, packet: &Packet<'_>, time: &Option<Time>, sink: &mut S)
+        requires count { self.old.report.packets + 1 < 2 ^ 64 }
+        requires time { time.now ≡ time_in (captured_of packet.now).moment }
         ensures wanted { self.new.wanted ≡ self.old.wanted }
         ensures names { self.new.names ≡ self.old.names }
         ensures packets { self.new.report.packets ≡ self.old.report.packets + 1 }
@@ -204,11 +209,10 @@ impl Gathered {
         ensures passed { (at : ℕ) → Sinks S.has sink.old sink.new (GatherMore self.old self.new
             (sighting_as (self.old.report.packets + 1) at (captured_of packet.now) other ∷ [])) }
     {
-        let time = packet.time();
-        self.report.count_other(&time);
+        self.report.count_other(time);
         sink.take(&Record {
             number: self.report.packets(),
-            time,
+            time: *time,
             said: Said::Nothing,
         });
     }

@@ -67,6 +67,8 @@ pub(crate) struct NextHeader<'a> {
     pub number: u8,
     /// The octets from the header's first one on.
     pub part: Part<'a>,
+    /// Whether a fragment header came before it.
+    pub in_fragment: bool,
 }
 
 impl<'a> NextHeader<'a> {
@@ -75,6 +77,7 @@ impl<'a> NextHeader<'a> {
 
     /// The header after the extension headers, of which at most `MAX_EXTENSION_HEADERS` are
     /// skipped.
+    #[inline(always)]
     #[tactic(auto, using(crate::proofs::SkippedLaws::no_header))]
     pub fn past_all(self) -> NextHeader<'a>
         ensures { next_header result ≡ past_headers 8 (next_header self.entry) }
@@ -98,8 +101,8 @@ impl<'a> NextHeader<'a> {
         len <= self.part.whole && self.part.octets.len() < len
     }
 
-    /// The header after this extension header; the same header where it is another, or that of one
-    /// of several fragments.
+    /// The header after this extension header; the same header where it is another, that of one of
+    /// several fragments, or a second fragment header.
     #[tactic(auto, unfolding(crate::specs::Headers::past_header))]
     fn past_one(self) -> NextHeader<'a>
         ensures { next_header result ≡ past_header (next_header self.entry) }
@@ -112,10 +115,12 @@ impl<'a> NextHeader<'a> {
             HOP_BY_HOP_OPTIONS | ROUTING | DESTINATION_OPTIONS => NextHeader {
                 number: octets[0],
                 part: self.part.after(UNIT * (octets[1] as usize + 1)),
+                in_fragment: self.in_fragment,
             },
-            FRAGMENT if is_atomic(octets) => NextHeader {
+            FRAGMENT if !self.in_fragment && is_atomic(octets) => NextHeader {
                 number: octets[0],
                 part: self.part.after(UNIT),
+                in_fragment: true,
             },
             _ => self,
         }

@@ -117,6 +117,7 @@ fn fragment_in(place: Place, packet: Part<'_>) -> IpFragment<'_>
         carried: NextHeader {
             number: UDP,
             part: packet.first(total_len).after(header_len(octets)),
+            in_fragment: true,
         },
     }
 }

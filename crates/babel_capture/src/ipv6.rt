@@ -41,6 +41,7 @@ pub(crate) fn look_into_ipv6(place: Place, packet: Part<'_>) -> Seen<'_>
     let first = NextHeader {
         number: octets[6],
         part: packet.after(HEADER_LEN).first(number16(octets, 4) as usize),
+        in_fragment: false,
     };
     look_at_upper(place, packet, first.past_all())
 }
@@ -53,7 +54,7 @@ fn look_at_upper<'a>(place: Place, packet: Part<'a>, upper: NextHeader<'a>) -> S
 {
     match upper.number {
         UDP => look_at_carried(place, packet, upper),
-        FRAGMENT => look_at_fragment(place, packet, upper),
+        FRAGMENT if !upper.in_fragment => look_at_fragment(place, packet, upper),
         _ => {
             if upper.is_unkept() {
                 Seen::Short
@@ -117,6 +118,7 @@ fn look_at_fragment<'a>(place: Place, packet: Part<'a>, header: NextHeader<'a>) 
         carried: NextHeader {
             number: octets[0],
             part: header.part.after(FRAGMENT_LEN),
+            in_fragment: true,
         },
     };
     fragment.look()

@@ -5,7 +5,7 @@ ghost use Rattle.std.specs.Map.{lookup};
 ghost use Rattle.std.specs.Option.{option_map};
 ghost use Rattle.std.specs.Ordering.{nat_cmp};
 ghost use Rattle.babel_capture.specs.Fragments.{Known as AllKnown, changed, forgotten, octets_in};
-ghost use Rattle.babel_capture.specs.Fragments.{of_id, of_id_after, step_of};
+ghost use Rattle.babel_capture.specs.Fragments.{of_id, of_id_after, open_in, step_of};
 ghost use Rattle.babel_capture.specs.Pieces.{fragment_of};
 
 use crate::datagram::{Datagram, Step};
@@ -22,6 +22,8 @@ pub(crate) struct Known {
     datagrams: BTreeMap<u64, Datagram>,
     /// How many octets their fragments had.
     octets: u64,
+    /// Of how many of them fragments are missing.
+    open_count: usize,
 }
 
 impl Model for Known {
@@ -32,7 +34,8 @@ impl Model for Known {
 
     ghost view = { λ k. k.datagrams.entries };
 
-    ghost invariant = { λ k. IsIndexed k.numbers.entries k.datagrams.entries k.octets };
+    ghost invariant = { λ k. IsIndexed k.numbers.entries k.datagrams.entries k.octets
+        k.open_count };
 }
 
 impl Known {
@@ -45,6 +48,7 @@ impl Known {
             numbers: BTreeMap::new(alloc),
             datagrams: BTreeMap::new(alloc),
             octets: 0,
+            open_count: 0,
         }
     }
 
@@ -60,6 +64,13 @@ impl Known {
         ensures { result ≡ octets_in self.now }
     {
         self.octets
+    }
+
+    /// Of how many of them fragments are missing.
+    pub(crate) fn open_count(&self) -> usize
+        ensures { result ≡ open_in self.now }
+    {
+        self.open_count
     }
 
     /// The oldest one.
@@ -91,6 +102,7 @@ impl Known {
         let (number, oldest) = self.datagrams.pop_first()?;
         self.numbers.remove(&oldest.id);
         self.octets -= u64::from(oldest.pieces.len());
+        self.open_count -= oldest.as_open();
         Some((number, oldest))
     }
 
@@ -104,6 +116,7 @@ impl Known {
         };
         let datagram = self.datagrams.remove(&number).unwrap();
         self.octets -= u64::from(datagram.pieces.len());
+        self.open_count -= datagram.as_open();
     }
 
     /// Knows a datagram of which none was known, by this number, which none has.
@@ -111,11 +124,13 @@ impl Known {
         requires own { of_id datagram.id self.old ≡ None }
         requires number { lookup (is_at (nat_cmp number)) self.old ≡ None }
         requires room { octets_in self.old < 2 ^ 63 }
+        requires few { open_in self.old < 2 ^ 63 }
         ensures ok { OnOk result (self.new ≡ insert_entry nat_cmp self.old number datagram) }
         ensures err { OnErr result (self.new ≡ self.old) }
     {
         let id = datagram.id;
         let octets = self.octets + u64::from(datagram.pieces.len());
+        let open_count = self.open_count + datagram.as_open();
         if self.numbers.insert(id, number).is_err() {
             return Err(AllocError);
         }
@@ -124,6 +139,7 @@ impl Known {
             return Err(AllocError);
         }
         self.octets = octets;
+        self.open_count = open_count;
         Ok(())
     }
 
@@ -135,6 +151,7 @@ impl Known {
     ) -> Result<Step, AllocError>
         requires fits { fragment.now.offset + fragment.now.len < 2 ^ 16 }
         requires room { octets_in self.old < 2 ^ 63 }
+        requires few { open_in self.old < 2 ^ 63 }
         ensures step { IfOk result (λ step. step ≡ step_of self.old (fragment_of fragment.now)) }
         ensures changed { OnOk result (self.new ≡ changed self.old (fragment_of fragment.now)) }
         ensures anew { IfOk result (λ step. step ≡ Step.Anew → self.new ≡ self.old) }
@@ -146,10 +163,11 @@ impl Known {
             return Ok(Step::Anew);
         };
         let datagram = self.datagrams.get_mut(&number).unwrap();
-        let before = datagram.pieces.len();
+        let (before, open_before) = (datagram.pieces.len(), datagram.as_open());
         let step = datagram.take(alloc, fragment)?;
-        let after = datagram.pieces.len();
+        let (after, open_after) = (datagram.pieces.len(), datagram.as_open());
         self.octets = self.octets - u64::from(before) + u64::from(after);
+        self.open_count = self.open_count - open_before + open_after;
         Ok(step)
     }
 }

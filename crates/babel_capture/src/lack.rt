@@ -1,5 +1,5 @@
 ghost use Rattle.std.specs.Prelude.{◌≡◌, ◌≢◌};
-ghost use Rattle.babel_capture.specs.Lack.{lack_fault, lack_reason};
+ghost use Rattle.babel_capture.specs.Lack.{lack_fault, lack_reason, lacks_fragments};
 
 use crate::fault::Fault;
 use crate::reason::Reason;
@@ -25,6 +25,13 @@ impl Lack {
             Lack::CutShort => Reason::CutShort,
             Lack::Snapped => Reason::Snapped,
         }
+    }
+
+    /// Whether fragments of the datagram are missing.
+    pub fn is_of_fragments(self) -> bool
+        ensures { result ≡ lacks_fragments self }
+    {
+        matches!(self, Lack::Fragment)
     }
 
     /// The fault of a capture whose dump lacks it: the datagram is in the block at this offset.

@@ -12,6 +12,7 @@ ghost use Rattle.babel_capture.specs.Passage.{skipped_of};
 ghost use Rattle.babel_capture.specs.Passing.{passage_of_passed, ticked, GivesLast, GivesUp};
 ghost use Rattle.babel_capture.specs.Pieces.{fragment_of};
 ghost use Rattle.babel_capture.specs.Sinking.{GatherMore, GatherSome, Sinks};
+ghost use Rattle.babel_capture.specs.Times.{time_in};
 
 use crate::block::{Block, Packet};
 use crate::datagram::Step;
@@ -21,6 +22,7 @@ use crate::fragments::Fragments;
 use crate::gathered::Gathered;
 use crate::seen::Seen;
 use crate::sink::Sink;
+use crate::time::Time;
 use crate::wanted::Wanted;
 use std::alloc::Global;
 use std::marker::Model;
@@ -88,13 +90,14 @@ fn take_step<S: Sink>(
         match step {
             Step::Completes => {
                 let octets = datagram.pieces.joined(alloc)?;
-                return gathered.take_seen(at, packet, &datagram.look_whole(&octets), sink);
+                let seen = datagram.look_whole(&octets);
+                return gathered.take_seen(at, packet, &packet.time(), &seen, sink);
             }
             Step::Overlaps => gathered.miss(number, datagram, sink)?,
             _ => {}
         }
     }
-    gathered.pass(packet, sink);
+    gathered.pass(packet, &packet.time(), sink);
     Ok(())
 }
 
@@ -191,11 +194,12 @@ impl Passing {
             (sight_in (captured_of packet.now))) }
     {
         let seen = packet.look();
-        self.pass_time(packet, sink)?;
+        let came = packet.time();
+        self.pass_time(packet, &came, sink)?;
         if let Seen::Fragment(fragment) = &seen {
             return self.take_fragment(at, packet, fragment, sink);
         }
-        self.gathered.take_seen(at, packet, &seen, sink)
+        self.gathered.take_seen(at, packet, &came, &seen, sink)
     }
 
     /// Skips the packet in the block at this offset, of which a fragment is kept: its datagram may
@@ -226,7 +230,7 @@ impl Passing {
             → IsFragment (sight_in (captured_of packet.now))) }
     {
         let seen = packet.look();
-        self.pass_time(packet, sink)?;
+        self.pass_time(packet, &packet.time(), sink)?;
         if let Seen::Fragment(fragment) = &seen {
             return self.skip_fragment(at, packet, &seen, fragment, sink);
         }
@@ -234,10 +238,17 @@ impl Passing {
         Ok(())
     }
 
-    /// Gives up the datagrams that are old once this packet came, or too many, and tells the sink
-    /// of those of which fragments are missing.
-    fn pass_time<S: Sink>(&mut self, packet: &Packet<'_>, sink: &mut S) -> Result<(), Fault>
-        requires { 2 * self.old.gathering.report.packets < 2 ^ 64 }
+    /// Gives up the datagrams that are old once this packet came, at this time, or too many, and
+    /// tells the sink of those of which fragments are missing.
+    #[inline(always)]
+    fn pass_time<S: Sink>(
+        &mut self,
+        packet: &Packet<'_>,
+        time: &Option<Time>,
+        sink: &mut S,
+    ) -> Result<(), Fault>
+        requires count { 2 * self.old.gathering.report.packets < 2 ^ 64 }
+        requires time { time.now ≡ time_in (captured_of packet.now).moment }
         ensures wanted { self.new.gathering.wanted ≡ self.old.gathering.wanted }
         ensures names { self.new.gathering.names ≡ self.old.gathering.names }
         ensures packets { self.new.gathering.report.packets
@@ -254,7 +265,7 @@ impl Passing {
             packet.now)).clock self.old.known)) fault) }
         ensures memory { IfErr result (λ fault. fault ≢ Fault.Memory) }
     {
-        self.fragments.tick(packet.time());
+        self.fragments.tick(*time);
         self.give_up(sink)
     }
 
@@ -276,12 +287,14 @@ impl Passing {
             fault) }
         ensures memory { IfErr result (λ fault. fault ≢ Fault.Memory) }
     {
-        while self.give_up_one(sink)? {}
+        // At nearly all packets none is given up, and that is asked without a call.
+        while self.fragments.is_past() && self.give_up_one(sink)? {}
         Ok(())
     }
 
     /// Gives up the oldest datagram, if it is old, or they are too many, and tells the sink of it
     /// if fragments of it are missing: whether it did.
+    #[inline(never)]
     fn give_up_one<S: Sink>(&mut self, sink: &mut S) -> Result<bool, Fault>
         requires { 2 * self.old.gathering.report.packets < 2 ^ 64 }
         ensures wanted { self.new.gathering.wanted ≡ self.old.gathering.wanted }

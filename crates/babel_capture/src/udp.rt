@@ -31,6 +31,7 @@ const LINK_LOCAL_REST: u32 = 118;
 
 /// What a UDP datagram is between these addresses: RFC 768. `is_cut` says whether IP says more
 /// octets than its frame had.
+#[inline(always)]
 #[tactic(auto, unfolding(crate::specs::Udp::udp_sight))]
 pub(crate) fn look_into_udp<'a>(place: Place, ends: &Ends, is_cut: bool, part: Part<'a>) -> Seen<'a>
     ensures { sight_of result ≡ udp_sight place ends.now is_cut

@@ -12,6 +12,8 @@ pub struct Wanted {
     pub place: Option<Place>,
     /// Whether the senders are listed.
     pub are_listed: bool,
+    /// Whether a datagram of which fragments are missing is left out, and refuses nobody.
+    pub accepts_missing: bool,
 }
 
 impl Wanted {
@@ -23,6 +25,7 @@ impl Wanted {
             sender: None,
             place: None,
             are_listed: true,
+            accepts_missing: false,
         }
     }
 

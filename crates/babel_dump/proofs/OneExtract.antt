@@ -5,8 +5,8 @@ use Rattle.babel_dump.specs.CaptureGiven.{extent_of}
 use Rattle.babel_dump.specs.OneOutcome.{NamedIsNotSeveral}
 
 pub named_is_not_several : NamedIsNotSeveral
-named_is_not_several reader sender place interfaces named several =
+named_is_not_several reader sender place accepts interfaces named several =
     let given = several.gave.given in
     let few : length several.gathering.senders ≤ 1 =
-    named_is_one (extent_of reader.reading) given.octets several.gathering several.cut (record { place = place; sender = sender }) given.is_read (given.wanted ∙ named) in
+    named_is_one (extent_of reader.reading) given.octets several.gathering several.cut accepts (record { place = place; sender = sender }) given.is_read (given.wanted ∙ named) in
     omega (arith, few, several.several)

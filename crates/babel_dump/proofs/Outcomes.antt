@@ -70,7 +70,7 @@ Comes (works.Two first second view task) job contents other =
     BothCome first.reading second.reading contents other
     (ComparisonGives task job.format view (name_of first.file) (name_of second.file) first.reading second.reading)
 Comes (works.Capture reading file task) job contents other =
-    Then (At sides.First (CaptureComes reading (wanted_of task) contents)) (λ read. Always (CaptureOf task job.format read))
+    Then (At sides.First (CaptureComes reading (wanted_of reading.accept_missing task) contents)) (λ read. Always (CaptureOf task job.format read))
 
 -- it is one thing, or one fault
 comes_one : (work : Work) (job : Job) (contents other : List ℕ) → IsOne (Comes work job contents other)
@@ -83,7 +83,7 @@ comes_one (works.Two first second view task) job contents other =
     then_one (at_one sides.First (dump_one first.reading contents)) (λ table. then_one (at_one sides.Other (dump_one second.reading other))
     (comparison_one task job.format view (name_of first.file) (name_of second.file) first.reading second.reading table))
 comes_one (works.Capture reading file task) job contents other =
-    then_one (at_one sides.First (capture_one reading (wanted_of task) contents)) (λ read. always_one (capture_of_one task job.format read))
+    then_one (at_one sides.First (capture_one reading (wanted_of reading.accept_missing task) contents)) (λ read. always_one (capture_of_one task job.format read))
 
 -- what a job says of octets comes of them
 says_comes : (work : Work) (job : Job) (reader second : Reads) (contents other text : List ℕ) (outcome : Outcome) → reader.old.left ≡ Some contents

@@ -22,7 +22,7 @@ use Rattle.babel_selection.proofs.HearingLaws.{begins_last}
 use Rattle.babel_dump.specs.CaptureGiven.{CaptureInput, GaveSound, Took, made_in, moment_in}
 use Rattle.babel_dump.specs.EachSender.{AreHeard, AreOwn}
 use Rattle.babel_dump.specs.Fed.{AreWhole}
-use Rattle.babel_dump.specs.LeftOut.{first_whole_left_out}
+use Rattle.babel_dump.specs.LeftOut.{first_unmissed}
 use Rattle.babel_dump.specs.LinksHeard.{ihus_made}
 use Rattle.babel_dump.specs.Nodes.{node_cmp}
 use Rattle.babel_dump.specs.Packets.{packets_made}
@@ -117,7 +117,7 @@ pub gave_selecting : (select : Select) (reader : CaptureInput) (first now : Sele
     → read.senders.read.moment ≡ moment_in gave.given → AreWhole (packets_made (made_in gave.given)) → Took KeepsSelecting first now (made_in gave.given)
     → first.select.now ≡ select → first.tables.each.now ≡ select.each → AreHeard first.tables [] → first.links.heard.ihus ≡ no_ihus → first.sources ≡ []
     → now.tables.has_failed ≡ false → now.links.has_failed ≡ false → now.has_failed ≡ false
-    → (select.strict ≡ true → first_whole_left_out read.senders.read.gathered.report ≡ None) → all_send select read.senders.read.gathered.senders ≡ true
+    → (select.strict ≡ true → first_unmissed select.each.accept_missing read.senders.read.gathered.report ≡ None) → all_send select read.senders.read.gathered.senders ≡ true
     → read.senders.tables.entries ≡ now.tables.tables.entries → read.links.ihus ≡ now.links.heard.ihus → read.sources ≡ now.sources → GaveSelecting select reader read
 gave_selecting select reader first now read gave moment_is whole took selects each heard ihus sources tables_sound links_sound sound strict sends tables_are ihus_are sources_are =
     let made = made_in gave.given in

@@ -1,6 +1,6 @@
 -- What the commands over captures promise, by what their devices say. No RFC speaks of runs: these
 -- are this project's own.
-use Rattle.std.specs.Prelude.{ℕ, false, true, ◌≡◌, ◌≢◌, ◌<◌, ◌≤◌, List, ◌++◌, length}
+use Rattle.std.specs.Prelude.{ℕ, Bool, false, true, ◌≡◌, ◌≢◌, ◌<◌, ◌≤◌, List, ◌++◌, length}
 use Rattle.std.specs.Prelude.{Option, None, Some}
 use Rattle.std.specs.Option.{is_some, unwrap_or}
 use Rattle.babel_capture.specs.Counts.{Counts, Made}
@@ -70,12 +70,20 @@ pub record IsOnSeveral (reader : CaptureInput) (interfaces : Interfaces) : Type 
 -- ---- tasks
 
 -- whose datagrams are wanted
-abbrev pub wanted_of : CaptureTask → Wanted
-wanted_of capture_tasks.Senders = everyone
-wanted_of (capture_tasks.Extract sender place hex) =
-    record { sender = Some sender; place = place; are_listed = true }
-wanted_of (capture_tasks.Links place expiry) =
-    record { sender = None; place = place; are_listed = true }
+abbrev pub wanted_of : (accepts_missing : Bool) → CaptureTask → Wanted
+wanted_of accepts_missing capture_tasks.Senders = everyone
+wanted_of accepts_missing (capture_tasks.Extract sender place hex) = record {
+  sender = Some sender;
+  place = place;
+  are_listed = true;
+  accepts_missing = accepts_missing;
+}
+wanted_of accepts_missing (capture_tasks.Links place expiry) = record {
+  sender = None;
+  place = place;
+  are_listed = true;
+  accepts_missing = accepts_missing;
+}
 
 -- the text, by what is gathered of a capture, and made of each of its packets, up to this moment: a
 -- line for each sender at each place; the packets, end to end; a line for each link

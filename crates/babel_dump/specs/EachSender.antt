@@ -7,8 +7,9 @@ use Rattle.std.specs.Map.{lookup}
 use Rattle.std.specs.Option.{option_or}
 use Rattle.std.specs.Ordering.{is_eq}
 use Rattle.babel_capture.specs.Counts.{Made}
-use Rattle.babel_capture.specs.Findings.{everyone, missed_in}
+use Rattle.babel_capture.specs.Findings.{missed_in}
 use Rattle.babel_capture.specs.Gathering.{Gathering}
+use Rattle.babel_capture.specs.OneOrigin.{all_senders}
 use Rattle.babel_capture.specs.Senders.{made_from}
 use Rattle.babel_capture.specs.Tallies.{origin_cmp, place_cmp}
 use Rattle.babel_capture.specs.declared.missed.Missed.{Missed}
@@ -38,7 +39,7 @@ use Rattle.babel_dump.specs.Given.{IsTableRead, Reads, capture_limit, dump_of as
 use Rattle.babel_dump.specs.Given.{usual_reading}
 use Rattle.babel_dump.specs.InFormat.{each_in, in_format}
 use Rattle.babel_dump.specs.KeyText.{file_member, key_in}
-use Rattle.babel_dump.specs.LeftOut.{first_whole_left_out}
+use Rattle.babel_dump.specs.LeftOut.{first_unmissed}
 use Rattle.babel_dump.specs.Led.{lead_in, led}
 use Rattle.babel_dump.specs.Octets.{AreOctets}
 use Rattle.babel_dump.specs.Packets.{packets_made}
@@ -71,12 +72,14 @@ capture_read_by each = record {
   limit = capture_limit each.limits.bytes;
   window = each.window;
   accept_cut = each.accept_cut;
+  accept_missing = each.accept_missing;
   strict = false;
 }
 
 -- what a reader gave of a capture of which the datagrams of each sender are wanted
 abbrev pub each_from : EachSender → (old new : InputState) → CaptureInput
-each_from each old new = capture_from old new (capture_read_by each) everyone
+each_from each old new =
+    capture_from old new (capture_read_by each) (all_senders each.accept_missing)
 
 abbrev pub read_by : EachSender → Origin → (seed : ℕ) → Reading
 read_by each origin seed = record {
@@ -90,6 +93,7 @@ read_by each origin seed = record {
   time_option = None;
   expiry = each.expiry;
   accept_cut = each.accept_cut;
+  accept_missing = each.accept_missing;
   strict = each.strict;
 }
 
@@ -199,24 +203,24 @@ abbrev pub KeepsOwn : SenderTables → SenderTables → List Made → Type 0
 KeepsOwn first now made = (now.each.now ≡ first.each.now)
     × ((before : List Made) → AreHeard first before → AreHeard now (before ++ made))
 
--- the reader gave a capture, all that it had, of which no datagram that lacks nothing was left out
+-- the reader gave a capture, all that it had, of which no datagram was left out that is not missed
 -- if it is read strictly, and these are the tables of its senders
 pub record GaveSenders (each : EachSender) (reader : CaptureInput) (senders : SendersRead) :
     Type 0 where
   pub gave : GaveSound reader senders.read.gathered senders.read.cut
   pub strict :
-      each.strict ≡ true → first_whole_left_out senders.read.gathered.report ≡ None
+      each.strict ≡ true → first_unmissed each.accept_missing senders.read.gathered.report ≡ None
   pub moment_is : senders.read.moment ≡ moment_in gave.given
   pub whole : AreWhole (packets_made (made_in gave.given))
   pub are_own : AreOwn each (made_in gave.given) senders.tables.entries
 
--- or why there are none: a datagram was left out that lacks nothing, if it is read strictly; or the
+-- or why there are none: a datagram was left out that is not missed, if it is read strictly; or the
 -- capture is refused
 abbrev pub SendersCause : EachSender → CaptureInput → InputFault → Type 0
 SendersCause each reader (input_faults.LeftOut datagram) =
     (each.strict ≡ true) × ((gathering : Gathering) × (cut : Option ℕ)
     × GaveCapture reader gathering cut
-    × (first_whole_left_out gathering.report ≡ Some datagram))
+    × (first_unmissed each.accept_missing gathering.report ≡ Some datagram))
 SendersCause each reader fault = CaptureCause reader IsNoFault fault
 
 -- ---- what is told of one sender

@@ -158,6 +158,7 @@ reading_by events = record {
   limit = 2 ^ 62;
   window = events.window;
   accept_cut = events.accept_cut;
+  accept_missing = events.accept_missing;
   strict = events.strict;
 }
 

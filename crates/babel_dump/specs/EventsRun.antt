@@ -73,8 +73,12 @@ followed_extent events =
 -- Whose datagrams are wanted, as they come. Where a capture is read strictly, one sender more than
 -- 65,536 is a fault.
 abbrev pub followed_by : Events → Wanted
-followed_by events =
-    record { sender = events.sender; place = events.place; are_listed = events.strict }
+followed_by events = record {
+  sender = events.sender;
+  place = events.place;
+  are_listed = events.strict;
+  accepts_missing = events.accept_missing;
+}
 
 abbrev pub asked_by : Events → AskedFor
 asked_by events = option_map (λ (pair : AddrPair). (pair.dst, pair.src)) events.pair
@@ -342,7 +346,7 @@ AreReadWhole counts senders =
 
 -- ---- what is written
 
--- in one of these records a datagram of this sender lacks something, and was left out
+-- in one of these records a datagram of this sender was left out that is missed
 abbrev pub is_lost : List Made → Speaker → Bool
 is_lost made speaker =
     list_any (λ one. is_of speaker (option_map (λ (m : Missed). m.origin) (missed_in one.what))) made
@@ -460,7 +464,7 @@ moment_read events blocks gathering =
 -- exactly those senders are told to be silent that are, each with how many rows it has left. Of it,
 -- and of what each record requests, if that is asked for, this is written: what is told of the moment
 -- or later that is asked for, behind the answers just before it; of a sender nothing more once a
--- datagram of it was left out that lacks something. The answer is of what was read.
+-- datagram of it was left out that is missed. The answer is of what was read.
 pub record TellsCapture (events : Events) (octets : List ℕ) (written : List (Telling Speaker))
     (answer : EventsOutcome) : Type 0 where
   pub gathering : Gathering

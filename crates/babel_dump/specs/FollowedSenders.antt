@@ -11,11 +11,11 @@ use Rattle.babel_capture.specs.Findings.{Found, found, left, passed}
 use Rattle.babel_capture.specs.Tallies.{origin_cmp}
 
 -- senders, each at each place, by place, then by address; and whether a packet of it came, or only
--- datagrams that lack something
+-- datagrams that are missed
 abbrev pub Senders : Type 0
 Senders = List (Origin × Bool)
 
--- whose packet was found, or whose datagram that lacks something; and whether it is a packet
+-- whose packet was found, or whose datagram that is missed; and whether it is a packet
 abbrev pub sender_of : Found → Option (Origin × Bool)
 sender_of (found place ends packet has_trailer) =
     Some (record { place = place; sender = ends.sender }, true)

@@ -61,6 +61,7 @@ usual_reading limits mode sender = record {
   time_option = None;
   expiry = None;
   accept_cut = false;
+  accept_missing = false;
   strict = false;
 }
 
@@ -83,12 +84,17 @@ capture_reading_of reading = record {
   limit = capture_limit reading.limits.bytes;
   window = reading.window;
   accept_cut = reading.accept_cut;
+  accept_missing = reading.accept_missing;
   strict = reading.strict;
 }
 
 abbrev pub wanted_by : Reading → Wanted
-wanted_by reading =
-    record { sender = Some reading.sender; place = reading.place; are_listed = true }
+wanted_by reading = record {
+  sender = Some reading.sender;
+  place = reading.place;
+  are_listed = true;
+  accepts_missing = reading.accept_missing;
+}
 
 -- a reader of a dump, as one of a capture that has it
 abbrev pub capture_with : Input → CaptureInput

@@ -17,7 +17,8 @@ use Rattle.babel_dump.specs.declared.outcome.Outcome.{Outcome}
 use Rattle.babel_dump.specs.declared.run_fault.RunFault.{RunFault}
 
 abbrev pub capture_of : Reads → CaptureReading → CaptureTask → CaptureInput
-capture_of reader reading task = capture_from reader.old reader.new reading (wanted_of task)
+capture_of reader reading task =
+    capture_from reader.old reader.new reading (wanted_of reading.accept_missing task)
 
 -- what a job of this work says of what its readers gave, in its text and its outcome
 abbrev pub SaysBy : Work → Job → (reader other : Reads) → List ℕ → Outcome → Type 0

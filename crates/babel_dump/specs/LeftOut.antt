@@ -6,6 +6,8 @@ use Rattle.babel_capture.specs.declared.reason.Reason.{Reason}
 use Rattle.babel_capture.specs.declared.reason.Reason.TheVariants as reasons
 use Rattle.babel_dump.specs.ByReason.{CountsNone, first_of}
 use Rattle.babel_dump.specs.declared.left_out.LeftOutDatagram.{LeftOutDatagram}
+use Rattle.babel_dump.specs.declared.left_out.ToldLeftOut.{ToldLeftOut}
+use Rattle.babel_dump.specs.declared.left_out.ToldLeftOut.TheVariants as told_ones
 
 -- the name of a reason
 abbrev pub left_out_name : Reason → List ℕ
@@ -18,15 +20,18 @@ left_out_name reasons.CutShort = codes "cut-short"
 left_out_name reasons.OtherPort = codes "other-port"
 left_out_name reasons.NotLinkLocal = codes "not-link-local"
 
--- the reasons of datagrams of which nothing is missing
-abbrev pub whole_reasons : List Reason
-whole_reasons = reasons.Truncated ∷ reasons.BadMagic ∷ reasons.BadVersion ∷ reasons.OtherPort
-    ∷ reasons.NotLinkLocal ∷ []
+-- the reasons of datagrams that are left out and not missed: nothing of them is missing, or, where
+-- that is accepted, fragments are
+abbrev pub unmissed_reasons : (accepts_missing : Bool) → List Reason
+unmissed_reasons false = reasons.Truncated ∷ reasons.BadMagic ∷ reasons.BadVersion
+    ∷ reasons.OtherPort ∷ reasons.NotLinkLocal ∷ []
+unmissed_reasons true = reasons.Truncated ∷ reasons.BadMagic ∷ reasons.BadVersion
+    ∷ reasons.Fragment ∷ reasons.OtherPort ∷ reasons.NotLinkLocal ∷ []
 
--- the reasons that a note tells, where those of datagrams that lack something may be told apart
-abbrev pub told_reasons : (are_apart : Bool) → List Reason
-told_reasons true = whole_reasons
-told_reasons false = all_reasons
+-- the reasons that a note tells
+abbrev pub told_reasons : ToldLeftOut → List Reason
+told_reasons told_ones.All = all_reasons
+told_reasons (told_ones.Unmissed accepts_missing) = unmissed_reasons accepts_missing
 
 -- how many datagrams were left out for a reason, and the number of the first's packet
 abbrev pub left_out_for : Counts → Reason → Option (ℕ × ℕ)
@@ -42,9 +47,9 @@ first_among counts reasons =
 abbrev pub first_left_out : Counts → Option LeftOutDatagram
 first_left_out counts = first_among counts all_reasons
 
--- the first datagram that was left out though nothing of it is missing
-abbrev pub first_whole_left_out : Counts → Option LeftOutDatagram
-first_whole_left_out counts = first_among counts whole_reasons
+-- the first datagram that was left out and is not missed
+abbrev pub first_unmissed : (accepts_missing : Bool) → Counts → Option LeftOutDatagram
+first_unmissed accepts_missing counts = first_among counts (unmissed_reasons accepts_missing)
 
 -- no datagram was left out
 abbrev pub LeavesNoneOut : Counts → Type 0

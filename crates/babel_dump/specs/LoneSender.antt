@@ -69,7 +69,12 @@ with_sender origin work = work
 -- is; its dump is the one that is asked for
 abbrev pub lone_from : Lone → Reads → CaptureInput
 lone_from lone reader = capture_from reader.old reader.new lone.reading
-    (record { sender = None; place = lone.place; are_listed = true })
+    (record {
+      sender = None;
+      place = lone.place;
+      are_listed = true;
+      accepts_missing = lone.reading.accept_missing;
+    })
 
 pub record FoundLone (asked : Lone) (stream : Option (List ℕ)) (lone : Lone) : Type 0 where
   pub begins : Begins

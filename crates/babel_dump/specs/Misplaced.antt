@@ -45,6 +45,7 @@ misplaced first other is_capture other_is_capture =
     when (is_some first.place && not is_capture) (Some (codes "--interface"))
     ∷ when (is_some other_place && not other_is_capture) (Some (codes "--other-interface"))
     ∷ when (first.accept_cut && has_none) (Some (codes "--accept-cut"))
+    ∷ when (first.accept_missing && has_none) (Some (codes "--accept-missing"))
     ∷ when has_none (option_map time_name first.time_option)
     ∷ when (not other_is_capture) (option_and_then other_time_name other_times) ∷ [])
 

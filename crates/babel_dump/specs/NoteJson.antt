@@ -57,7 +57,7 @@ abbrev pub left_out_members : LeftOutNote → List ℕ
 left_out_members note =
     codes ",\"reasons\":["
     ++ comma_separated
-    (counted_objects left_out_name (left_out_for note.report) (told_reasons note.are_apart))
+    (counted_objects left_out_name (left_out_for note.report) (told_reasons note.told))
     ++ codes "]"
 
 -- `,"address":"ADDRESS"`

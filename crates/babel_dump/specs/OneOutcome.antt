@@ -4,6 +4,7 @@ use Rattle.std.specs.Prelude.{◌≡◌, ◌≢◌, ℕ, Bool, true, false, List
 use Rattle.std.specs.Prelude.{Some, Result, Ok, Err}
 use Rattle.babel_prefix.specs.Address.{Address}
 use Rattle.babel_capture.specs.declared.place.Place.{Place}
+use Rattle.babel_capture.specs.OneOrigin.{only}
 use Rattle.babel_tlv.specs.declared.fault.Fault.{Fault}
 use Rattle.babel_tlv.specs.declared.fault.Fault.TheVariants as faults
 use Rattle.babel_table.specs.DumpFault.{DumpFault}
@@ -130,6 +131,7 @@ NothingWritten =
 -- where a place is named, a capture is not refused for several
 abbrev pub NamedIsNotSeveral : Type 0
 NamedIsNotSeveral =
-    (reader : CaptureInput) (sender : Address) (place : Place) (interfaces : Interfaces)
-    → reader.wanted ≡ record { sender = Some sender; place = Some place; are_listed = true }
+    (reader : CaptureInput) (sender : Address) (place : Place) (accepts : Bool)
+    (interfaces : Interfaces) → reader.wanted
+    ≡ only accepts (record { sender = sender; place = place })
     → ¬ IsOnSeveral reader interfaces

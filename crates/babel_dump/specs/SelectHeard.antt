@@ -24,7 +24,7 @@ use Rattle.babel_dump.specs.CaptureGiven.{moment_in}
 use Rattle.babel_dump.specs.CaptureRun.{CaptureCause, IsNoFault}
 use Rattle.babel_dump.specs.EachSender.{AreOwn, KeepsOwn, is_asked}
 use Rattle.babel_dump.specs.Fed.{AreWhole}
-use Rattle.babel_dump.specs.LeftOut.{first_whole_left_out}
+use Rattle.babel_dump.specs.LeftOut.{first_unmissed}
 use Rattle.babel_dump.specs.LinksHeard.{HearsMade, ihus_made}
 use Rattle.babel_dump.specs.Nodes.{node_cmp}
 use Rattle.babel_dump.specs.Packets.{packets_made}
@@ -87,13 +87,13 @@ pub record KeepsSelecting (first now : Selecting) (made : List Made) : Type 0 wh
   pub updates : TakesUpdates first now made
 
 -- the reader gave such a capture, of which these are the tables of the senders, the last IHUs, and
--- the source table of the router; no datagram that lacks nothing was left out if it is read
+-- the source table of the router; no datagram was left out that is not missed if it is read
 -- strictly, and each address of the router sends
 pub record GaveSelecting (select : Select) (reader : CaptureInput) (read : SelectionRead) :
     Type 0 where
   pub gave : GaveSound reader read.senders.read.gathered read.senders.read.cut
   pub strict : select.strict ≡ true
-      → first_whole_left_out read.senders.read.gathered.report ≡ None
+      → first_unmissed select.each.accept_missing read.senders.read.gathered.report ≡ None
   pub sends : all_send select read.senders.read.gathered.senders ≡ true
   pub moment_is : read.senders.read.moment ≡ moment_in gave.given
   pub whole : AreWhole (packets_made (made_in gave.given))
@@ -108,11 +108,12 @@ abbrev pub GaveOne : CaptureInput → (Gathering → Type 0) → Type 0
 GaveOne reader Holds = (gathering : Gathering) × (cut : Option ℕ)
     × GaveCapture reader gathering cut × Holds gathering
 
--- a datagram was left out that lacks nothing, if it is read strictly; an address of the router sends
--- nothing; or the capture is refused
+-- a datagram was left out that is not missed, if it is read strictly; an address of the router
+-- sends nothing; or the capture is refused
 abbrev pub SelectingCause : Select → CaptureInput → InputFault → Type 0
 SelectingCause select reader (input_faults.LeftOut datagram) = (select.strict ≡ true)
-    × GaveOne reader (λ gathering. first_whole_left_out gathering.report ≡ Some datagram)
+    × GaveOne reader
+    (λ gathering. first_unmissed select.each.accept_missing gathering.report ≡ Some datagram)
 SelectingCause select reader (input_faults.NoPackets absence) =
     GaveOne reader (λ gathering. all_send select gathering.senders ≡ false)
 SelectingCause select reader fault = CaptureCause reader IsNoFault fault

@@ -128,6 +128,24 @@ impl Asked {
         }
     }
 
+    /// Whether `--accept-missing` would leave out a datagram of which fragments are missing: neither
+    /// that nor `--strict` is given.
+    pub(crate) fn could_accept_missing(&self) -> bool {
+        let (accepts, is_strict) = match self {
+            Asked::Job(job) | Asked::Lone(Lone { job, .. }) => match (&job.work, job.reading()) {
+                (Work::Capture { reading, .. }, _) => (reading.accept_missing, reading.strict),
+                (_, Some(reading)) => (reading.accept_missing, reading.strict),
+                (_, None) => return false,
+            },
+            Asked::EachSender(each) => (each.accept_missing, each.strict),
+            Asked::EachPair(pairs) => (pairs.left.accept_missing, pairs.left.strict),
+            Asked::Origins(origins) => (origins.left.accept_missing, origins.left.strict),
+            Asked::Events(events) => (events.accept_missing, events.strict),
+            Asked::Select(select) => (select.each.accept_missing, select.strict),
+        };
+        !accepts && !is_strict
+    }
+
     /// The sender that alone announces, if it was found.
     pub(crate) fn lone_sender(&self) -> Option<&LoneSender> {
         match self {

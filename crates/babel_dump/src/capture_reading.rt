@@ -9,6 +9,8 @@ pub struct CaptureReading {
     pub window: Window,
     /// Whether a capture that is cut short is read to its last whole record: `--accept-cut`.
     pub accept_cut: bool,
+    /// Whether a datagram of which fragments are missing is left out: `--accept-missing`.
+    pub accept_missing: bool,
     /// Whether the capture is refused if a wanted datagram of it is left out: `--strict`.
     pub strict: bool,
 }

@@ -19,7 +19,7 @@ use crate::capture_notes::CaptureNotes;
 use crate::input::{Fed, what_expired};
 use crate::input_fault::InputFault;
 use crate::interfaces::interfaces_of;
-use crate::left_out::first_left_out;
+use crate::left_out::{ToldLeftOut, first_left_out};
 use crate::packet_feeder::PacketFeeder;
 use crate::reading::Reading;
 use babel_capture::{Capture, NoSink};
@@ -104,7 +104,7 @@ fn end_of(
         return Ok(CaptureNotes {
             report,
             cut,
-            are_apart: false,
+            told: ToldLeftOut::All,
             expired_rows: 0,
         });
     }

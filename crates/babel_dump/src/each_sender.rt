@@ -34,7 +34,7 @@ use crate::job::{DumpFile, Task};
 use crate::key::{TableText, make_key};
 use crate::key_name::origin_output;
 use crate::led::{lead_output, push_led};
-use crate::left_out::first_whole_left_out;
+use crate::left_out::first_unmissed;
 use crate::note::Note;
 use crate::own_table::{OwnTable, read_own};
 use crate::reading::{Reading, capture_limit};
@@ -65,7 +65,9 @@ pub struct EachSender {
     pub expiry: Option<Factor>,
     /// Whether a capture that is cut short is read to its last whole record: `--accept-cut`.
     pub accept_cut: bool,
-    /// Whether the capture is refused if a datagram that lacks nothing was left out of it, and a
+    /// Whether a datagram of which fragments are missing is left out: `--accept-missing`.
+    pub accept_missing: bool,
+    /// Whether the capture is refused if a datagram was left out of it that is not missed, and a
     /// dump if a TLV of it is ignored, or it has no Update: `--strict`.
     pub strict: bool,
     /// What is told of each.
@@ -114,6 +116,7 @@ impl EachSender {
             time_option: None,
             expiry: self.expiry,
             accept_cut: self.accept_cut,
+            accept_missing: self.accept_missing,
             strict: self.strict,
         }
     }
@@ -126,6 +129,7 @@ impl EachSender {
             limit: capture_limit(self.limits.bytes()),
             window: self.window,
             accept_cut: self.accept_cut,
+            accept_missing: self.accept_missing,
             strict: false,
         }
     }
@@ -192,12 +196,16 @@ impl EachSender {
     {
         let mut senders = SenderTables::new(alloc, self, seed);
         let how = self.capture_reading();
-        let read = read_capture(alloc, how, Wanted::everyone(), reader, &mut senders);
+        let wanted = Wanted {
+            accepts_missing: how.accept_missing,
+            ..Wanted::everyone()
+        };
+        let read = read_capture(alloc, how, wanted, reader, &mut senders);
         if senders.has_failed {
             return Err(InputFault::from(AllocError));
         }
         let read = read?;
-        match first_whole_left_out(&read.gathered.report()) {
+        match first_unmissed(&read.gathered.report(), self.accept_missing) {
             Some(datagram) if self.strict => Err(InputFault::LeftOut(datagram)),
             _ => Ok(SendersRead {
                 read,

@@ -1,6 +1,6 @@
 //! `events`: what the senders in a capture announce, change and retract, and what expires, told as
 //! the capture is read.
-ghost use Rattle.std.specs.Prelude.{◌≡◌, ◌+◌, ◌-◌, ◌++◌, ◌^◌, ◌<◌, ◌≤◌, ℕ, List, []};
+ghost use Rattle.std.specs.Prelude.{◌≡◌, ◌+◌, ◌-◌, ◌++◌, ◌^◌, ◌<◌, ◌≤◌, ◌⊎◌, ℕ, List, []};
 ghost use Rattle.std.specs.Prelude.{◌∷◌, None, IfErr, IfOk, OnErr, OnOk, false, if◌then◌else◌};
 ghost use Rattle.std.specs.Prelude.{map};
 ghost use Rattle.std.specs.Prelude.{true, vec_capacity};
@@ -114,6 +114,7 @@ impl<'a> Followed<'a> {
             sender,
             place,
             are_listed: events.strict,
+            accepts_missing: events.accept_missing,
         };
         let capture = Capture::within(alloc, MOST, events.window, events.accept_cut, wanted);
         let follower = Follower::new(alloc, events);
@@ -191,8 +192,8 @@ impl<'a> Followed<'a> {
         unreachable!()
     }
 
-    /// Takes the next octets of the capture, and writes what their packets tell, also where they
-    /// have a fault.
+    /// Takes the next octets of the capture; says what of their packets was not read, and writes what
+    /// they tell, also where they have a fault. If `--since` is later than `--until` it does neither.
     fn take<W: ByteOut, S: Says>(
         &mut self,
         events: &Events,
@@ -205,6 +206,9 @@ impl<'a> Followed<'a> {
         requires told { self.old.follower.told.items ≡ [] }
         requires empty { self.old.buffer.items ≡ [] }
         requires room { 2048 ≤ vec_capacity self.old.buffer }
+        ensures said { OnOk result (self.new.follower.remarks.remarks.items ≡ []) }
+        ensures said_first { IfErr result (λ trouble. IsBackwards trouble
+            ⊎ (self.new.follower.remarks.remarks.items ≡ [])) }
         ensures told { OnOk result (self.new.follower.told.items ≡ []) }
         ensures empty { OnOk result (self.new.buffer.items ≡ []) }
         ensures room { OnOk result (2048 ≤ vec_capacity self.new.buffer) }
@@ -226,7 +230,8 @@ impl<'a> Followed<'a> {
     {
         let fed = self.capture.feed(piece, &mut self.follower);
         self.in_order(events)?;
-        self.follower.say(self.capture.gathered(), says);
+        let gathered = self.capture.gathered();
+        self.follower.say(gathered, says);
         self.write(events, writer)?;
         self.follower.fault()?;
         match fed {
@@ -267,6 +272,7 @@ impl<'a> Followed<'a> {
             × (self.new.follower.fault ≡ self.old.follower.fault) }
         ensures senders { self.new.follower.senders ≡ self.old.follower.senders }
         ensures others { self.new.follower.other_sources ≡ self.old.follower.other_sources }
+        ensures remarks { self.new.follower.remarks ≡ self.old.follower.remarks }
         ensures told { OnOk result (self.new.follower.told.items ≡ []) }
         ensures empty { OnOk result (self.new.buffer.items ≡ []) }
         ensures room { OnOk result (2048 ≤ vec_capacity self.new.buffer) }
@@ -422,8 +428,8 @@ impl<'a> Followed<'a> {
         }
     }
 
-    /// Ends the capture: datagrams of which fragments are missing are left out then. Where it is cut
-    /// short, if that is accepted.
+    /// Ends the capture: datagrams of which fragments are missing are left out then, which is said.
+    /// Where it is cut short, if that is accepted.
     fn end_capture<S: Says>(
         &mut self,
         events: &Events,
@@ -431,6 +437,7 @@ impl<'a> Followed<'a> {
     ) -> Result<Option<u64>, Trouble>
         requires empty { self.old.buffer.items ≡ [] }
         requires room { 2048 ≤ vec_capacity self.old.buffer }
+        ensures said { self.new.follower.remarks.remarks.items ≡ [] }
         ensures empty { self.new.buffer.items ≡ [] }
         ensures room { 2048 ≤ vec_capacity self.new.buffer }
         ensures ended { IfOk result (λ cut. (fed : List ℕ) (told : List (TellingSaid SpeakerSaid))

@@ -23,6 +23,8 @@ pub struct Events {
     pub since: Option<Moment>,
     /// Whether a capture that is cut short is read to its last whole record: `--accept-cut`.
     pub accept_cut: bool,
+    /// Whether a datagram of which fragments are missing is left out: `--accept-missing`.
+    pub accept_missing: bool,
     /// After how many times its Interval a row is gone: `--expiry`. None is where it is left out.
     pub expiry: Option<Factor>,
     /// How many rows the senders' tables have at most in all, and whether address encoding 4 is

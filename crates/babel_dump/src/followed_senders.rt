@@ -13,8 +13,8 @@ use babel_capture::{MAX_SENDERS, Origin, Record, Said};
 use std::alloc::{AllocError, Global};
 use std::collections::BTreeMap;
 
-/// The senders that are followed: the first 65,536 of whom a packet came, or a datagram that lacks
-/// something, each at each place.
+/// The senders that are followed: the first 65,536 of whom a packet came, or a datagram is missed,
+/// each at each place.
 #[derive(Drop)]
 pub(crate) struct FollowedSenders {
     /// Whether a packet of each came; by place, then by address.
@@ -69,7 +69,7 @@ impl FollowedSenders {
     }
 }
 
-/// Whose packet a record has, or whose datagram that lacks something; and whether it is a packet.
+/// Whose packet a record has, or whose datagram that is missed; and whether it is a packet.
 pub(crate) fn sender_of(told: &Record<'_>) -> Option<(Origin, bool)>
     ensures { (one : Made) → IsTold one told.now → result ≡ sender_found one.what }
 {

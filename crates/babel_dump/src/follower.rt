@@ -13,6 +13,7 @@ ghost use Rattle.babel_dump.specs.Followed.{RefusesOthers, RefusesTold, RefusesU
 ghost use Rattle.babel_dump.specs.Followed.{RefusesUsually, Stops, StopsFollowed, Suits, trouble_of};
 ghost use Rattle.babel_dump.specs.FollowedSenders.{is_followed, with_followed};
 ghost use Rattle.babel_dump.specs.FollowedSenders.{sender_of as sender_found};
+ghost use Rattle.babel_dump.specs.Remarks.{SaysRemarks};
 ghost use Rattle.babel_dump.specs.declared.events_job.Events.{Events as EventsSaid};
 ghost use Rattle.babel_dump.specs.declared.hearing.Unheard.TheVariants as unheard;
 ghost use Rattle.babel_dump.specs.declared.stop.Stop.{Stop as StopSaid};
@@ -251,6 +252,9 @@ impl<'a> Follower<'a> {
 
     /// Says what was not read since it was said last.
     pub(crate) fn say<S: Says>(&mut self, gathered: &Gathered, says: &mut S)
+        ensures said { SaysRemarks S.hears gathered.now self.old.remarks.hint says.old
+            self.old.remarks.remarks.items says.new }
+        ensures none_waits { self.new.remarks.remarks.items ≡ [] }
         ensures same { (self.new.events ≡ self.old.events)
             × (self.new.hearing ≡ self.old.hearing) × (self.new.told ≡ self.old.told)
             × (self.new.fault ≡ self.old.fault) }

@@ -68,7 +68,7 @@ impl Unheard {
 #[derive(Drop)]
 pub(crate) struct Hearing {
     teller: Teller<Speaker>,
-    /// Of whom a datagram was left out that lacks something: no more is told of them.
+    /// Of whom a datagram is missed: no more is told of them.
     lost: BTreeSet<Speaker>,
     /// From which moment on it is told.
     since: Since,
@@ -263,8 +263,8 @@ impl Hearing {
         self.lost.contains(speaker)
     }
 
-    /// Tells no more of the sender whose datagram the record left out since it lacks something, if it
-    /// did. Adds by what a sender is lost.
+    /// Tells no more of the sender whose datagram is missed by the record, if one is. Adds by what a
+    /// sender is lost.
     pub(crate) fn lose(&mut self, said: &Record<'_>, by: &mut Remarks) -> Result<(), AllocError>
         ensures same { (self.new.teller ≡ self.old.teller) × (self.new.since ≡ self.old.since) }
         ensures lost { OnOk result ((speaker : SpeakerSaid)

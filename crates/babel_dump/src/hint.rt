@@ -68,6 +68,12 @@ const SNAPPED: &str = "tcpdump -s 0 keeps packets whole";
 const FRAGMENT: &str = "its routes would be missing; record fragments, too: 'udp port 6696 or ip6 \
                         proto 44', and of IPv4 ip[6:2] & 0x1fff != 0";
 
+/// The same where that can be accepted.
+const ACCEPT_MISSING: &str =
+    "its routes would be missing; record fragments, too: 'udp port 6696 or \
+                              ip6 proto 44', and of IPv4 ip[6:2] & 0x1fff != 0; --accept-missing \
+                              leaves it out";
+
 /// A datagram is longer than its frame.
 const CUT_SHORT: &str = "the datagram is longer than the captured frame; take the capture as it \
                          was recorded, since --accept-cut does not help";
@@ -92,7 +98,7 @@ impl Hint {
             } => Hint::of_reason(asked, tlv.reason, *ignores_encoding_4, side),
             InputFault::Capture(fault) => Hint::of_capture(asked, fault, begins),
             InputFault::LeftOut(datagram) if !asked.names_sender() => {
-                Hint::of_lack(datagram.reason)
+                Hint::of_lack(asked, datagram.reason)
             }
             InputFault::SeveralInterfaces(_) => Some(Hint::Interface(side.place_option())),
             InputFault::NoPackets(absence) if absence.is_narrow() => Some(Hint::Text(
@@ -197,12 +203,22 @@ impl Hint {
     }
 
     /// What to do where a dump lacks a datagram, for this reason.
-    fn of_lack(reason: LeftOutReason) -> Option<Hint> {
+    fn of_lack(asked: &Asked, reason: LeftOutReason) -> Option<Hint> {
         match reason {
             LeftOutReason::Snapped => Some(Hint::Text(SNAPPED)),
-            LeftOutReason::Fragment => Some(Hint::Text(FRAGMENT)),
+            LeftOutReason::Fragment => Some(Hint::of_fragments(asked)),
             LeftOutReason::CutShort => Some(Hint::Text(CUT_SHORT)),
             _ => None,
+        }
+    }
+
+    /// What to do where fragments of a datagram are missing: the option that accepts that, if it
+    /// would.
+    fn of_fragments(asked: &Asked) -> Hint {
+        if asked.could_accept_missing() {
+            Hint::Text(ACCEPT_MISSING)
+        } else {
+            Hint::Text(FRAGMENT)
         }
     }
 
@@ -248,7 +264,7 @@ impl Hint {
                 "the recorder was stopped within a record; --accept-cut reads the complete records",
             )),
             CaptureFault::Snapped { .. } => Some(Hint::Text(SNAPPED)),
-            CaptureFault::Fragment { .. } => Some(Hint::Text(FRAGMENT)),
+            CaptureFault::Fragment { .. } => Some(Hint::of_fragments(asked)),
             CaptureFault::DatagramCutShort { .. } => Some(Hint::Text(CUT_SHORT)),
             CaptureFault::Version { .. } => Some(Hint::Text(
                 "supported versions: pcap 2.4, pcapng 1.0 and 1.2",

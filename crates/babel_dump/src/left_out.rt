@@ -2,7 +2,7 @@
 ghost use Rattle.std.specs.Prelude.{◌≡◌, ◌≤◌, IfSome, length};
 ghost use Rattle.std.specs.Option.{IfNone};
 ghost use Rattle.babel_dump.specs.LeftOut.{LeavesNoneOut, first_among, first_left_out};
-ghost use Rattle.babel_dump.specs.LeftOut.{first_whole_left_out, told_reasons};
+ghost use Rattle.babel_dump.specs.LeftOut.{first_unmissed, told_reasons, unmissed_reasons};
 
 use crate::by_reason::{CountedReason, count_for, first_of, write_counted};
 use babel_capture::{Reason, Report};
@@ -28,26 +28,36 @@ impl fmt::Display for LeftOutDatagram {
     }
 }
 
+/// Which of the datagrams that were left out a note tells.
+#[derive(Clone, Copy)]
+pub enum ToldLeftOut {
+    /// Each of them.
+    All,
+    /// Those that are not missed: nothing of them is missing, or fragments are, where that is
+    /// accepted. The others are told with their senders.
+    Unmissed { accepts_missing: bool },
+}
+
 /// How many datagrams of a capture were left out, and why: what a note after the output says.
 #[derive(Clone, Copy)]
 pub struct LeftOutNote {
     pub report: Report,
-    /// Whether those that lack something are told apart, with their senders.
-    pub are_apart: bool,
+    /// Which of them it tells.
+    pub told: ToldLeftOut,
     left_out: u64,
 }
 
 impl LeftOutNote {
-    /// The note about a capture with this report; `None` if no wanted datagram was left out. Those
-    /// that lack something may be told apart, with their senders.
-    pub(crate) fn of(report: Report, are_apart: bool) -> Option<LeftOutNote> {
-        let left_out = count_for(&report, told_reasons(are_apart));
+    /// The note that tells these of a capture with this report; `None` if none of them was left
+    /// out.
+    pub(crate) fn of(report: Report, told: ToldLeftOut) -> Option<LeftOutNote> {
+        let left_out = count_for(&report, told_reasons(told));
         if left_out == 0 {
             None
         } else {
             Some(LeftOutNote {
                 report,
-                are_apart,
+                told,
                 left_out,
             })
         }
@@ -62,16 +72,31 @@ impl fmt::Display for LeftOutNote {
             "datagrams"
         };
         write!(f, "{} {datagrams} left out", self.left_out)?;
-        write_counted(f, &self.report, told_reasons(self.are_apart))
+        write_counted(f, &self.report, told_reasons(self.told))
     }
 }
 
-/// The reasons that a note tells, where those of datagrams that lack something may be told apart.
-pub(crate) fn told_reasons(are_apart: bool) -> &'static [Reason]
-    ensures reasons { result.now ≡ told_reasons are_apart }
+/// The reasons that a note tells.
+pub(crate) fn told_reasons(told: ToldLeftOut) -> &'static [Reason]
+    ensures reasons { result.now ≡ told_reasons told }
     ensures few { length result.now ≤ 8 }
 {
-    if are_apart { &WHOLE_REASONS } else { &REASONS }
+    match told {
+        ToldLeftOut::All => &REASONS,
+        ToldLeftOut::Unmissed { accepts_missing } => unmissed_reasons(accepts_missing),
+    }
+}
+
+/// The reasons of datagrams that are left out and not missed.
+fn unmissed_reasons(accepts_missing: bool) -> &'static [Reason]
+    ensures reasons { result.now ≡ unmissed_reasons accepts_missing }
+    ensures few { length result.now ≤ 8 }
+{
+    if accepts_missing {
+        &WHOLE_OR_IN_FRAGMENTS
+    } else {
+        &WHOLE_REASONS
+    }
 }
 
 /// The first datagram of a capture that was left out, by the number of its packet.
@@ -83,11 +108,11 @@ pub(crate) fn first_left_out(report: &Report) -> Option<LeftOutDatagram>
     first_among(report, &REASONS)
 }
 
-/// The first datagram of a capture that was left out though nothing of it is missing.
-pub(crate) fn first_whole_left_out(report: &Report) -> Option<LeftOutDatagram>
-    ensures { result ≡ first_whole_left_out report.now }
+/// The first datagram of a capture that was left out and is not missed.
+pub(crate) fn first_unmissed(report: &Report, accepts_missing: bool) -> Option<LeftOutDatagram>
+    ensures { result ≡ first_unmissed accepts_missing report.now }
 {
-    first_among(report, &WHOLE_REASONS)
+    first_among(report, unmissed_reasons(accepts_missing))
 }
 
 /// The first datagram that was left out for one of these reasons.
@@ -115,6 +140,16 @@ const WHOLE_REASONS: [Reason; 5] = [
     Reason::Truncated,
     Reason::BadMagic,
     Reason::BadVersion,
+    Reason::OtherPort,
+    Reason::NotLinkLocal,
+];
+
+/// Those and that of datagrams of which fragments are missing.
+const WHOLE_OR_IN_FRAGMENTS: [Reason; 6] = [
+    Reason::Truncated,
+    Reason::BadMagic,
+    Reason::BadVersion,
+    Reason::Fragment,
     Reason::OtherPort,
     Reason::NotLinkLocal,
 ];

@@ -53,13 +53,15 @@ pub(crate) fn find_links<R: ByteIn>(
     requires { HasRoomToCount (R.state reader.old) }
     ensures { let task = CaptureTask.Links place expiry in
         let input =
-        capture_from (R.state reader.old) (R.state reader.new) reading (wanted_of task) in
+        capture_from (R.state reader.old) (R.state reader.new) reading
+        (wanted_of reading.accept_missing task) in
         FoundIn task format.now input result }
 {
     let wanted = Wanted {
         sender: None,
         place,
         are_listed: true,
+        accepts_missing: reading.accept_missing,
     };
     let mut sink = LinkSink::new(alloc);
     let read = read_capture(alloc, reading, wanted, reader, &mut sink);

@@ -59,6 +59,7 @@ impl Lone {
             sender: None,
             place: self.place,
             are_listed: true,
+            accepts_missing: self.reading.accept_missing,
         };
         let mut device = begun.into_device();
         let read = read_capture(alloc, self.reading, wanted, &mut device, &mut NoSink)?;

@@ -28,6 +28,9 @@ pub(crate) fn misplaced(
         if first.accept_cut {
             return Some("--accept-cut");
         }
+        if first.accept_missing {
+            return Some("--accept-missing");
+        }
         if let Some(option) = first.time_option {
             return Some(option.name());
         }

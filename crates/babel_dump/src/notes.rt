@@ -21,7 +21,7 @@ use crate::events_outcome::EventsOutcome;
 use crate::ignored_note::IgnoredNote;
 use crate::job::Job;
 use crate::job_run::Ran;
-use crate::left_out::LeftOutNote;
+use crate::left_out::{LeftOutNote, ToldLeftOut};
 use crate::note::{Note, SideNote};
 use crate::other_sources::source_note;
 use crate::outcome::Reports;
@@ -115,7 +115,7 @@ impl Notes {
         let capture = CaptureNotes {
             report,
             cut,
-            are_apart: false,
+            told: ToldLeftOut::All,
             expired_rows: 0,
         };
         match answer.named(events) {
@@ -221,7 +221,7 @@ impl Notes {
         let capture = CaptureNotes {
             report,
             cut,
-            are_apart: false,
+            told: ToldLeftOut::All,
             expired_rows: 0,
         };
         self.add_capture(Side::First, capture, interval)
@@ -281,12 +281,12 @@ fn about_capture(capture: CaptureNotes, interval: Option<u16>) -> [Option<Note>;
     let CaptureNotes {
         report,
         cut,
-        are_apart,
+        told,
         ..
     } = capture;
     let (sections, trailers) = (report.sections(), report.trailers());
     [
-        left_out(report, are_apart),
+        left_out(report, told),
         above(report.cooked(), 0, Note::Cooked),
         above(sections, 1, Note::Sections(sections)),
         above(trailers, 0, Note::Trailers(trailers)),
@@ -356,10 +356,10 @@ fn ignored(report: Report) -> Option<Note>
 }
 
 /// What was left out of a capture.
-fn left_out(report: CaptureReport, are_apart: bool) -> Option<Note>
+fn left_out(report: CaptureReport, told: ToldLeftOut) -> Option<Note>
     ensures { (left : Option LeftOutNote) × (result ≡ option_map notes.LeftOut left) }
 {
-    Some(Note::LeftOut(LeftOutNote::of(report, are_apart)?))
+    Some(Note::LeftOut(LeftOutNote::of(report, told)?))
 }
 
 /// That senders are not followed.

@@ -462,6 +462,24 @@ pub(crate) static READ: &[OptionRow] = &[
         commands: &ALL,
         ..FLAG
     },
+    OptionRow {
+        id: "accept-missing",
+        help: "Leave out datagrams of which fragments are missing",
+        commands: &[
+            "show",
+            "lookup",
+            "normalise",
+            "key",
+            "pairs",
+            "compare",
+            "diff",
+            "links",
+            "extract",
+            "events",
+            "select",
+        ],
+        ..FLAG
+    },
     MAX_ROUTES,
     OptionRow {
         help: "How many routes there may be, of all senders together [default: 262144]",

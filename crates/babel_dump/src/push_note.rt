@@ -150,7 +150,7 @@ fn push_left_out(buffer: &mut Vec<u8>, note: &LeftOutNote)
     ensures room { TookRoom buffer.old buffer.new 1500 }
 {
     push_text(buffer, r#","reasons":["#);
-    push_counted_json(buffer, &note.report, told_reasons(note.are_apart));
+    push_counted_json(buffer, &note.report, told_reasons(note.told));
     push_text(buffer, "]");
 }
 

@@ -74,6 +74,8 @@ pub struct Reading {
     pub expiry: Option<Factor>,
     /// Whether a capture that is cut short is read to its last whole record: `--accept-cut`.
     pub accept_cut: bool,
+    /// Whether a datagram of which fragments are missing is left out: `--accept-missing`.
+    pub accept_missing: bool,
     /// Whether the dump is refused if a TLV of it is ignored, a datagram was left out of it, or it
     /// has no Update: `--strict`.
     pub strict: bool,
@@ -95,6 +97,7 @@ impl Reading {
             time_option: None,
             expiry: None,
             accept_cut: false,
+            accept_missing: false,
             strict: false,
         }
     }
@@ -107,6 +110,7 @@ impl Reading {
             limit: capture_limit(self.limits.bytes()),
             window: self.window,
             accept_cut: self.accept_cut,
+            accept_missing: self.accept_missing,
             strict: self.strict,
         }
     }
@@ -119,6 +123,7 @@ impl Reading {
             sender: Some(self.sender),
             place: self.place,
             are_listed: true,
+            accepts_missing: self.accept_missing,
         }
     }
 }

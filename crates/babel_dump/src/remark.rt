@@ -4,15 +4,14 @@ use crate::left_out::LeftOutDatagram;
 use crate::note::Note;
 use crate::place_word::NamedOrigin;
 use babel_capture::Origin;
-use babel_tlv::Reason;
 use std::fmt;
 
 /// What of a sender was not read.
 #[derive(Clone, Copy)]
 pub(crate) enum Unread {
-    /// A datagram of it was left out that lacks something, so that no more is told of it.
+    /// A datagram of it was left out that is missed, so that no more is told of it.
     Lost(LeftOutDatagram),
-    /// A datagram of it was left out, the first for its reason.
+    /// One was left out that is not missed, the first for its reason.
     LeftOut(LeftOutDatagram),
     /// It is not followed, and the packet with this number is the first of such senders.
     NotFollowed(u64),
@@ -25,20 +24,8 @@ pub(crate) enum Unread {
 pub(crate) struct Remark {
     pub origin: Origin,
     pub unread: Unread,
-    /// Whether an Update of the sender was ignored because its encoding is 4: RFC 9229.
-    pub ignores_encoding_4: bool,
-}
-
-impl Remark {
-    /// Whether a TLV was ignored for its encoding, and an Update because that is 4: RFC 9229.
-    pub(crate) fn is_of_encoding_4(&self) -> bool {
-        match &self.unread {
-            Unread::Ignored(tlv) => {
-                self.ignores_encoding_4 && tlv.reason == Reason::UnknownEncoding
-            }
-            Unread::Lost(_) | Unread::LeftOut(_) | Unread::NotFollowed(_) => false,
-        }
-    }
+    /// Whether it is said with what can be done about it.
+    pub is_hinted: bool,
 }
 
 /// What of a sender was not read, as it is said.

@@ -1,4 +1,7 @@
 //! What was not read of a capture, as there is to say at once.
+ghost use Rattle.std.specs.Prelude.{◌≡◌, []};
+ghost use Rattle.babel_dump.specs.Remarks.{SaysRemark, SaysRemarks};
+
 use crate::events_job::Events;
 use crate::hearing::Hearing;
 use crate::hint::Hint;
@@ -24,8 +27,10 @@ pub(crate) struct Remarks {
     left_out: BTreeSet<(Speaker, Reason)>,
     /// The number of the first packet of a sender that is not followed.
     pub not_followed: Option<u64>,
-    /// What can be done where encoding 4 is ignored, until that is said.
+    /// What can be done where encoding 4 is ignored: RFC 9229.
     hint: Option<Hint>,
+    /// Whether a remark is said with that.
+    is_hinted: bool,
 }
 
 impl Remarks {
@@ -37,6 +42,7 @@ impl Remarks {
             left_out: BTreeSet::new(alloc),
             not_followed: None,
             hint: Hint::of_encoding_4(events.limits.via_v6()),
+            is_hinted: false,
         }
     }
 
@@ -53,11 +59,11 @@ impl Remarks {
         self.add(Remark {
             origin,
             unread,
-            ignores_encoding_4: false,
+            is_hinted: false,
         })
     }
 
-    /// A datagram of a sender was left out that lacks something, so that no more is told of it.
+    /// A datagram of a sender was left out that is missed, so that no more is told of it.
     pub(crate) fn lost(
         &mut self,
         origin: Origin,
@@ -66,8 +72,8 @@ impl Remarks {
         self.add_datagram(origin, Unread::Lost(datagram))
     }
 
-    /// A datagram of a sender was left out, of which nothing is missing. It is said once of each
-    /// sender at its place and each reason, of so many as there are senders at most.
+    /// A datagram of a sender was left out that is not missed. It is said once of each sender at its
+    /// place and each reason, of so many as there are senders at most.
     pub(crate) fn left_out(
         &mut self,
         origin: Origin,
@@ -130,24 +136,38 @@ impl Remarks {
         let Some(tlv) = newly_ignored(from, report, reason) else {
             return Ok(());
         };
+        let is_of_encoding_4 = reason == IgnoredFor::UnknownEncoding && report.ignores_encoding_4();
+        let is_hinted = is_of_encoding_4 && !self.is_hinted;
+        self.is_hinted |= is_of_encoding_4;
         self.add(Remark {
             origin: *origin,
             unread: Unread::Ignored(tlv),
-            ignores_encoding_4: report.ignores_encoding_4(),
+            is_hinted,
         })
     }
 
     /// Says what was not read since it was said last.
-    pub(crate) fn say<S: Says>(&mut self, gathered: &Gathered, says: &mut S) {
+    pub(crate) fn say<S: Says>(&mut self, gathered: &Gathered, says: &mut S)
+        ensures said { SaysRemarks S.hears gathered.now self.old.hint says.old
+            self.old.remarks.items says.new }
+        ensures none_waits { self.new.remarks.items ≡ [] }
+    {
         for remark in &self.remarks {
-            says.say(&NamedRemark {
-                remark: *remark,
-                name: gathered.name(remark.origin.place.interface),
-            });
-            if remark.is_of_encoding_4() {
-                say_hint(says, &self.hint.take());
-            }
+            say_remark(gathered, remark, &self.hint, says);
         }
         self.remarks.clear();
+    }
+}
+
+/// Says what of a sender was not read, and where it is said with that, what can be done about it.
+fn say_remark<S: Says>(gathered: &Gathered, remark: &Remark, hint: &Option<Hint>, says: &mut S)
+    ensures { SaysRemark S.hears gathered.now hint.now says.old remark.now says.new }
+{
+    says.say(&NamedRemark {
+        remark: *remark,
+        name: gathered.name(remark.origin.place.interface),
+    });
+    if remark.is_hinted {
+        say_hint(says, hint);
     }
 }

@@ -1,11 +1,18 @@
 //! To whom it is said what there is to know.
+ghost use Rattle.std.specs.Prelude.{⊤};
+
 use std::fmt::Display;
 use std::io;
 
 /// Whoever is told lines: the program's standard error. Where one can't be said, it is left out.
 pub trait Says {
+    // Relates whoever is told before a line, the value that is said, and whoever is told after it.
+    // The default says nothing.
+    ghost hears: { Self → (T : Type 0) → T → Self → Type 0 } = { λ _ _ _ _. ⊤ };
+
     /// Says a line, whose end is not in it.
-    fn say<T: Display>(&mut self, line: &T);
+    fn say<T: Display>(&mut self, line: &T)
+        ensures { hears self.old T line.now self.new };
 }
 
 /// What is remembered of a reader, by which its fault is explained.

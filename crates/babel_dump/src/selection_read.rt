@@ -2,7 +2,7 @@
 ghost use Rattle.std.specs.Prelude.{◌≡◌, IfErr, IfOk, None, OnOk, Some, false, true};
 ghost use Rattle.babel_dump.specs.Device.{HasRoomToCount};
 ghost use Rattle.babel_dump.specs.EachSender.{each_from};
-ghost use Rattle.babel_dump.specs.LeftOut.{first_whole_left_out};
+ghost use Rattle.babel_dump.specs.LeftOut.{first_unmissed};
 ghost use Rattle.babel_dump.specs.SelectHeard.{GaveSelecting, SelectingCause, all_send};
 ghost use Rattle.babel_dump.specs.declared.absence.Absence.{Absence as AbsenceSaid};
 ghost use Rattle.babel_dump.specs.declared.left_out.LeftOutDatagram.{LeftOutDatagram as Datagram};
@@ -11,7 +11,7 @@ use crate::byte_in::ByteIn;
 use crate::capture_input::{CaptureRead, read_capture};
 use crate::each_sender::SendersRead;
 use crate::input_fault::InputFault;
-use crate::left_out::first_whole_left_out;
+use crate::left_out::first_unmissed;
 use crate::link_sink::LinkSink;
 use crate::node::Node;
 use crate::router_places::sends;
@@ -51,7 +51,11 @@ impl SelectionRead {
     {
         let mut selecting = Selecting::new(alloc, select, seed);
         let how = select.each.capture_reading();
-        let read = read_capture(alloc, how, Wanted::everyone(), reader, &mut selecting);
+        let wanted = Wanted {
+            accepts_missing: how.accept_missing,
+            ..Wanted::everyone()
+        };
+        let read = read_capture(alloc, how, wanted, reader, &mut selecting);
         if selecting.has_failed() {
             return Err(InputFault::from(AllocError));
         }
@@ -74,18 +78,19 @@ impl SelectionRead {
     }
 }
 
-/// Refuses a capture that is read strictly, and of which a datagram that lacks nothing was left out.
+/// Refuses a capture that is read strictly, and of which a datagram was left out that is not missed.
 fn refuse_left_out(select: &Select, read: &CaptureRead) -> Result<(), InputFault>
     ensures none { OnOk result (select.now.strict ≡ true
-        → first_whole_left_out read.now.gathered.report ≡ None) }
+        → first_unmissed select.now.each.accept_missing read.now.gathered.report ≡ None) }
     ensures first { IfErr result (λ fault. (select.now.strict ≡ true) × (datagram : Datagram)
-        × (first_whole_left_out read.now.gathered.report ≡ Some datagram)
+        × (first_unmissed select.now.each.accept_missing read.now.gathered.report
+        ≡ Some datagram)
         × (fault ≡ InputFault.LeftOut datagram)) }
 {
     if !select.strict {
         return Ok(());
     }
-    match first_whole_left_out(&read.gathered.report()) {
+    match first_unmissed(&read.gathered.report(), select.each.accept_missing) {
         Some(datagram) => Err(InputFault::LeftOut(datagram)),
         None => Ok(()),
     }

@@ -3,6 +3,7 @@ ghost use Rattle.std.specs.Prelude.{◌≡◌, None};
 ghost use Rattle.std.specs.Option.{option_copied};
 ghost use Rattle.babel_dump.specs.AskedRun.{misplaced_told};
 ghost use Rattle.babel_dump.specs.EventsCause.{TellsFault};
+ghost use Rattle.babel_dump.specs.Remarks.{SaysHint};
 ghost use Rattle.babel_dump.specs.Trouble.{refused_status, trouble_status, unwritten_status};
 
 use crate::asked::Asked;
@@ -383,7 +384,9 @@ fn say_why<S: Says>(says: &mut S, error: Option<&io::Error>) {
 }
 
 /// Says a hint, if there is one.
-pub(crate) fn say_hint<S: Says>(says: &mut S, hint: &Option<Hint>) {
+pub(crate) fn say_hint<S: Says>(says: &mut S, hint: &Option<Hint>)
+    ensures { SaysHint S.hears says.old hint.now says.new }
+{
     if let Some(hint) = hint {
         says.say(hint);
     }

@@ -1,5 +1,6 @@
 //! Readers and writers that remember what a fault is explained by.
 use babel_dump::Watched;
+use std::alloc::{AllocError, Global};
 use std::fs::File;
 use std::io;
 use std::io::{Read, Stdin, Write};
@@ -36,19 +37,27 @@ impl Beginning {
 /// round.
 #[derive(Drop)]
 struct Ending {
-    octets: [u8; LAST],
+    octets: Vec<u8>,
     /// How many octets it gave in all.
     given: u64,
 }
 
 impl Ending {
+    /// It gave none yet.
+    fn new(alloc: Global) -> Result<Ending, AllocError> {
+        let mut octets = Vec::new(alloc);
+        octets.resize(LAST, 0)?;
+        Ok(Ending { octets, given: 0 })
+    }
+
     /// Remembers these octets, which come after those before them.
     fn remember(&mut self, octets: &[u8]) {
-        let after = match self.octets.get_mut(place_of(self.given)..) {
+        let places = self.octets.as_mut_slice();
+        let after = match places.get_mut(place_of(self.given)..) {
             Some(room) => put(room, octets),
             None => octets,
         };
-        put(&mut self.octets, after);
+        put(places, after);
         self.given = self.given.saturating_add(octets.len() as u64);
     }
 
@@ -131,20 +140,19 @@ pub struct WatchedReader<R> {
 }
 
 impl<R: Again> WatchedReader<R> {
-    pub fn new(reader: R) -> WatchedReader<R> {
+    /// A reader that gave nothing yet. With no memory for them no last octets are remembered.
+    pub fn new(alloc: Global, reader: R) -> WatchedReader<R> {
         let ending = match reader.read_again(0) {
             Some(_) => None,
-            None => Some(Ending {
-                octets: [0; LAST],
-                given: 0,
-            }),
+            None => Ending::new(alloc).ok(),
+        };
+        let beginning = Beginning {
+            octets: [0; FIRST],
+            len: 0,
         };
         WatchedReader {
             reader,
-            beginning: Beginning {
-                octets: [0; FIRST],
-                len: 0,
-            },
+            beginning,
             ending,
             error: None,
         }

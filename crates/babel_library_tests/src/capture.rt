@@ -96,6 +96,7 @@ fn dump_of(
         sender: Some(sender),
         place: None,
         are_listed: true,
+        accepts_missing: false,
     };
     let mut dump = Dump {
         octets: Vec::new(alloc),

@@ -47,7 +47,7 @@ impl<W: Word> CompactPrefix<W> {
     pub fn order(&self, other: &CompactPrefix<W>) -> Ordering
         ensures { result ≡ prefix_cmp self.now other.now }
     {
-        self.word.order(other.word).then(self.len.cmp(&other.len))
+        self.word.order(self.len, other.word, other.len)
     }
 
     /// The prefix, kept so.

@@ -1,6 +1,6 @@
 //! The numbers that rows keep the addresses of a family in.
 ghost use Rattle.std.specs.Prelude.{◌≡◌, ◌≤◌, ◌↔◌, ℕ, IsTrue};
-ghost use Rattle.std.specs.Ordering.{nat_cmp};
+ghost use Rattle.std.specs.Ordering.{nat_cmp, ordering_then};
 ghost use Rattle.babel_prefix.specs.declared.family.Family.{Family as AddressFamily};
 ghost use Rattle.babel_prefix.specs.declared.family.Family.TheVariants.{V4, V6};
 ghost use Rattle.babel_prefix.specs.Block.{leading_bits};
@@ -36,9 +36,10 @@ pub trait Word: Copy {
         ensures { IsTrue result ↔ (leading_bits (width_of family) len (number self)
             ≡ leading_bits (width_of family) len (number other)) };
 
-    /// The order of the two, which is that of the bits.
-    fn order(self, other: Self) -> Ordering
-        ensures { result ≡ nat_cmp (number self) (number other) };
+    /// The order of the two with these lengths, which is that of the bits, then of the lengths.
+    fn order(self, len: u8, other: Self, other_len: u8) -> Ordering
+        ensures { result ≡ ordering_then (nat_cmp (number self) (number other))
+            (nat_cmp len other_len) };
 }
 
 impl Word for u32 {
@@ -63,8 +64,11 @@ impl Word for u32 {
         u64::from(self) >> rest == u64::from(other) >> rest
     }
 
-    fn order(self, other: u32) -> Ordering {
-        self.cmp(&other)
+    fn order(self, len: u8, other: u32, other_len: u8) -> Ordering {
+        // One comparison of both, where rows are sorted.
+        let one = u64::from(self) * 256 + u64::from(len);
+        let two = u64::from(other) * 256 + u64::from(other_len);
+        one.cmp(&two)
     }
 }
 
@@ -90,7 +94,7 @@ impl Word for Halves {
         len == 0 || self.number() >> (128 - len) == other.number() >> (128 - len)
     }
 
-    fn order(self, other: Halves) -> Ordering {
-        self.cmp(&other)
+    fn order(self, len: u8, other: Halves, other_len: u8) -> Ordering {
+        self.cmp(&other).then(len.cmp(&other_len))
     }
 }

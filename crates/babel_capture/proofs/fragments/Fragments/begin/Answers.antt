@@ -4,14 +4,11 @@ use Rattle.std.specs.BTreeMap.{insert_entry}
 use Rattle.std.specs.Ordering.{nat_cmp}
 use Rattle.babel_capture.specs.Fragments.{Reassembly, is_past}
 use Rattle.babel_capture.specs.Indexing.{AreUpTo}
-use Rattle.babel_capture.proofs.FragmentLaws.{few-octets, free-after, octets-forgotten, up-to-forgotten, up-to-more}
+use Rattle.babel_capture.proofs.FragmentLaws.{few-octets, few-open, free-after, octets-forgotten, open-forgotten, up-to-forgotten, up-to-more}
 use Rattle.babel_capture.proofs.fragments.Fragments.begin.Goals as goal
 
 pub invariant_of-self : goal.invariant_of-self
-invariant_of-self c = subst (AreUpTo c.self.inside.last) (sym c.forget.ensures.after) (up-to-forgotten c.self.inside.last c.args.fragment.now.id c.self.inside.known c.self.invariant)
-
-pub invariant_of-self-in_err-datagram : goal.invariant_of-self-in_err-datagram
-invariant_of-self-in_err-datagram c =
+invariant_of-self c =
     subst (AreUpTo c.self.inside.last) (sym c.forget.ensures.after) (up-to-forgotten c.self.inside.last c.args.fragment.now.id c.self.inside.known c.self.invariant)
 
 pub add-requires-clause-number : goal.add-requires-clause-number
@@ -24,6 +21,13 @@ add-requires-clause-room c =
     let room = subst (λ (r : Reassembly). is_past r.clock r.known ≡ false) (sym c.self.view_is) c.requires.room in
     let few = few-octets c.self.inside.clock c.self.inside.known room in
     let fewer = octets-forgotten c.args.fragment.now.id c.self.inside.known in
+    rw c.forget.ensures.after (omega (arith, few, fewer))
+
+pub add-requires-clause-few : goal.add-requires-clause-few
+add-requires-clause-few c =
+    let room = subst (λ (r : Reassembly). is_past r.clock r.known ≡ false) (sym c.self.view_is) c.requires.room in
+    let few = few-open c.self.inside.clock c.self.inside.known room in
+    let fewer = open-forgotten c.args.fragment.now.id c.self.inside.known in
     rw c.forget.ensures.after (omega (arith, few, fewer))
 
 pub invariant_of-self-in_err-add : goal.invariant_of-self-in_err-add

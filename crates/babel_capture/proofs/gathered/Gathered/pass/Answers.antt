@@ -28,16 +28,16 @@ returns-clause-passed g c at =
     }) in
     let packet = captured_of c.args.packet.now in
     let next = sighting_as (old.report.packets + 1) at packet other in
-    let time = c.time-time.result in
+    let time = c.args.time.now in
     let telling : Record = record { number = c.packets.result; time = time; said = saids.Nothing } in
     let told : IsTold (made_of next passed) telling = record {
       number = c.packets.ensures ∙ ap (λ r. r.packets) c.count_other.ensures;
-      time = c.time-time.ensures;
+      time = c.requires.time;
       packet = (refl, refl);
       missed = refl;
       left = refl;
     } in
-    let came : kept time None ≡ next.came = ap (λ (t : Option ℕ). kept t None) c.time-time.ensures in
+    let came : kept time None ≡ next.came = ap (λ (t : Option ℕ). kept t None) c.requires.time in
     let report = c.count_other.ensures ∙ ap (λ (k : Came). counted (counted_at old.report k) packet.link passed) came in
     subst (λ (v : Gathering). Sinks g.S.Sink.has c.args.sink.now c.take.new.self (GatherMore v new (sighting_as (v.report.packets + 1) at packet other ∷ []))) c.self.view_is
     (sinks-told g.S.Sink.has c.args.sink.now c.take.new.self (GatherMore old new (next ∷ [])) telling (made_of next passed) told c.take.ensures

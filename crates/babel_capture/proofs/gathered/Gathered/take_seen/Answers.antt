@@ -55,16 +55,16 @@ returns-clause-ok g c =
     let seen = sight_of c.args.seen.now in
     let next = sighting_as (old.report.packets + 1) c.args.at packet seen in
     let sink = c.take-2.new.self in
-    let time = c.time-came.result in
+    let time = c.args.came.now in
     let came : kept time c.babel_section-section.result ≡ next.came =
-    ap (λ (t : Option ℕ). kept t c.babel_section-section.result) c.time-came.ensures
+    ap (λ (t : Option ℕ). kept t c.babel_section-section.result) c.requires.time
     ∙ ap (kept (time_in packet.moment)) c.babel_section-section.ensures in
     let report = c.count.ensures ∙ ap (λ (k : Came). counted (counted_at old.report k) packet.link what) came in
-    let senders = c.in_ok-interval.ensures.ok ∙ ap (λ (t : Option ℕ). listed_with old.wanted.are_listed old.senders t what) c.time-came.ensures in
+    let senders = c.in_ok-interval.ensures.ok ∙ ap (λ (t : Option ℕ). listed_with old.wanted.are_listed old.senders t what) c.requires.time in
     let telling : Record = record { number = c.packets.result; time = time; said = c.said.result } in
     let told : IsTold (made_of next what) telling = record {
       number = c.packets.ensures ∙ ap (λ r. r.packets) report ∙ counted-one (counted_at old.report next.came) packet.link what;
-      time = c.time-came.ensures;
+      time = c.requires.time;
       packet = c.said.ensures.packet;
       missed = c.said.ensures.missed;
       left = c.said.ensures.left;

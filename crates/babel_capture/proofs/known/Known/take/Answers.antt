@@ -6,18 +6,18 @@ use Rattle.std.specs.Option.{option_map}
 use Rattle.std.specs.Ordering.{nat_cmp}
 use Rattle.babel_capture.specs.declared.datagram.Datagram.{Datagram}
 use Rattle.babel_capture.specs.declared.datagram.Step.TheVariants as steps
-use Rattle.babel_capture.specs.Fragments.{Known, changed, changed_with, step_of, step_with, stepped, of_id, of_id_after, step_in}
+use Rattle.babel_capture.specs.Fragments.{Known, as_open, changed, changed_with, step_of, step_with, stepped, of_id, of_id_after, step_in}
 use Rattle.babel_capture.specs.Indexing.{IsIndexed}
 use Rattle.babel_capture.specs.Pieces.{fragment_of, len_of}
 use Rattle.babel_capture.specs.contracts.fragment.DatagramIdOrd.TheImpl.{ghosts}
-use Rattle.babel_capture.proofs.KnownLaws.{changed-named, found-set, held-by, indexed-stepped, kept-named, known-by, len-of-found, on-err, set_value-same, some-mut, step-named, unknown-by}
+use Rattle.babel_capture.proofs.KnownLaws.{changed-named, found-set, held-by, indexed-stepped, kept-named, known-by, len-of-found, on-err, open-of-found, set_value-same, some-mut, step-named, unknown-by}
 use Rattle.babel_capture.proofs.known.Known.take.Goals as goal
 use Rattle.babel_capture.proofs.known.Known.take.Goals.{After-from-2, After-take, In_default}
 
 -- none is known
 none : (c : In_default) → of_id c.args.fragment.now.id c.self.inside.datagrams.entries ≡ None
 none c =
-    unknown-by c.self.inside.numbers.entries c.self.inside.datagrams.entries c.self.inside.octets c.self.invariant c.args.fragment.now.id
+    unknown-by c.self.inside.numbers.entries c.self.inside.datagrams.entries c.self.inside.octets c.self.inside.open_count c.self.invariant c.args.fragment.now.id
     (sym c.get.ensures.value ∙ sym c.copied.ensures ∙ c.in_default.is)
 
 pub returns-in_default-clause-step : goal.returns-in_default-clause-step
@@ -41,7 +41,7 @@ returns-in_default-clause-kept c =
 pub unwrap-datagram-requires : goal.unwrap-datagram-requires
 unwrap-datagram-requires c =
     some-mut c.get_mut.result _ c.get_mut.ensures.value
-    (held-by c.self.inside.numbers.entries c.self.inside.datagrams.entries c.self.inside.octets c.self.invariant c.args.fragment.now.id c.in-Some.number
+    (held-by c.self.inside.numbers.entries c.self.inside.datagrams.entries c.self.inside.octets c.self.inside.open_count c.self.invariant c.args.fragment.now.id c.in-Some.number
     (sym c.get.ensures.value ∙ sym c.copied.ensures ∙ c.in-Some.is))
 
 -- one is known by this number, and is written back there
@@ -63,13 +63,14 @@ unchanged c same =
 
 pub invariant_of-self : goal.invariant_of-self
 invariant_of-self c =
-    subst (λ (k : Known). IsIndexed c.self.inside.numbers.entries k c.self.inside.octets) (sym (unchanged (goal.at.invariant_of-self c).After-take c.in_err-step.ensures.err)) c.self.invariant
+    subst (λ (k : Known). IsIndexed c.self.inside.numbers.entries k c.self.inside.octets c.self.inside.open_count) (sym (unchanged (goal.at.invariant_of-self c).After-take c.in_err-step.ensures.err)) c.self.invariant
 
 pub returns-in_err-step-clause-err : goal.returns-in_err-step-clause-err
 returns-in_err-step-clause-err c = on-err c.from_residual.result _ (unchanged (goal.at.returns-in_err-step-clause-err c).After-take c.in_err-step.ensures.err ∙ c.self.view_is)
 
 -- and the others as before where it has one more
 indexed : (c : After-from-2) → IsIndexed c.self.inside.numbers.entries (c.get_mut.follows.lender c.take.new.self).entries (c.self.inside.octets - c.from.result + c.from-2.result)
+    (c.self.inside.open_count - c.as_open-open_before.result + c.as_open-open_after.result)
 indexed c =
     let numbers = c.self.inside.numbers.entries in
     let known = c.self.inside.datagrams.entries in
@@ -79,9 +80,13 @@ indexed c =
     let before : c.from.result ≡ len_of old.pieces = c.from.ensures ∙ c.len-before.ensures in
     let later : c.from-2.result ≡ len_of new.pieces = c.from-2.ensures ∙ c.len-after.ensures in
     let there : lookup (is_at (nat_cmp c.in-Some.number)) known ≡ Some old = search rules in
-    let within = len-of-found numbers known octets c.self.invariant c.in-Some.number old there in
-    indexed-stepped numbers known octets c.self.invariant c.in-Some.number old new (fragment_of c.args.fragment.now) c.in_ok-step.step (c.get_mut.follows.lender new).entries
-    (octets - c.from.result + c.from-2.result) there c.in_ok-step.ensures.stepped (c.get_mut.follows.holds new).0 (omega (arith, before, later, within))
+    let within = len-of-found numbers known octets c.self.inside.open_count c.self.invariant c.in-Some.number old there in
+    let open_count = c.self.inside.open_count in
+    let open_within = open-of-found numbers known octets open_count c.self.invariant c.in-Some.number old there in
+    let one_before : c.as_open-open_before.result ≡ as_open old = c.as_open-open_before.ensures in
+    let one_later : c.as_open-open_after.result ≡ as_open new = c.as_open-open_after.ensures in
+    indexed-stepped numbers known octets c.self.inside.open_count c.self.invariant c.in-Some.number old new (fragment_of c.args.fragment.now) c.in_ok-step.step (c.get_mut.follows.lender new).entries
+    (octets - c.from.result + c.from-2.result) (open_count - c.as_open-open_before.result + c.as_open-open_after.result) there c.in_ok-step.ensures.stepped (c.get_mut.follows.holds new).0 (omega (arith, before, later, within)) (omega (arith, one_before, one_later, open_within))
 
 pub invariant_of-self-2 : goal.invariant_of-self-2
 invariant_of-self-2 c = indexed (goal.at.invariant_of-self-2 c).After-from-2
@@ -91,7 +96,7 @@ returns-clause-step c =
     let fragment = fragment_of c.args.fragment.now in
     let at = (goal.at.returns-clause-step c).After-take in
     subst (λ (k : Known). c.in_ok-step.step ≡ step_of k fragment) c.self.view_is
-    (c.in_ok-step.ensures.step ∙ step-named c.self.inside.numbers.entries c.self.inside.datagrams.entries c.self.inside.octets c.self.invariant fragment.id c.in-Some.number
+    (c.in_ok-step.ensures.step ∙ step-named c.self.inside.numbers.entries c.self.inside.datagrams.entries c.self.inside.octets c.self.inside.open_count c.self.invariant fragment.id c.in-Some.number
     c.unwrap-datagram.result.now (named at) (found at) fragment refl)
 
 pub returns-clause-changed : goal.returns-clause-changed
@@ -104,7 +109,7 @@ returns-clause-changed c =
     let is : c.take.new.self ≡ stepped old fragment c.in_ok-step.step = c.in_ok-step.ensures.stepped in
     subst (λ (k : Known). after ≡ changed k fragment) c.self.view_is
     (written at ∙ ap (set_value (is_at (nat_cmp c.in-Some.number)) known) (is ∙ ap (stepped old fragment) c.in_ok-step.ensures.step)
-    ∙ changed-named c.self.inside.numbers.entries known c.self.inside.octets c.self.invariant fragment.id c.in-Some.number old (named at) (found at) fragment refl)
+    ∙ changed-named c.self.inside.numbers.entries known c.self.inside.octets c.self.inside.open_count c.self.invariant fragment.id c.in-Some.number old (named at) (found at) fragment refl)
 
 pub returns-clause-kept : goal.returns-clause-kept
 returns-clause-kept c =
@@ -116,9 +121,9 @@ returns-clause-kept c =
     let old = c.unwrap-datagram.result.now in
     let new = c.take.new.self in
     let after = (c.get_mut.follows.lender new).entries in
-    let now = known-by numbers after _ (indexed (goal.at.returns-clause-kept c).After-from-2) fragment.id number new (named at) (found-set number old new known after (found at) (written at)) in
+    let now = known-by numbers after _ _ (indexed (goal.at.returns-clause-kept c).After-from-2) fragment.id number new (named at) (found-set number old new known after (found at) (written at)) in
     subst (λ (k : Known). of_id fragment.id after ≡ of_id_after k fragment) c.self.view_is
-    (kept-named numbers known c.self.inside.octets c.self.invariant number old new fragment c.in_ok-step.step after now (named at) (found at) c.in_ok-step.ensures.stepped c.in_ok-step.ensures.step)
+    (kept-named numbers known c.self.inside.octets c.self.inside.open_count c.self.invariant number old new fragment c.in_ok-step.step after now (named at) (found at) c.in_ok-step.ensures.stepped c.in_ok-step.ensures.step)
 
 pub returns-clause-anew : goal.returns-clause-anew
 returns-clause-anew c anew =

@@ -15,7 +15,7 @@ returns g c =
     let inside = c.self.inside in
     let packet = captured_of c.args.packet.now in
     let moved : passed_of inside.gathered c.tick.new.self ≡ ticked c.args.self.now packet = ap (passed_of inside.gathered) c.tick.ensures
-    ∙ ap (λ (t : Option ℕ). passed_of inside.gathered (record inside.fragments { clock = clock_at inside.fragments.clock t })) c.time.ensures ∙ ap (λ (v : Passed). ticked v packet) c.self.view_is in
+    ∙ ap (λ (t : Option ℕ). passed_of inside.gathered (record inside.fragments { clock = clock_at inside.fragments.clock t })) c.requires.time ∙ ap (λ (v : Passed). ticked v packet) c.self.view_is in
     let e = c.give_up.ensures in
     record {
       wanted = e.wanted ∙ ap (λ (v : Passed). v.gathering.wanted) moved;

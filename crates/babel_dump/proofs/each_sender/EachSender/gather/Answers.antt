@@ -6,7 +6,7 @@ use Rattle.babel_capture.specs.Counts.{Counts}
 use Rattle.babel_dump.specs.CaptureGiven.{made_in}
 use Rattle.babel_dump.specs.CaptureRun.{CaptureCause, IsNoFault}
 use Rattle.babel_dump.specs.Device.{InputState}
-use Rattle.babel_dump.specs.LeftOut.{first_whole_left_out}
+use Rattle.babel_dump.specs.LeftOut.{first_unmissed}
 use Rattle.babel_dump.specs.EachSender.{SendersCause, each_from}
 use Rattle.babel_dump.specs.declared.input_fault.InputFault.{InputFault}
 use Rattle.babel_dump.specs.declared.input_fault.InputFault.TheVariants as input_faults
@@ -38,7 +38,7 @@ returns-in_default g c =
     record {
       made = record {
         gave = read.gave;
-        strict = λ strict. subst (λ (r : Counts). first_whole_left_out r ≡ None) c.report.ensures (sym c.first_whole_left_out.ensures ∙ elim c.in_default.branch [
+        strict = λ strict. subst (λ (r : Counts). first_unmissed c.args.self.now.accept_missing r ≡ None) c.report.ensures (sym c.first_unmissed.ensures ∙ elim c.in_default.branch [
           | in_default-via-in-Some+else-self w ↦ absurd (not_both (sym strict ∙ w.if-self.false))
           | in_default-via-in_default w ↦ search rules
         ]);
@@ -61,7 +61,7 @@ returns-in-Some g c =
           c.in_ok-read.read.gathered,
           c.in_ok-read.read.cut,
           read.gave.given,
-          subst (λ (r : Counts). first_whole_left_out r ≡ Some c.in-Some.datagram) c.report.ensures (sym c.first_whole_left_out.ensures ∙ c.in-Some.is),
+          subst (λ (r : Counts). first_unmissed c.args.self.now.accept_missing r ≡ Some c.in-Some.datagram) c.report.ensures (sym c.first_unmissed.ensures ∙ c.in-Some.is),
         ),
       );
       called = search rules;
