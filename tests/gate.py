@@ -18,7 +18,17 @@ VERDICT = re.compile(r"(\d+) passed, (\d+) failed\n")
 TRIED = re.compile(r"rt: must-fail (\S+): (.*)")
 PROVED = re.compile(r"rt: \w+ (proved|is kept: .*)\n")
 REFUSED = "refused, as it must be"
+# Octets; the largest crate takes some more, all others less.
+MEMORY_OF_A_PROOF = 5_000_000_000
 BUILT = TOP / "crates/babel_dump_program/out/babel_dump_program"
+
+
+def proofs_at_once():
+    """One on each processor, and each with the memory that it takes: the gate reckons three times
+    as much for the largest crate, and would try and prove nothing beside it."""
+    stated = re.search(r"MemAvailable: +(\d+) kB", pathlib.Path("/proc/meminfo").read_text())
+    held = int(stated[1]) * 1024 // MEMORY_OF_A_PROOF
+    return max(1, min(len(os.sched_getaffinity(0)), held))
 
 
 def run_gate():
@@ -27,6 +37,7 @@ def run_gate():
     last, proved, begun = "", 0, time.monotonic()
     crates = len(re.findall(r"^\w+:", (TOP / "crates.txt").read_text(), re.MULTILINE))
     how = {"cwd": TOP, "stdout": subprocess.PIPE, "text": True, "errors": "replace"}
+    how["env"] = {"RT_JOBS": str(proofs_at_once()), **os.environ}
     with subprocess.Popen(["rt", "ci"], **how) as gate:
         for last in gate.stdout:
             print(last, end="", flush=True)
