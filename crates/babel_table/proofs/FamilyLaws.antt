@@ -1,5 +1,6 @@
 -- The rows of one family among those of both.
 use Rattle.std.proofs.Common.{◌≡◌, Bool, true, false, cond, List, [], ◌∷◌, ◌++◌, refl, sym, ap, ◌∙◌}
+use Rattle.std.proofs.lemmas.List.{append-nil}
 use Rattle.std.proofs.lemmas.List.Elements.{filter-append}
 use Rattle.babel_prefix.specs.declared.family.Family.{Family}
 use Rattle.babel_prefix.specs.declared.family.Family.TheVariants.{V4, V6}
@@ -32,3 +33,10 @@ of_v4 v4 v6 first second =
 pub of_v6 : (v4 v6 : List Pair) → AreOf V4 v4 → AreOf V6 v6 → v6 ≡ family_rows V6 (v4 ++ v6)
 of_v6 v4 v6 first second =
     sym (filter-append (is_of V6) v4 v6 ∙ ap (λ (rs : List Pair). rs ++ family_rows V6 v6) (none_of V6 V4 v4 refl first) ∙ all_of V6 v6 refl second)
+
+-- the rows of either family are those of the family among all
+pub rows-v4 : (family : Family) (v4 v6 rows : List Pair) → family ≡ V4 → v4 ++ v6 ≡ rows → AreOf V4 v4 → AreOf V6 v6 → v4 ≡ family_rows family rows
+rows-v4 family v4 v6 rows is all first second = rw (is, ← all) (sym (append-nil v4) ∙ of_v4 v4 v6 first second)
+
+pub rows-v6 : (family : Family) (v4 v6 rows : List Pair) → family ≡ V6 → v4 ++ v6 ≡ rows → AreOf V4 v4 → AreOf V6 v6 → v6 ≡ family_rows family rows
+rows-v6 family v4 v6 rows is all first second = rw (is, ← all) (of_v6 v4 v6 first second)

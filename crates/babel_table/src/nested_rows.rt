@@ -5,7 +5,7 @@ ghost use Rattle.std.specs.Prelude.{◌≡◌, ◌≢◌, ◌<◌, ◌≤◌, �
 ghost use Rattle.std.specs.List.{AllWithin};
 ghost use Rattle.std.specs.Map.{keys_of};
 ghost use Rattle.babel_tlv.specs.Views.{no_address};
-ghost use Rattle.babel_table.specs.RowFor.{IsBestOf};
+ghost use Rattle.babel_table.specs.RowFor.{IsBestOf, row_at};
 ghost use Rattle.babel_table.specs.Compact.{AreOf};
 ghost use Rattle.babel_table.specs.Nested.{AreUpTo, ArePast, IsNested, IsNestedAt, NoneWithin};
 ghost use Rattle.babel_table.specs.Nested.{LeadsAround, LeadsFrom, LeadsTo};
@@ -17,6 +17,7 @@ use crate::compact_key::CompactKey;
 use crate::compact_prefix::CompactPrefix;
 use crate::compact_row::CompactRow;
 use crate::hop::Hop;
+use crate::row_place::{NOWHERE, RowPlace};
 use crate::word::Word;
 use babel_prefix::Addr;
 use babel_tlv::{Held, Key, View};
@@ -39,7 +40,7 @@ pub struct NestedRows<W: Word, H: Hop> {
 }
 
 impl<W: Word, H: Hop> Model for NestedRows<W, H> {
-    ghost use Rattle.std.specs.Prelude.{◌≡◌, List, length};
+    ghost use Rattle.std.specs.Prelude.{◌≡◌, ◌<◌, ◌^◌, List, length};
     ghost use Rattle.std.specs.Map.{keys_of};
     ghost use Rattle.babel_tlv.specs.Pair.{Pair};
     ghost use Rattle.babel_table.specs.Nested.{IsNested};
@@ -49,7 +50,7 @@ impl<W: Word, H: Hop> Model for NestedRows<W, H> {
     ghost view = { λ r. r.rows.items };
 
     ghost invariant = { λ r. IsNested W.family (keys_of r.rows.items) r.around.items
-        × (length r.around.items ≡ length r.rows.items) };
+        × (length r.around.items ≡ length r.rows.items) × (length r.rows.items < 2 ^ 32) };
 }
 
 impl<W: Word, H: Hop> NestedRows<W, H> {
@@ -95,13 +96,21 @@ impl<W: Word, H: Hop> NestedRows<W, H> {
         see_rows(&mut self.rows, view);
     }
 
-    /// The best matching row, for two addresses of the family.
-    pub fn best_match(&self, dst: &Addr, src: &Addr) -> Option<(Key, Held)>
+    /// The place of the best matching row, for two addresses of the family.
+    pub fn best_place(&self, dst: &Addr, src: &Addr) -> RowPlace
         requires dst_family { dst.now.family ≡ W.family }
         requires src_family { src.now.family ≡ W.family }
-        ensures { IsBestOf self.now dst.now src.now result }
+        ensures { IsBestOf self.now dst.now src.now (row_at self.now result) }
     {
-        best_match(&self.rows, &self.around, dst, src)
+        best_place(&self.rows, &self.around, dst, src)
+    }
+
+    /// The row at a place, if one stands there.
+    pub fn row_at(&self, place: RowPlace) -> Option<(Key, Held)>
+        ensures { result ≡ row_at self.now place }
+    {
+        let (key, held) = self.rows.get(place.index as usize)?;
+        Some((key.key(), held.held()))
     }
 }
 
@@ -115,19 +124,20 @@ fn see_rows<W: Word, H: Hop>(rows: &mut [CompactRow<W, H>], view: View)
     }
 }
 
-/// The best matching row: among the rows from the source to the longest destination prefix that has
-/// one, the row of the longest source prefix.
-fn best_match<W: Word, H: Hop>(
+/// The place of the best matching row: among the rows from the source to the longest destination
+/// prefix that has one, the row of the longest source prefix.
+fn best_place<W: Word, H: Hop>(
     rows: &[CompactRow<W, H>],
     around: &[Around],
     dst: &Addr,
     src: &Addr,
-) -> Option<(Key, Held)>
+) -> RowPlace
     requires nested { IsNested W.family (keys_of rows.now) around.now }
     requires whole { length around.now ≡ length rows.now }
+    requires few { length rows.now < 2 ^ 32 }
     requires dst_family { dst.now.family ≡ W.family }
     requires src_family { src.now.family ≡ W.family }
-    ensures { IsBestOf rows.now dst.now src.now result }
+    ensures { IsBestOf rows.now dst.now src.now (row_at rows.now result) }
 {
     let src = CompactPrefix::host(src);
     let asked = CompactKey::new(&CompactPrefix::host(dst), &src);
@@ -138,12 +148,13 @@ fn best_match<W: Word, H: Hop>(
         let sources = count_up_to(rows, &key);
         let last = end_from(rows, around, sources, &key);
         if last > 0 {
-            let (key, held) = &rows[last - 1];
-            return Some((key.key(), held.held()));
+            return RowPlace {
+                index: (last - 1) as u32,
+            };
         }
         end = end_to(rows, around, around[end - 1].dst as usize, &asked);
     }
-    None
+    NOWHERE
 }
 
 /// How far the rows around the next row reach.

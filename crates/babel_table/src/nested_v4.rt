@@ -1,10 +1,11 @@
 ghost use Rattle.std.specs.Prelude.{◌≡◌, if◌then◌else◌, ◌++◌};
 ghost use Rattle.babel_prefix.specs.declared.family.Family.TheVariants.{V4};
-ghost use Rattle.babel_table.specs.RowFor.{IsBestOf};
+ghost use Rattle.babel_table.specs.RowFor.{IsBestOf, row_at};
 ghost use Rattle.babel_table.specs.Seen.{seen_rows};
 
 use crate::compact_row::CompactRow;
 use crate::nested_rows::NestedRows;
+use crate::row_place::RowPlace;
 use babel_prefix::Addr;
 use babel_tlv::{Held, Key, View};
 use std::marker::Model;
@@ -53,16 +54,27 @@ impl NestedV4 {
         }
     }
 
-    /// The best matching row, for two addresses of IPv4.
-    pub fn best_match(&self, dst: &Addr, src: &Addr) -> Option<(Key, Held)>
+    /// The place of the best matching row, for two addresses of IPv4.
+    pub fn best_place(&self, dst: &Addr, src: &Addr) -> RowPlace
         requires dst_family { dst.now.family ≡ V4 }
         requires src_family { src.now.family ≡ V4 }
-        ensures { IsBestOf self.now dst.now src.now result }
+        ensures { IsBestOf self.now dst.now src.now (row_at self.now result) }
     {
         if self.is_wide {
-            self.wide.best_match(dst, src)
+            self.wide.best_place(dst, src)
         } else {
-            self.narrow.best_match(dst, src)
+            self.narrow.best_place(dst, src)
+        }
+    }
+
+    /// The row at a place, if one stands there.
+    pub fn row_at(&self, place: RowPlace) -> Option<(Key, Held)>
+        ensures { result ≡ row_at self.now place }
+    {
+        if self.is_wide {
+            self.wide.row_at(place)
+        } else {
+            self.narrow.row_at(place)
         }
     }
 }

@@ -1,11 +1,12 @@
 ghost use Rattle.std.specs.Prelude.{◌≡◌};
-ghost use Rattle.babel_table.specs.RowFor.{IsBestOf};
+ghost use Rattle.babel_table.specs.RowFor.{IsBestOf, row_at};
 ghost use Rattle.babel_table.specs.Left.{rows_left};
 ghost use Rattle.babel_table.specs.Seen.{seen_rows};
 ghost use Rattle.babel_table.specs.TableRows.{AreRows, family_rows};
 
 use crate::nested_rows::NestedRows;
 use crate::nested_v4::NestedV4;
+use crate::row_place::RowPlace;
 use crate::table_rows::TableRows;
 use babel_prefix::{Addr, Family, Halves};
 use babel_tlv::{Held, Key, View};
@@ -69,15 +70,26 @@ impl SortedRows {
         }
     }
 
-    /// The best matching row, for two addresses of one family.
-    pub fn lookup(&self, dst: &Addr, src: &Addr) -> Option<(Key, Held)>
+    /// The place of the best matching row among the rows of the family of two addresses.
+    pub fn best_place(&self, dst: &Addr, src: &Addr) -> RowPlace
         requires one_family { dst.now.family ≡ src.now.family }
         ensures valid { AreRows self.now }
-        ensures best { IsBestOf self.now dst.now src.now result }
+        ensures best { IsBestOf self.now dst.now src.now
+            (row_at (family_rows dst.now.family self.now) result) }
     {
         match dst.family() {
-            Family::V4 => self.v4.best_match(dst, src),
-            Family::V6 => self.v6.best_match(dst, src),
+            Family::V4 => self.v4.best_place(dst, src),
+            Family::V6 => self.v6.best_place(dst, src),
+        }
+    }
+
+    /// The row at a place among the rows of a family, if one stands there.
+    pub fn row_at(&self, family: Family, place: RowPlace) -> Option<(Key, Held)>
+        ensures { result ≡ row_at (family_rows family self.now) place }
+    {
+        match family {
+            Family::V4 => self.v4.row_at(place),
+            Family::V6 => self.v6.row_at(place),
         }
     }
 

@@ -1,5 +1,5 @@
 -- No rows are nested in no rows.
-use Rattle.std.proofs.Common.{[], refl}
+use Rattle.std.proofs.Common.{[], refl, arith}
 use Rattle.std.specs.List.Sorted.{IsStrictlySortedBy}
 use Rattle.babel_table.specs.TableRows.{AreRows}
 use Rattle.babel_table.proofs.NestedLaws.{nested-none}
@@ -10,4 +10,4 @@ unfolding IsStrictlySortedBy
 no_rows = record { rising = tt; each = tt }
 
 pub invariant_of-result : goal.invariant_of-result
-invariant_of-result g c = rw (c.new.ensures.items, c.new-2.ensures.items) (nested-none g.W.Word.family [] no_rows tt, refl)
+invariant_of-result g c = rw (c.new.ensures.items, c.new-2.ensures.items) (nested-none g.W.Word.family [] no_rows tt, refl, omega arith)

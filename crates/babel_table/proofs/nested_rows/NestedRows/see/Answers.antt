@@ -1,5 +1,5 @@
 -- The keys stay.
-use Rattle.std.proofs.Common.{◌≡◌, ℕ, length, List, ◌++◌, take, drop, sym, ap, ◌∙◌}
+use Rattle.std.proofs.Common.{◌≡◌, ℕ, length, List, ◌++◌, take, drop, sym, ap, ◌∙◌, arith}
 use Rattle.std.proofs.lemmas.List.{length-map}
 use Rattle.std.proofs.Math.Seq.{take-append_seam}
 use Rattle.babel_tlv.specs.declared.view.View.{View}
@@ -22,6 +22,7 @@ invariant_of-self g c =
     rw (whole c.args.view rows c.see_rows.new.rows c.deref_mut.result.now _ c.see_rows.ensures c.deref_mut.ensures.value c.deref_mut.ensures.len) (
       rw same c.self.invariant.0,
       c.self.invariant.1 ∙ sym (length-map rows (seen_row c.args.view)),
+      omega (arith, c.self.invariant.2, length-map rows (seen_row c.args.view)),
     )
 
 pub returns : goal.returns

@@ -4,7 +4,7 @@ use Rattle.std.specs.List.{HoldsAt}
 use Rattle.std.specs.Map.{keys_of}
 use Rattle.babel_table.specs.BestMatch.{ContainsBoth}
 use Rattle.babel_table.specs.Nested.{LeadsTo, NoneWithin}
-use Rattle.babel_table.proofs.nested_rows.best_match.Given as goal
+use Rattle.babel_table.proofs.nested_rows.best_place.Given as goal
 
 abbrev pub invariant-loop-end : goal.invariant-loop-end
 invariant-loop-end g l = record {

@@ -4,17 +4,18 @@ use Rattle.std.specs.List.{HoldsAt}
 use Rattle.std.specs.Map.{keys_of}
 use Rattle.std.specs.Ordering.{is_le}
 use Rattle.std.proofs.lemmas.Map.Entries.{length-keys_of}
+use Rattle.std.proofs.lemmas.Option.{slice_get-get_or, slice_get_past}
 use Rattle.babel_prefix.specs.Address.{AddressPrefix}
 use Rattle.babel_prefix.specs.Covers.{Covers}
 use Rattle.babel_tlv.specs.Keys.{key_cmp}
 use Rattle.babel_tlv.specs.Route.{RouteKey}
 use Rattle.babel_table.specs.BestMatch.{ContainsBoth}
-use Rattle.babel_table.specs.RowFor.{IsBestRow}
+use Rattle.babel_table.specs.RowFor.{IsBestOf}
 use Rattle.babel_table.specs.Nested.{ArePast, LeadsFrom, LeadsTo}
 use Rattle.babel_table.specs.declared.nested_rows.Around.{Around}
 use Rattle.babel_table.proofs.EntryLaws.{key_of}
 use Rattle.babel_table.proofs.NestedLaws.{best_row, both_from, found_last, from_all, host_of, key_at, next_around, no_match, past_both}
-use Rattle.babel_table.proofs.nested_rows.best_match.Goals as goal
+use Rattle.babel_table.proofs.nested_rows.best_place.Goals as goal
 
 pub loop-end-init : goal.loop-end-init
 loop-end-init g c =
@@ -51,14 +52,14 @@ returns-then-last-gt0 g c =
     let none = from_all keys around c.requires.nested d s c.new-key.result to c.end_from-last.result c.count_up_to-sources.result key c.end_from-last.ensures.none c.count_up_to-sources.ensures.past in
     let leads : HoldsAt (LeadsFrom to s) keys place =
     subst (λ (k : RouteKey). HoldsAt (LeadsFrom k.dst k.src.address) keys place) key (c.end_from-last.ensures.last (λ e. absurd (omega (arith, e)))) in
-    let e = c.index-rows-last.result in
+    let e = c.index-rows-end.result in
     let here = leads e.0 in
     let covers : Covers to d = subst (λ (p : AddressPrefix). Covers p d) (at e.0) (c.loop-end.invariant.last (λ z. absurd (omega (arith, z))) e.0) in
     let both = subst (ContainsBoth d s) (key_at rows place e place_in e.0) (subst (λ (p : AddressPrefix). Covers p d) (sym here.0) covers, here.1) in
     let after =
     found_last keys around c.requires.nested d s to (c.loop-end.end - 1) at place key_in leads (λ k f low high has. none k f (omega (arith, low)) high has)
     (λ k f low high has. c.loop-end.invariant.none k f (omega (arith, low)) high has) in
-    rw (c.key.ensures.value, c.held.ensures.value) (subst (IsBestRow rows d s) (sym c.index-rows-last.is) (best_row rows around d s place e c.requires.nested place_in both after))
+    subst (IsBestOf rows d s) (sym (slice_get-get_or rows place e place_in)) (best_row rows around d s place e c.requires.nested place_in both after)
 
 pub end_to-end-requires-in-loop-end-clause-up_to :
     goal.end_to-end-requires-in-loop-end-clause-up_to
@@ -100,4 +101,7 @@ loop-end-preserved g c =
     }
 
 pub returns : goal.returns
-returns g c = no_match c.args.rows.now c.args.dst.now c.args.src.now (λ k e low high has. c.loop-end.invariant.none k e (omega (arith, c.loop-end-test.false)) high has)
+returns g c =
+    let rows = c.args.rows.now in
+    let none = no_match rows c.args.dst.now c.args.src.now (λ k e low high has. c.loop-end.invariant.none k e (omega (arith, c.loop-end-test.false)) high has) in
+    subst (IsBestOf rows c.args.dst.now c.args.src.now) (sym (slice_get_past rows 4294967295 (omega (arith, c.requires.few)))) none
