@@ -636,7 +636,7 @@ def events(octets, options):
     intervals = [reader.interval_of(sent) for sent in found.packets.values()]
     notes = [*reader.notes_of(found), *reader.time_notes(found, intervals)]
     if found.not_followed:
-        text = f"too many senders at packet {found.not_followed}, and no more are followed"
+        text = f"too many senders at packet {found.not_followed}, and not all are followed"
         notes.append((text, {"note": "not-followed", "packet": found.not_followed}))
     notes += source_notes(found, window, told, options)
     output = lines_of(told, found, options)

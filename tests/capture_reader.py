@@ -20,6 +20,7 @@ from reassembly import LIFETIME, Fragment, Known
 
 USUAL_OCTETS = 1 << 30
 MOST_INTERFACES = MOST_SENDERS = 65_536
+MOST_ANNOUNCING = 2 * MOST_SENDERS
 LONGEST_PACKET = 262_144
 LONGEST_BLOCK = 16_777_216
 BABEL = 6_696
@@ -771,7 +772,8 @@ def take(found, packet, seen, number, wanted):
     if reason == "whole":
         babel, reason = packet_in(seen.payload)
     if found.met is not None and (not reason or reason in LACKS):
-        if origin not in found.met and len(found.met) == MOST_SENDERS:
+        most = MOST_ANNOUNCING if not reason and updates_in(babel) else MOST_SENDERS
+        if origin not in found.met and len(found.met) >= most:
             found.not_followed = found.not_followed or number
             return
         found.met.add(origin)

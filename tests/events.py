@@ -544,38 +544,38 @@ def check_at_once(program, tally):
     tally.check("a note of a live run at once", problem)
 
 
-def forged(others):
-    """Frames: a router announces a route, then so many other senders send nothing, one more announces
-    one, and the router changes its own."""
+def forged(last):
+    """Frames: a router announces a route, then other senders, up to this one, send nothing, the last
+    announces a route, too, and the router changes its own."""
     update = START + bytes.fromhex("080a0100 0000 0064 0001")
     frame = lambda body: made.ip("fe80::", made.udp(b"\x2a\2" + made.number(len(body)) + body))
     empty, first, second = map(frame, (b"", update + b"\0\x60", update + b"\0\xc0"))
-    sent = [(1, first), *((number, empty) for number in range(2, others + 2)), (others + 2, first)]
+    sent = [(1, first), *((number, empty) for number in range(2, last + 1)), (last, first)]
     for number, octets in [*sent, (1, second)]:
         yield octets[:20] + made.number(number, 4) + octets[24:]
 
 
 def check_forged(program, tally):
-    """Of no more than 65,536 senders it is told; that there are more is said, and ends no run, unless
-    it is strict."""
+    """Past 65,536 senders it is told of those that announce, and only of them; that there are others
+    is said, and ends no run, unless it is strict."""
     number = reader.MOST_SENDERS + 1
-    frames = list(forged(number - 2))
+    frames = list(forged(number))
     octets = made.pcap(list(map(made.Record, frames)), link=101)
-    last = reader.text_of(6, 0xFE80 << 112 | number)
-    many = f"too many senders at packet {number}, and no more are followed"
+    router, last = (reader.text_of(6, 0xFE80 << 112 | sender) for sender in (1, number))
+    many = f"too many senders at packet {number}, and not all are followed"
     with tempfile.NamedTemporaryFile(suffix=".pcap") as file:
         file.write(octets)
         file.flush()
         status, lines, errors = run(program, ["events", "--json"], file.name)
         strict = run(program, ["events", "--strict", "--quiet"], file.name)
     events = [json.loads(line) for line in lines]
-    told = [(each["sender"][-2:], each["event"]) for each in events if "event" in each]
+    told = [(each["sender"], each["event"]) for each in events if "event" in each]
     notes = [note for note in events if note.get("note") == "not-followed"]
     said = [error for error in errors if "too many" in error]
-    at = len(octets) - sum(16 + len(frame) for frame in frames[-2:])
+    at = len(octets) - sum(16 + len(frame) for frame in frames[-3:])
     for what, got, wanted in (
         ("status", status, 0),
-        ("lines", told, [(":1", "announces"), (":1", "changes")]),
+        ("lines", told, [(router, "announces"), (last, "announces"), (router, "changes")]),
         ("objects", notes, [{"note": "not-followed", "packet": number}]),
         ("notes", said, [f"note: {last}: {many}", f"note: {many}"]),
         ("strict", (strict[0], strict[2]), (3, [f"too many senders at {at}"])),

@@ -98,5 +98,6 @@ pub use sink::{BabelPacket, NoSink, Record, Said, Sink};
 pub use tallies::{MAX_SENDERS, Origin, Tally};
 pub use time::Time;
 pub use timing::Timing;
+pub use updates::{Updates, updates_in};
 pub use wanted::Wanted;
 pub use window::{Moment, Window};

@@ -23,7 +23,7 @@ use Rattle.babel_dump.specs.EventsCause.{IsPartOf, IsRefused, RefusesAlone, Refu
 use Rattle.babel_dump.specs.EventsRun.{without_pair}
 use Rattle.babel_dump.specs.EventsRun.{HaveTold, asked_by, speaker_at, told_in}
 use Rattle.babel_dump.specs.Followed.{Follows, HasHeard, HasHeardFollowed, HasHeardOthers, HasStopped, IsHeardOf, KnowsOthers, RefusesOthers, RefusesFront, RefusesPacketRead, RefusesSaid, RefusesTeller, RefusesTold, RefusesUnheard, RefusesUsually, Stops, StopsFollowed, Suits, TellsBehind, octets_before, trouble_of}
-use Rattle.babel_dump.specs.FollowedSenders.{followed, followed_of, is_followed, sender_of, senders_followed}
+use Rattle.babel_dump.specs.FollowedSenders.{followed, followed_of, is_followed, senders_followed}
 use Rattle.babel_dump.specs.Speakers.{speaker_cmp}
 use Rattle.babel_dump.specs.StrictPackets.{IsFirstOf, IsReadTo, fault_of}
 use Rattle.babel_dump.specs.declared.events_job.Events.{Events}
@@ -291,7 +291,7 @@ module _ (events : Events) (made : List Made) (one : Made) (told : Record) (is :
 
 -- the record, as far as its sender is followed, is refused behind those before it
 pub stops_followed : (events : Events) (told : Record) (made : List Made) (one : Made) (written : List (Telling Speaker)) (old mid new : Follower) (follows : Bool)
-    → follows ≡ is_followed (senders_followed made) (sender_of one.what) → IsTold (if follows then one else record one { what = passed }) told → mid.hearing ≡ old.hearing
+    → follows ≡ is_followed (senders_followed made) one.what → IsTold (if follows then one else record one { what = passed }) told → mid.hearing ≡ old.hearing
     → HasHeard events (followed made) written old.hearing → mid.other_sources ≡ old.other_sources → KnowsOthers events (followed made) old.other_sources → (stop : Stop)
     → Stops events told mid new stop → stop ≢ stops.Unheard unheard.Memory
     → IsRefused events (followed made) (followed_of (senders_followed made) one) (trouble_of stop)

@@ -1,20 +1,24 @@
 //! Which senders of a capture are followed.
-ghost use Rattle.std.specs.Prelude.{◌≡◌, [], IfOk, IfSome, OnOk, Some, false};
+ghost use Rattle.std.specs.Prelude.{◌≡◌, [], IfOk, IfSome, OnOk, Some, false, if◌then◌else◌};
 ghost use Rattle.std.specs.BTreeMap.{insert_entry, is_at};
 ghost use Rattle.std.specs.Map.{lookup};
 ghost use Rattle.std.specs.Option.{is_some, unwrap_or};
 ghost use Rattle.babel_capture.specs.Counts.{Made};
+ghost use Rattle.babel_capture.specs.Findings.{octets_found};
 ghost use Rattle.babel_capture.specs.Sinking.{IsTold};
 ghost use Rattle.babel_capture.specs.Tallies.{origin_cmp};
-ghost use Rattle.babel_dump.specs.FollowedSenders.{follows, is_followed, with_followed};
+ghost use Rattle.babel_dump.specs.FollowedSenders.{follows, has_room, has_update, with_sender};
 ghost use Rattle.babel_dump.specs.FollowedSenders.{sender_of as sender_found};
 
-use babel_capture::{MAX_SENDERS, Origin, Record, Said};
+use babel_capture::{MAX_SENDERS, Origin, Record, Said, updates_in};
 use std::alloc::{AllocError, Global};
 use std::collections::BTreeMap;
 
-/// The senders that are followed: the first 65,536 of whom a packet came, or a datagram is missed,
-/// each at each place.
+/// How many senders are followed at most. Past 65,536 one more is only if it announces something.
+const MOST_SENDERS: usize = 2 * MAX_SENDERS;
+
+/// The senders that are followed, each at each place: the first 65,536 of whom a packet came, or a
+/// datagram is missed; and besides 65,536 more, each from its first packet with an Update on.
 #[derive(Drop)]
 pub(crate) struct FollowedSenders {
     /// Whether a packet of each came; by place, then by address.
@@ -31,13 +35,20 @@ impl FollowedSenders {
         }
     }
 
-    /// Follows a sender, if there is room. Whether it is followed.
-    pub(crate) fn meet(&mut self, origin: &Origin, is_packet: bool) -> Result<bool, AllocError>
-        ensures { IfOk result (λ follows. let sender = Some (origin.now, is_packet) in
-            (follows ≡ is_followed self.old.senders.entries sender)
-            × (self.new.senders.entries ≡ with_followed self.old.senders.entries sender)) }
+    /// Follows a sender of whom a packet of these octets came, or a datagram is missed, if there is
+    /// room. Whether it is followed.
+    pub(crate) fn meet(
+        &mut self,
+        origin: &Origin,
+        is_packet: bool,
+        octets: &[u8],
+    ) -> Result<bool, AllocError>
+        ensures { IfOk result (λ is_followed. let senders = self.old.senders.entries in
+            (is_followed ≡ follows senders origin.now octets.now)
+            × (self.new.senders.entries ≡ if is_followed
+            then with_sender senders (Some (origin.now, is_packet)) else senders)) }
     {
-        let Some(had_packets) = self.had_packets(origin) else {
+        let Some(had_packets) = self.had_packets(origin, octets) else {
             return Ok(false);
         };
         self.put(*origin, is_packet || had_packets)?;
@@ -45,16 +56,25 @@ impl FollowedSenders {
     }
 
     /// Whether a packet of a sender came before, if it is followed or there is room.
-    fn had_packets(&self, origin: &Origin) -> Option<bool>
+    fn had_packets(&self, origin: &Origin, octets: &[u8]) -> Option<bool>
         ensures some { IfSome result (λ had. had ≡ unwrap_or
             (lookup (is_at (origin_cmp origin.now)) self.now.senders.entries) false) }
-        ensures follows { is_some result ≡ follows self.now.senders.entries origin.now }
+        ensures follows { is_some result
+            ≡ follows self.now.senders.entries origin.now octets.now }
     {
         match self.senders.get(origin) {
             Some(had_packets) => Some(*had_packets),
-            None if self.senders.len() < MAX_SENDERS => Some(false),
+            None if self.has_room(octets) => Some(false),
             None => None,
         }
+    }
+
+    /// Whether there is room for a sender of whom a packet of these octets came.
+    fn has_room(&self, octets: &[u8]) -> bool
+        ensures { result ≡ has_room self.now.senders.entries octets.now }
+    {
+        let followed = self.senders.len();
+        followed < MAX_SENDERS || (has_update(octets) && followed < MOST_SENDERS)
     }
 
     /// Keeps whether a packet of a sender came.
@@ -69,6 +89,13 @@ impl FollowedSenders {
     }
 }
 
+/// Whether the octets of a packet have an Update.
+fn has_update(octets: &[u8]) -> bool
+    ensures { result ≡ has_update octets.now }
+{
+    updates_in(octets).count > 0
+}
+
 /// Whose packet a record has, or whose datagram that is missed; and whether it is a packet.
 pub(crate) fn sender_of(told: &Record<'_>) -> Option<(Origin, bool)>
     ensures { (one : Made) → IsTold one told.now → result ≡ sender_found one.what }
@@ -78,5 +105,15 @@ pub(crate) fn sender_of(told: &Record<'_>) -> Option<(Origin, bool)>
         Said::Missed(missed) => Some((missed.origin, false)),
         Said::LeftOut { .. } => None,
         Said::Nothing => None,
+    }
+}
+
+/// The octets of a record's packet; none where it has no packet.
+pub(crate) fn octets_of<'a>(told: &Record<'a>) -> &'a [u8]
+    ensures { (one : Made) → IsTold one told.now → result.now ≡ octets_found one.what }
+{
+    match &told.said {
+        Said::Packet(packet) => packet.octets,
+        _ => &[],
     }
 }

@@ -12,7 +12,6 @@ ghost use Rattle.babel_dump.specs.Followed.{HearsOthers, IsWholeTold, KnowsOther
 ghost use Rattle.babel_dump.specs.Followed.{RefusesOthers, RefusesTold, RefusesUnheard};
 ghost use Rattle.babel_dump.specs.Followed.{RefusesUsually, Stops, StopsFollowed, Suits, trouble_of};
 ghost use Rattle.babel_dump.specs.FollowedSenders.{is_followed, with_followed};
-ghost use Rattle.babel_dump.specs.FollowedSenders.{sender_of as sender_found};
 ghost use Rattle.babel_dump.specs.Remarks.{SaysRemarks};
 ghost use Rattle.babel_dump.specs.declared.events_job.Events.{Events as EventsSaid};
 ghost use Rattle.babel_dump.specs.declared.hearing.Unheard.TheVariants as unheard;
@@ -20,7 +19,7 @@ ghost use Rattle.babel_dump.specs.declared.stop.Stop.{Stop as StopSaid};
 ghost use Rattle.babel_dump.specs.declared.stop.Stop.TheVariants as stops;
 
 use crate::events_job::Events;
-use crate::followed_senders::{FollowedSenders, sender_of};
+use crate::followed_senders::{FollowedSenders, octets_of, sender_of};
 use crate::hearing::{Hearing, Unheard};
 use crate::left_out::LeftOutDatagram;
 use crate::other_sources::OtherSources;
@@ -139,15 +138,15 @@ impl<'a> Follower<'a> {
             × (self.new.fault ≡ self.old.fault) }
         ensures others { self.new.other_sources ≡ self.old.other_sources }
         ensures follows { IfOk result (λ follows. (one : Made) → IsTold one told.now
-            → (follows ≡ is_followed self.old.senders.senders.entries (sender_found one.what))
+            → (follows ≡ is_followed self.old.senders.senders.entries one.what)
             × (self.new.senders.senders.entries
-            ≡ with_followed self.old.senders.senders.entries (sender_found one.what))) }
+            ≡ with_followed self.old.senders.senders.entries one.what)) }
         ensures memory { IfErr result (λ why. why ≡ unheard.Memory) }
     {
         let Some((origin, is_packet)) = sender_of(told) else {
             return Ok(true);
         };
-        if self.senders.meet(&origin, is_packet)? {
+        if self.senders.meet(&origin, is_packet, octets_of(told))? {
             return Ok(true);
         }
         self.remarks.not_followed(&origin, told.number)?;

@@ -3,7 +3,7 @@ ghost use Rattle.babel_dump.specs.ExtractLaws.{ExtractedIsFramed};
 ghost use Rattle.babel_dump.specs.Fellows.{FellowsAreMutual};
 ghost use Rattle.babel_dump.specs.FirstIgnored.{FirstIsFirst, NoneIsNone, OffsetsOfDumpsRise};
 ghost use Rattle.babel_dump.specs.FirstLeftOut.{NoneIsLeftOut, RefusedIsFirst};
-ghost use Rattle.babel_dump.specs.FollowedSenders.{FewAreFollowed};
+ghost use Rattle.babel_dump.specs.FollowedSenders.{FewAreFollowed, WhoAnnouncesIsFollowed};
 ghost use Rattle.babel_dump.specs.OneOutcome.{FaultIsOfAll, FaultIsOne, NamedIsNotSeveral};
 ghost use Rattle.babel_dump.specs.OneOutcome.{NothingWritten, OutcomeIsOne, OutcomeOrFault};
 ghost use Rattle.babel_dump.specs.OneOutcome.{WrittenIsPrefix};
@@ -62,7 +62,9 @@ pub fn fellows_are_mutual()
 {}
 
 /// Where a capture has no more than 65,536 senders, `events` follows all of them: its records are
-/// taken as they are.
+/// taken as they are. Where no more than 65,536 announce anything, it follows each of these, from
+/// its first Update on.
 pub fn few_are_followed()
-    ensures { FewAreFollowed }
+    ensures few { FewAreFollowed }
+    ensures announcing { WhoAnnouncesIsFollowed }
 {}

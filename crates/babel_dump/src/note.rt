@@ -82,7 +82,7 @@ impl fmt::Display for Note {
             Note::NotFollowed(packet) => {
                 write!(
                     f,
-                    "too many senders at packet {packet}, and no more are followed"
+                    "too many senders at packet {packet}, and not all are followed"
                 )
             }
             Note::ShortSpan { span, interval } => write_short_span(f, *span, *interval),

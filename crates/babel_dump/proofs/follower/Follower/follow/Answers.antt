@@ -4,7 +4,7 @@ use Rattle.std.proofs.lemmas.Result.{on_ok_weaker}
 use Rattle.babel_capture.specs.declared.sink.Record.{Record}
 use Rattle.babel_capture.specs.declared.sink.Said.TheVariants as saids
 use Rattle.babel_dump.specs.Followed.{HearsOthers, HearsTold, Stops}
-use Rattle.babel_dump.specs.FollowedSenders.{Senders, is_followed, sender_of, with_followed}
+use Rattle.babel_dump.specs.FollowedSenders.{Senders, is_followed, with_followed}
 use Rattle.babel_dump.specs.declared.events_job.Events.{Events}
 use Rattle.babel_dump.specs.declared.stop.Stop.TheVariants as stops
 use Rattle.babel_dump.proofs.EventCauses.{err_exit, if_err_so}
@@ -23,8 +23,8 @@ returns-then-branch-clause-heard c =
     on_ok_weaker c.hear_all.result (λ both made one before is was.
     let follows = c.in_ok-follows.ensures.follows one is in
     heard_followed old.events.now told told made one before old mid new true
-    (sym c.if-branch.true ∙ follows.0 ∙ ap (λ (s : Senders). is_followed s (sender_of one.what)) was.0) is
-    (follows.1 ∙ ap (λ (s : Senders). with_followed s (sender_of one.what)) was.0) c.hear_all.ensures.senders same.1 same.2
+    (sym c.if-branch.true ∙ follows.0 ∙ ap (λ (s : Senders). is_followed s one.what) was.0) is
+    (follows.1 ∙ ap (λ (s : Senders). with_followed s one.what) was.0) c.hear_all.ensures.senders same.1 same.2
     (subst (λ (e : Events). HearsTold e told mid new) same.0 both.0) was.1 c.follows.ensures.others
     (subst (λ (e : Events). HearsOthers e told new.hearing.since.moment mid.other_sources new.other_sources) same.0 both.1) was.2) (both_ok _ _ c.hear_all.result c.hear_all.ensures.heard c.hear_all.ensures.others)
 
@@ -39,8 +39,8 @@ returns-clause-heard c =
     on_ok_weaker c.hear_all-2.result (λ both made one before is was.
     let follows = c.in_ok-follows.ensures.follows one is in
     heard_followed old.events.now told front made one before old mid new false
-    (sym c.if-branch.false ∙ follows.0 ∙ ap (λ (s : Senders). is_followed s (sender_of one.what)) was.0) (told_nothing told one is)
-    (follows.1 ∙ ap (λ (s : Senders). with_followed s (sender_of one.what)) was.0) c.hear_all-2.ensures.senders same.1 same.2
+    (sym c.if-branch.false ∙ follows.0 ∙ ap (λ (s : Senders). is_followed s one.what) was.0) (told_nothing told one is)
+    (follows.1 ∙ ap (λ (s : Senders). with_followed s one.what) was.0) c.hear_all-2.ensures.senders same.1 same.2
     (subst (λ (e : Events). HearsTold e front mid new) same.0 both.0) was.1 c.follows.ensures.others
     (subst (λ (e : Events). HearsOthers e front new.hearing.since.moment mid.other_sources new.other_sources) same.0 both.1) was.2) (both_ok _ _ c.hear_all-2.result c.hear_all-2.ensures.heard c.hear_all-2.ensures.others)
 
@@ -58,7 +58,7 @@ returns-then-branch-clause-stops c =
     if_err_so c.hear_all.result (λ stop stops made one before is was.
     let follows = c.in_ok-follows.ensures.follows one is in
     stops_followed old.events.now told made one (before ++ old.told.items) old mid new true
-    (sym c.if-branch.true ∙ follows.0 ∙ ap (λ (s : Senders). is_followed s (sender_of one.what)) was.0) is same.1 was.1 c.follows.ensures.others was.2 stop
+    (sym c.if-branch.true ∙ follows.0 ∙ ap (λ (s : Senders). is_followed s one.what) was.0) is same.1 was.1 c.follows.ensures.others was.2 stop
     (subst (λ (e : Events). Stops e told mid new stop) same.0 stops)) c.hear_all.ensures.stops
 
 pub returns-clause-stops : goal.returns-clause-stops
@@ -72,5 +72,5 @@ returns-clause-stops c =
     if_err_so c.hear_all-2.result (λ stop stops made one before is was.
     let follows = c.in_ok-follows.ensures.follows one is in
     stops_followed old.events.now front made one (before ++ old.told.items) old mid new false
-    (sym c.if-branch.false ∙ follows.0 ∙ ap (λ (s : Senders). is_followed s (sender_of one.what)) was.0) (told_nothing told one is) same.1 was.1 c.follows.ensures.others was.2 stop
+    (sym c.if-branch.false ∙ follows.0 ∙ ap (λ (s : Senders). is_followed s one.what) was.0) (told_nothing told one is) same.1 was.1 c.follows.ensures.others was.2 stop
     (subst (λ (e : Events). Stops e front mid new stop) same.0 stops)) c.hear_all-2.ensures.stops
