@@ -97,6 +97,7 @@ fn has_update(octets: &[u8]) -> bool
 }
 
 /// Whose packet a record has, or whose datagram that is missed; and whether it is a packet.
+#[inline(always)]
 pub(crate) fn sender_of(told: &Record<'_>) -> Option<(Origin, bool)>
     ensures { (one : Made) → IsTold one told.now → result ≡ sender_found one.what }
 {

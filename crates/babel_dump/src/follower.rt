@@ -89,6 +89,7 @@ impl<'a> Follower<'a> {
 
     /// Hears a record as `follow` does. What was told before it stays, and if memory runs out nothing
     /// is told besides.
+    #[inline(always)]
     fn follow_on(&mut self, told: &Record<'_>) -> Result<(), Stop>
         ensures same { (self.new.events.now ≡ self.old.events.now)
             × (self.new.fault ≡ self.old.fault) }
@@ -114,6 +115,7 @@ impl<'a> Follower<'a> {
     }
 
     /// Hears a record; of a sender that is not followed no more than that it came.
+    #[inline(always)]
     fn follow(&mut self, told: &Record<'_>) -> Result<(), Stop>
         ensures same { (self.new.events.now ≡ self.old.events.now)
             × (self.new.fault ≡ self.old.fault) }
@@ -154,6 +156,7 @@ impl<'a> Follower<'a> {
     }
 
     /// Hears a record, and the routes for other sources, if they are asked for.
+    #[inline(always)]
     fn hear_all(&mut self, told: &Record<'_>) -> Result<(), Stop>
         ensures same { (self.new.events.now ≡ self.old.events.now)
             × (self.new.fault ≡ self.old.fault) }
@@ -169,6 +172,7 @@ impl<'a> Follower<'a> {
     }
 
     /// Hears the routes for other sources, if they are asked for.
+    #[inline(always)]
     fn hear_others(&mut self, told: &Record<'_>) -> Result<(), Unheard>
         ensures same { (self.new.events ≡ self.old.events) × (self.new.hearing ≡ self.old.hearing)
             × (self.new.told ≡ self.old.told) × (self.new.fault ≡ self.old.fault) }
@@ -205,6 +209,7 @@ impl<'a> Follower<'a> {
     }
 
     /// Hears a record, as it is asked for.
+    #[inline(always)]
     fn hear(&mut self, told: &Record<'_>) -> Result<(), Stop>
         ensures same { (self.new.events.now ≡ self.old.events.now)
             × (self.new.fault ≡ self.old.fault) }
@@ -227,6 +232,7 @@ impl<'a> Follower<'a> {
     }
 
     /// Hears a record, and then what it requests; adds what there is to say of what was not read.
+    #[inline(always)]
     fn hear_whole(&mut self, told: &Record<'_>) -> Result<(), Unheard>
         ensures same { (self.new.events.now ≡ self.old.events.now)
             × (self.new.fault ≡ self.old.fault) }
@@ -408,6 +414,7 @@ fn other_sources(alloc: Global, events: &Events) -> Option<OtherSources>
 }
 
 /// Adds what of a record that was heard was not read.
+#[inline(always)]
 fn add_remarks(
     remarks: &mut Remarks,
     hearing: &Hearing,

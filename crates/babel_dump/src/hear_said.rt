@@ -14,6 +14,7 @@ use babel_tlv::Start;
 
 /// Hears a record of a capture, whether encoding 4 is read or not; adds what it tells, also where its
 /// packet has a fault.
+#[inline(always)]
 pub(crate) fn hear_said(
     teller: &mut Teller<Speaker>,
     via_v6: bool,

@@ -122,6 +122,7 @@ impl Hearing {
     }
 
     /// Hears a record of a capture; adds what is told of it, also where its packet has a fault.
+    #[inline(always)]
     pub(crate) fn hear_record(
         &mut self,
         events: &Events,
@@ -148,6 +149,7 @@ impl Hearing {
     }
 
     /// Hears the record, and keeps what it tells.
+    #[inline(always)]
     fn hear(&mut self, events: &Events, said: &Record<'_>) -> Result<(), Unheard>
         requires { self.old.heard.items ≡ [] }
         ensures same { (self.new.lost ≡ self.old.lost) × (self.new.since ≡ self.old.since) }
@@ -167,6 +169,7 @@ impl Hearing {
     }
 
     /// Takes what was told up to this time; adds what of it is told from the moment on.
+    #[inline(always)]
     fn tell(
         &mut self,
         time: Option<u128>,
@@ -185,6 +188,7 @@ impl Hearing {
     }
 
     /// Adds what is told from the moment on of senders that are not lost.
+    #[inline(always)]
     fn add(&self, told: &mut Vec<Telling<Speaker>>) -> Result<(), AllocError>
         ensures { OnOk result (told.new.items
             ≡ told.old.items ++ unlost_by self.now.lost self.now.printed.items) }
@@ -198,6 +202,7 @@ impl Hearing {
     }
 
     /// Adds what the record's packet requests, where it has one, and a time.
+    #[inline(always)]
     pub(crate) fn request(
         &self,
         events: &Events,
@@ -265,6 +270,7 @@ impl Hearing {
 
     /// Tells no more of the sender whose datagram is missed by the record, if one is. Adds by what a
     /// sender is lost.
+    #[inline(always)]
     pub(crate) fn lose(&mut self, said: &Record<'_>, by: &mut Remarks) -> Result<(), AllocError>
         ensures same { (self.new.teller ≡ self.old.teller) × (self.new.since ≡ self.old.since) }
         ensures lost { OnOk result ((speaker : SpeakerSaid)

@@ -80,6 +80,7 @@ impl Since {
     }
 
     /// Takes it that a record came then: a moment counts from the first that has a time.
+    #[inline(always)]
     pub(crate) fn begin(&mut self, since: Option<Moment>, came: Option<Time>)
         ensures same { (self.new.has_come ≡ self.old.has_come)
             × (self.new.answers ≡ self.old.answers) }
@@ -197,6 +198,7 @@ impl Since {
 
     /// Takes what was told, and up to which time; adds what of it was told of the moment or later,
     /// and before that, where the moment comes, what was answered just before it.
+    #[inline(always)]
     pub(crate) fn take(
         &mut self,
         time: Option<u128>,
