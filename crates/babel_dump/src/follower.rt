@@ -25,6 +25,7 @@ use crate::left_out::LeftOutDatagram;
 use crate::other_sources::OtherSources;
 use crate::remarks::Remarks;
 use crate::says::Says;
+use crate::since::append;
 use crate::speaker::{Speaker, speaker_at};
 use crate::stop::Stop;
 use crate::trouble::Trouble;
@@ -382,7 +383,7 @@ fn put_behind(before: &mut Vec<Telling<Speaker>>, told: &[Telling<Speaker>]) -> 
     ensures behind { IfErr result (TellsBehind before.old.items before.new.items) }
     ensures memory { IfErr result (λ stop. stop ≡ stops.Unheard unheard.Memory) }
 {
-    match before.extend_from_slice(told) {
+    match append(before, told) {
         Ok(()) => Ok(()),
         Err(_) => Err(Stop::Unheard(Unheard::Memory)),
     }
@@ -397,7 +398,7 @@ fn put_refused(before: &mut Vec<Telling<Speaker>>, told: &[Telling<Speaker>], st
     if stop.is_memory() {
         return stop;
     }
-    match before.extend_from_slice(told) {
+    match append(before, told) {
         Ok(()) => stop,
         Err(_) => Stop::Unheard(Unheard::Memory),
     }

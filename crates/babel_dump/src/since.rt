@@ -1,6 +1,6 @@
 //! From which moment on it is told what changes.
 ghost use Rattle.std.specs.Prelude.{◌≡◌, ◌++◌, ◌∷◌, List, [], None, Some, OnOk, map};
-ghost use Rattle.std.specs.Prelude.{if◌then◌else◌, false};
+ghost use Rattle.std.specs.Prelude.{if◌then◌else◌, false, is_ok};
 ghost use Rattle.std.specs.BTreeMap.{is_at};
 ghost use Rattle.std.specs.List.Sorted.{IsStrictlySortedBy};
 ghost use Rattle.std.specs.Map.{keys_of, lookup};
@@ -47,6 +47,21 @@ fn has_come(moment: u128, time: Option<u128>) -> bool
         Some(time) => moment <= time,
         None => false,
     }
+}
+
+/// Adds what was told: nothing, of most records.
+#[inline(always)]
+pub(crate) fn append(
+    told: &mut Vec<Telling<Speaker>>,
+    more: &[Telling<Speaker>],
+) -> Result<(), AllocError>
+    ensures items { told.new.items
+        ≡ (if is_ok result then told.old.items ++ more.now else told.old.items) }
+{
+    if more.is_empty() {
+        return Ok(());
+    }
+    told.extend_from_slice(more)
 }
 
 /// Adds what was told of this moment or later.
