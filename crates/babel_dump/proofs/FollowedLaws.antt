@@ -3,9 +3,10 @@ use Rattle.std.proofs.Common.{◌≡◌, ◌≤◌, ◌+◌, ℕ, Bool, true, fa
 use Rattle.std.specs.Prelude.{◌||◌, ◌&&◌, nat_lt, fold, if◌then◌else◌}
 use Rattle.std.specs.declared.cmp.Ordering.{Ordering}
 use Rattle.std.specs.BTreeMap.{insert_entry, is_at}
+use Rattle.std.specs.Cmp.{IsTotalOrder}
 use Rattle.std.specs.List.{filter}
 use Rattle.std.specs.List.Sorted.{IsStrictlySortedBy}
-use Rattle.std.specs.Map.{keys_of, lookup}
+use Rattle.std.specs.Map.{keys_of, lookup, set_value}
 use Rattle.std.specs.Option.{is_some, unwrap_or}
 use Rattle.std.proofs.lemmas.Bool.{lt-ltb, ltb-true}
 use Rattle.std.proofs.lemmas.List.Sums.{fold-append}
@@ -44,6 +45,16 @@ module _ (senders : Senders) (origin : Origin) (known : Option Bool) (is : looku
 
   pub follows_so : (octets : List ℕ) (room : Bool) → room ≡ has_room senders octets → is_some known || room ≡ follows senders origin octets
   follows_so octets room is_room = ap (λ (b : Bool). is_some known || b) is_room ∙ ap (λ (k : Option Bool). is_some k || has_room senders octets) (sym there)
+
+-- a sender that is followed is noted in its place
+pub met_again : (senders after : Senders) (origin : Origin) (octets : List ℕ) (is_packet had noted_as : Bool) → noted_as ≡ is_packet || had
+    → lookup (is_at (ghosts.cmp origin)) senders ≡ Some had → IsStrictlySortedBy ghosts.cmp (keys_of senders) → after ≡ set_value (is_at (ghosts.cmp origin)) senders noted_as
+    → (true ≡ follows senders origin octets) × (after ≡ with_sender senders (Some (origin, is_packet)))
+met_again senders after origin octets is_packet had noted_as is there sorted written = (
+  follows_so senders origin (Some had) there octets _ refl,
+  put_so senders after origin _ (written ∙ set_value-insert (subst IsTotalOrder (sym origin_order) origin_total) origin noted_as had senders sorted there)
+      ∙ ap (insert_entry origin_cmp senders origin) (is ∙ ap (λ (b : Bool). is_packet || b) (had_so senders origin (Some had) there)),
+)
 
 -- ---- one record more
 

@@ -1,8 +1,6 @@
 //! Which senders of a capture are followed.
-ghost use Rattle.std.specs.Prelude.{◌≡◌, [], IfOk, IfSome, OnOk, Some, false, if◌then◌else◌};
-ghost use Rattle.std.specs.BTreeMap.{insert_entry, is_at};
-ghost use Rattle.std.specs.Map.{lookup};
-ghost use Rattle.std.specs.Option.{is_some, unwrap_or};
+ghost use Rattle.std.specs.Prelude.{◌≡◌, [], IfOk, OnOk, Some, if◌then◌else◌};
+ghost use Rattle.std.specs.BTreeMap.{insert_entry};
 ghost use Rattle.babel_capture.specs.Counts.{Made};
 ghost use Rattle.babel_capture.specs.Findings.{octets_found};
 ghost use Rattle.babel_capture.specs.Sinking.{IsTold};
@@ -48,25 +46,15 @@ impl FollowedSenders {
             × (self.new.senders.entries ≡ if is_followed
             then with_sender senders (Some (origin.now, is_packet)) else senders)) }
     {
-        let Some(had_packets) = self.had_packets(origin, octets) else {
-            return Ok(false);
-        };
-        self.put(*origin, is_packet || had_packets)?;
-        Ok(true)
-    }
-
-    /// Whether a packet of a sender came before, if it is followed or there is room.
-    fn had_packets(&self, origin: &Origin, octets: &[u8]) -> Option<bool>
-        ensures some { IfSome result (λ had. had ≡ unwrap_or
-            (lookup (is_at (origin_cmp origin.now)) self.now.senders.entries) false) }
-        ensures follows { is_some result
-            ≡ follows self.now.senders.entries origin.now octets.now }
-    {
-        match self.senders.get(origin) {
-            Some(had_packets) => Some(*had_packets),
-            None if self.has_room(octets) => Some(false),
-            None => None,
+        if let Some(has_packets) = self.senders.get_mut(origin) {
+            *has_packets = is_packet || *has_packets;
+            return Ok(true);
         }
+        if !self.has_room(octets) {
+            return Ok(false);
+        }
+        self.put(*origin, is_packet)?;
+        Ok(true)
     }
 
     /// Whether there is room for a sender of whom a packet of these octets came.

@@ -224,7 +224,7 @@ impl Since {
         ensures { OnOk result (TellsThen time self.old heard.now self.new told.new.items) }
     {
         let Some(moment) = self.moment else {
-            told.extend_from_slice(heard)?;
+            append(told, heard)?;
             return Ok(());
         };
         self.come(moment, time, heard, told)?;

@@ -6,7 +6,7 @@ use Rattle.babel_dump.proofs.since.Since.take.Goals as goal
 pub returns-in_default : goal.returns-in_default
 returns-in_default c =
     let none : c.args.self.now.moment ≡ None = search rules in
-    told_all c.args.time c.args.self.now none c.args.heard.now c.extend_from_slice.new.self.items (search rules)
+    told_all c.args.time c.args.self.now none c.args.heard.now c.append.new.told.items (search rules)
 
 pub returns : goal.returns
 returns c =
