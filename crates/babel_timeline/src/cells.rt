@@ -60,6 +60,7 @@ fn are_one<S: Sender>(subject: &Subject<S>, other: &Subject<S>) -> bool
 }
 
 /// Whether the cell at this place holds an entry of the subject.
+#[inline(always)]
 fn holds<S: Sender>(cells: &[Cell<S>], place: usize, subject: &Subject<S>) -> bool
     ensures { IsTrue result ↔ Holds cells.now subject.now place }
 {

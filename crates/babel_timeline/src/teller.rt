@@ -211,6 +211,7 @@ impl<S: Sender> Teller<S> {
     }
 
     /// Takes all that has expired by this time, in order; adds what it tells.
+    #[inline(always)]
     pub fn expire(&mut self, until: u128, told: &mut Vec<Telling<S>>) -> Result<(), AllocError>
         ensures same { (self.new.timeline.factor ≡ self.old.timeline.factor)
             × (self.new.interest ≡ self.old.interest) }

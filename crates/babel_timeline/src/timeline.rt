@@ -293,6 +293,7 @@ impl<S: Sender> Timeline<S> {
 
     /// Takes it that a sender announces this for a key; tells what changes. The offset is that of
     /// the Update in its dump.
+    #[inline(always)]
     pub fn announce(
         &mut self,
         subject: &Subject<S>,
