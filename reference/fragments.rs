@@ -1,6 +1,6 @@
 //! Datagrams put together of their fragments: RFC 791, 3.2; RFC 8200, 4.5; RFC 5722, 4.
 
-use std::collections::{HashMap, VecDeque};
+use std::collections::{BTreeMap, HashMap};
 use std::ops::Range;
 
 use crate::{Addr, Place, Seed};
@@ -144,6 +144,19 @@ impl Datagram {
         }
     }
 
+    /// One more, of an unfinished one.
+    fn step(&mut self, key: &Key, fragment: &Fragment<'_>) -> Step {
+        if self.overlaps(fragment) {
+            self.standing = Standing::Dropped;
+            return Step::Overlaps(Missing::of(key, self));
+        }
+        self.add(fragment);
+        match self.standing {
+            Standing::Whole => Step::Completes(self.joined()),
+            _ => Step::Nothing,
+        }
+    }
+
     /// Its octets from UDP on, as far as they were kept, and how many there were.
     fn joined(&self) -> Option<(Vec<u8>, usize)> {
         let (at, _) = self.udp?;
@@ -203,60 +216,82 @@ pub struct Came {
     pub ends_within: bool,
 }
 
+/// The unfinished datagrams, or the others, by the number of the first fragment to come.
+#[derive(Default)]
+struct Kind {
+    octets: usize,
+    order: BTreeMap<u64, Key>,
+}
+
+impl Kind {
+    fn enter(&mut self, key: Key, datagram: &Datagram) {
+        self.octets += datagram.len;
+        self.order.insert(datagram.number, key);
+    }
+
+    fn leave(&mut self, datagram: &Datagram) {
+        self.octets -= datagram.len;
+        self.order.remove(&datagram.number);
+    }
+
+    fn is_past(&self, clock: i128, oldest: &Datagram) -> bool {
+        clock - oldest.came > LIFETIME
+            || self.order.len() > MOST_DATAGRAMS
+            || self.octets > MOST_OCTETS
+    }
+}
+
 /// The datagrams that came in fragments.
 pub struct Known {
     clock: i128,
-    octets: usize,
-    unfinished: usize,
+    unfinished: Kind,
+    others: Kind,
     datagrams: HashMap<Key, Datagram, Seed>,
-    /// The oldest first; one that another took the place of has another number.
-    order: VecDeque<(u64, Key)>,
 }
 
 impl Known {
     pub fn new() -> Known {
         Known {
             clock: 0,
-            octets: 0,
-            unfinished: 0,
+            unfinished: Kind::default(),
+            others: Kind::default(),
             datagrams: HashMap::with_hasher(Seed::new()),
-            order: VecDeque::new(),
         }
     }
 
     fn remove(&mut self, key: &Key) -> Option<Datagram> {
         let datagram = self.datagrams.remove(key)?;
-        self.octets -= datagram.len;
-        self.unfinished -= usize::from(datagram.standing == Standing::Open);
+        match datagram.standing {
+            Standing::Open => self.unfinished.leave(&datagram),
+            _ => self.others.leave(&datagram),
+        }
         Some(datagram)
     }
 
-    /// Gives up the oldest one, where it is too old, or they are too many, or all are given up: what
-    /// counts of it.
+    /// Gives up the oldest unfinished one, where it is too old, or they are too many, or all are
+    /// given up: what counts of it.
     fn give_up_one(&mut self, all: bool) -> Option<Option<Missing>> {
-        loop {
-            let &(number, key) = self.order.front()?;
-            let Some(datagram) = self.datagrams.get(&key).filter(|one| one.number == number) else {
-                self.order.pop_front();
-                continue;
-            };
-            let is_past = self.clock - datagram.came > LIFETIME
-                || self.unfinished > MOST_DATAGRAMS
-                || self.datagrams.len() - self.unfinished > MOST_DATAGRAMS
-                || self.octets > MOST_OCTETS;
-            if !all && !is_past {
-                return None;
+        let (_, &key) = self.unfinished.order.first_key_value()?;
+        if !all && !self.unfinished.is_past(self.clock, &self.datagrams[&key]) {
+            return None;
+        }
+        let datagram = self.remove(&key)?;
+        Some(Missing::of(&key, &datagram).filter(|_| datagram.ends_within))
+    }
+
+    fn forget_others(&mut self) {
+        while let Some((_, &key)) = self.others.order.first_key_value() {
+            if !self.others.is_past(self.clock, &self.datagrams[&key]) {
+                return;
             }
-            self.order.pop_front();
-            let datagram = self.remove(&key)?;
-            let counts = datagram.standing == Standing::Open && datagram.ends_within;
-            return Some(Missing::of(&key, &datagram).filter(|_| counts));
+            self.remove(&key);
         }
     }
 
     /// What is missing of those that are given up once a packet came then.
     pub fn give_up(&mut self, time: Option<i128>) -> Vec<Missing> {
         self.clock = self.clock.max(time.unwrap_or(0));
+        self.forget_others();
         std::iter::from_fn(|| self.give_up_one(false)).flatten().collect()
     }
 
@@ -282,20 +317,13 @@ impl Known {
                 return Step::Nothing;
             }
             if datagram.standing == Standing::Open && !fragment.is_of_another() {
-                if datagram.overlaps(fragment) {
-                    datagram.standing = Standing::Dropped;
-                    self.unfinished -= 1;
-                    return Step::Overlaps(Missing::of(&key, datagram));
+                self.unfinished.leave(datagram);
+                let step = datagram.step(&key, fragment);
+                match datagram.standing {
+                    Standing::Open => self.unfinished.enter(key, datagram),
+                    _ => self.others.enter(key, datagram),
                 }
-                datagram.add(fragment);
-                self.octets += fragment.len;
-                return match datagram.standing {
-                    Standing::Whole => {
-                        self.unfinished -= 1;
-                        Step::Completes(datagram.joined())
-                    }
-                    _ => Step::Nothing,
-                };
+                return step;
             }
             self.remove(&key);
         }
@@ -319,10 +347,11 @@ impl Known {
         if !fragment.is_of_another() {
             datagram.standing = Standing::Open;
             datagram.add(fragment);
-            self.octets += fragment.len;
-            self.unfinished += 1;
         }
-        self.order.push_back((came.number, key));
+        match datagram.standing {
+            Standing::Open => self.unfinished.enter(key, &datagram),
+            _ => self.others.enter(key, &datagram),
+        }
         self.datagrams.insert(key, datagram);
     }
 }

@@ -119,32 +119,34 @@ class Known:
         self.clock = 0
         self.datagrams = {}
 
-    def is_past(self, oldest):
-        octets = sum(piece.length for one in self.datagrams.values() for piece in one.pieces)
-        unfinished = sum(one.standing == "open" for one in self.datagrams.values())
+    def is_past(self, alike):
+        """Of the unfinished ones, or of the others, the oldest goes."""
+        octets = sum(piece.length for _, one in alike for piece in one.pieces)
         return (
-            self.clock - oldest.came > LIFETIME
-            or unfinished > MOST_DATAGRAMS
-            or len(self.datagrams) - unfinished > MOST_DATAGRAMS
+            self.clock - alike[0][1].came > LIFETIME
+            or len(alike) > MOST_DATAGRAMS
             or octets > MOST_OCTETS
         )
 
-    def pop_oldest(self):
-        return self.datagrams.pop(next(iter(self.datagrams)))
+    def alike(self, is_open):
+        return [one for one in self.datagrams.items() if (one[1].standing == "open") == is_open]
 
     def give_up(self, time):
         """Those of which fragments are missing that are given up when a packet came then, and
         count."""
         self.clock = max(self.clock, time or 0)
-        while self.datagrams and self.is_past(next(iter(self.datagrams.values()))):
-            oldest = self.pop_oldest()
-            if oldest.is_missed():
-                yield oldest
+        for is_open in True, False:
+            alike = self.alike(is_open)
+            while alike and self.is_past(alike):
+                key, oldest = alike.pop(0)
+                del self.datagrams[key]
+                if oldest.is_missed():
+                    yield oldest
 
     def give_up_all(self):
         """Those of which fragments are missing where no more packets come, and that count."""
         while self.datagrams:
-            oldest = self.pop_oldest()
+            oldest = self.datagrams.pop(next(iter(self.datagrams)))
             if oldest.is_missed():
                 yield oldest
 

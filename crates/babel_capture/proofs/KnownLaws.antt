@@ -31,7 +31,7 @@ use Rattle.babel_capture.specs.declared.fragment.DatagramId.{DatagramId}
 use Rattle.babel_capture.specs.declared.tallies.Origin.{Origin}
 use Rattle.babel_capture.specs.declared.datagram.Step.{Step}
 use Rattle.babel_capture.specs.declared.datagram.Step.TheVariants as steps
-use Rattle.babel_capture.specs.Fragments.{Known, as_open, changed, changed_with, forgotten, forgotten_with, id_cmp, octets_in, open_in, of_id, of_id_after, step_in, step_of, step_with, stepped}
+use Rattle.babel_capture.specs.Fragments.{Known, changed, changed_with, forgotten, forgotten_with, id_cmp, octets_in, of_id, of_id_after, step_in, step_of, stepped}
 use Rattle.babel_capture.specs.Indexing.{Holds, IsIndexed}
 use Rattle.babel_capture.specs.Pieces.{Fragment, len_of}
 use Rattle.babel_capture.specs.Tallies.{origin_cmp}
@@ -184,20 +184,19 @@ module _ {X : Type 0} where
 
 -- ---- by identification
 
-pub indexed_none : (numbers : List (DatagramId × ℕ)) (known : Known) → numbers ≡ [] → known ≡ [] → IsIndexed numbers known 0 0
+pub indexed_none : (numbers : List (DatagramId × ℕ)) (known : Known) → numbers ≡ [] → known ≡ [] → IsIndexed numbers known 0
 unfolding IsStrictlySortedBy
-indexed_none numbers known no_number nothing = subst (λ k. IsIndexed numbers k 0 0) (sym nothing) (subst (λ n. IsIndexed n [] 0 0) (sym no_number) none)
+indexed_none numbers known no_number nothing = subst (λ k. IsIndexed numbers k 0) (sym nothing) (subst (λ n. IsIndexed n [] 0) (sym no_number) none)
   where
-    none : IsIndexed [] [] 0 0
+    none : IsIndexed [] [] 0
     none = record {
       rising = tt;
       ids = tt;
       held = λ id number. (λ named. none_some number named, λ holds. none_some holds.datagram holds.found);
       octets_are = refl;
-      open_are = refl;
     }
 
-module _ (numbers : List (DatagramId × ℕ)) (known : Known) (octets open_count : ℕ) (indexed : IsIndexed numbers known octets open_count) where
+module _ (numbers : List (DatagramId × ℕ)) (known : Known) (octets : ℕ) (indexed : IsIndexed numbers known octets) where
   pub known-by : (id : DatagramId) (number : ℕ) (datagram : Datagram) → lookup (is_at (ghosts.cmp id)) numbers ≡ Some number → lookup (is_at (nat_cmp number)) known ≡ Some datagram
       → of_id id known ≡ Some (number, datagram)
   known-by id number datagram named found =
@@ -209,6 +208,23 @@ module _ (numbers : List (DatagramId × ℕ)) (known : Known) (octets open_count
       (λ l w there passes.
       let other = (indexed.held id l).1 (record { datagram = w; found = there; own = sym (id_exact id w.id passes) }) in
       let both : Some l ≡ Some number = sym other ∙ by_id in cc)
+
+  pub known-held : (number : ℕ) (datagram : Datagram) → lookup (is_at (nat_cmp number)) known ≡ Some datagram → of_id datagram.id known ≡ Some (number, datagram)
+  known-held number datagram found =
+      known-by datagram.id number datagram (by-id numbers datagram.id ∙ (indexed.held datagram.id number).1 (record { datagram = datagram; found = found; own = refl })) found
+
+  -- it has the identification that it is found by
+  pub own-by : (id : DatagramId) (number : ℕ) (datagram : Datagram) → lookup (is_at (ghosts.cmp id)) numbers ≡ Some number → lookup (is_at (nat_cmp number)) known ≡ Some datagram → datagram.id ≡ id
+  own-by id number datagram named found =
+      let holds = (indexed.held id number).0 (sym (by-id numbers id) ∙ named) in
+      let same : holds.datagram ≡ datagram = (let there = holds.found in cc) in
+      sym (ap (λ (d : Datagram). d.id) same) ∙ holds.own
+
+  -- and its number is free once it is removed
+  pub gone-by : (number : ℕ) (known_now : Known) → known_now ≡ remove_entry (is_at (nat_cmp number)) known → lookup (is_at (nat_cmp number)) known_now ≡ None
+  gone-by number known_now removed =
+      ap (lookup (is_at (nat_cmp number))) removed ∙ lookup-without nat_cmp_total number number known indexed.rising
+      ∙ ap (λ (b : Bool). cond b None (lookup (is_at (nat_cmp number)) known)) (self-at number)
 
   pub unknown-by : (id : DatagramId) → lookup (is_at (ghosts.cmp id)) numbers ≡ None → of_id id known ≡ None
   unknown-by id none = find-none test known (none-of test known indexed.rising each)
@@ -235,15 +251,13 @@ module _ (numbers : List (DatagramId × ℕ)) (known : Known) (octets open_count
   number-at a b at = exact_unsigned a b (equal_of (nat_cmp a b) at)
 
   -- with another value under a number, of the same identification
-  pub indexed-set : (number : ℕ) (old new : Datagram) (known_now : Known) (octets_now open_now : ℕ) → lookup (is_at (nat_cmp number)) known ≡ Some old → new.id ≡ old.id
-      → known_now ≡ set_value (is_at (nat_cmp number)) known new → octets_now + len_of old.pieces ≡ octets + len_of new.pieces
-      → open_now + as_open old ≡ open_count + as_open new → IsIndexed numbers known_now octets_now open_now
-  indexed-set number old new known_now octets_now open_now found same put more more_open = subst (λ (k : Known). IsIndexed numbers k octets_now open_now) (sym put) (record {
+  pub indexed-set : (number : ℕ) (old new : Datagram) (known_now : Known) (octets_now : ℕ) → lookup (is_at (nat_cmp number)) known ≡ Some old → new.id ≡ old.id
+      → known_now ≡ set_value (is_at (nat_cmp number)) known new → octets_now + len_of old.pieces ≡ octets + len_of new.pieces → IsIndexed numbers known_now octets_now
+  indexed-set number old new known_now octets_now found same put more = subst (λ (k : Known). IsIndexed numbers k octets_now) (sym put) (record {
     rising = there-set nat_cmp_total number new old known found indexed.rising;
     ids = indexed.ids;
     held = λ id m. (λ named. kept id m ((indexed.held id m).0 named), λ holds. (indexed.held id m).1 (was id m holds));
     octets_are = (let sum = sum_by-set_value (λ (d : Datagram). len_of d.pieces) (is_at (nat_cmp number)) known old new found in let all = indexed.octets_are in omega (arith, sum, all, more));
-    open_are = (let sum = sum_by-set_value as_open (is_at (nat_cmp number)) known old new found in let all = indexed.open_are in omega (arith, sum, all, more_open));
   })
     where
       after : Known
@@ -284,12 +298,12 @@ module _ (numbers : List (DatagramId × ℕ)) (known : Known) (octets open_count
           by false at there = record { datagram = holds.datagram; found = there; own = holds.own }
 
   -- without one
-  pub indexed-without : (id : DatagramId) (number : ℕ) (old : Datagram) (numbers_now : List (DatagramId × ℕ)) (known_now : Known) (len one_open : ℕ)
+  pub indexed-without : (id : DatagramId) (number : ℕ) (old : Datagram) (numbers_now : List (DatagramId × ℕ)) (known_now : Known) (len : ℕ)
       → lookup (is_at (ghosts.cmp id)) numbers ≡ Some number → lookup (is_at (nat_cmp number)) known ≡ Some old
       → numbers_now ≡ remove_entry (is_at (ghosts.cmp id)) numbers → known_now ≡ remove_entry (is_at (nat_cmp number)) known
       → IsStrictlySortedBy ghosts.cmp (keys_of numbers_now) → IsStrictlySortedBy nat_cmp (keys_of known_now)
-      → len ≡ len_of old.pieces → one_open ≡ as_open old → IsIndexed numbers_now known_now (octets - len) (open_count - one_open)
-  indexed-without id number old numbers_now known_now len one_open named found unnamed removed ids rising is_len is_open_so = record {
+      → len ≡ len_of old.pieces → IsIndexed numbers_now known_now (octets - len)
+  indexed-without id number old numbers_now known_now len named found unnamed removed ids rising is_len = record {
     rising = rising;
     ids = subst (λ (k : DatagramId → DatagramId → Ordering). IsStrictlySortedBy k (keys_of numbers_now)) id_order ids;
     held = λ other m. (later other m, earlier other m);
@@ -300,12 +314,6 @@ module _ (numbers : List (DatagramId × ℕ)) (known : Known) (octets open_count
         let now : octets_in known_now ≡ octets_in (remove_entry (is_at (nat_cmp number)) known) = ap octets_in removed in
         let all = indexed.octets_are in
         omega (arith, sum, one, now, all, is_len);
-    open_are =
-        let sum = sum_by-remove_entry as_open (is_at (nat_cmp number)) known in
-        let one : unwrap_or (option_map as_open (lookup (is_at (nat_cmp number)) known)) 0 ≡ as_open old = ap (λ (o : Option Datagram). unwrap_or (option_map as_open o) 0) found in
-        let now : open_in known_now ≡ open_in (remove_entry (is_at (nat_cmp number)) known) = ap open_in removed in
-        let all = indexed.open_are in
-        omega (arith, sum, one, now, all, is_open_so);
   }
     where
       by_id : lookup (is_at (id_cmp id)) numbers ≡ Some number
@@ -370,10 +378,10 @@ module _ (numbers : List (DatagramId × ℕ)) (known : Known) (octets open_count
           none_some (m, holds.datagram) (sym none ∙ known-by id m holds.datagram (by-id numbers id ∙ is) holds.found)
 
   -- with one more
-  pub indexed-with : (number : ℕ) (new : Datagram) (numbers_now : List (DatagramId × ℕ)) (known_now : Known) (octets_now open_now : ℕ) → of_id new.id known ≡ None
+  pub indexed-with : (number : ℕ) (new : Datagram) (numbers_now : List (DatagramId × ℕ)) (known_now : Known) (octets_now : ℕ) → of_id new.id known ≡ None
       → lookup (is_at (nat_cmp number)) known ≡ None → numbers_now ≡ insert_entry ghosts.cmp numbers new.id number → known_now ≡ insert_entry nat_cmp known number new
-      → octets_now ≡ octets + len_of new.pieces → open_now ≡ open_count + as_open new → IsIndexed numbers_now known_now octets_now open_now
-  indexed-with number new numbers_now known_now octets_now open_now none free named put more more_open = record {
+      → octets_now ≡ octets + len_of new.pieces → IsIndexed numbers_now known_now octets_now
+  indexed-with number new numbers_now known_now octets_now none free named put more = record {
     rising = subst (λ (k : Known). IsStrictlySortedBy nat_cmp (keys_of k)) (sym put) (sorted-insert nat_cmp_total number new known indexed.rising);
     ids = subst (λ (n : List (DatagramId × ℕ)). IsStrictlySortedBy id_cmp (keys_of n)) (sym (named ∙ put-by-id numbers new.id number)) (sorted-insert id_total new.id number numbers indexed.ids);
     held = λ other m. (later other m, earlier other m);
@@ -384,12 +392,6 @@ module _ (numbers : List (DatagramId × ℕ)) (known : Known) (octets open_count
         let now : octets_in known_now ≡ octets_in (insert_entry nat_cmp known number new) = ap octets_in put in
         let all = indexed.octets_are in
         omega (arith, sum, zero, now, all, more);
-    open_are =
-        let sum = sum_by-insert_entry as_open nat_cmp_total known number new indexed.rising in
-        let zero : unwrap_or (option_map as_open (lookup (is_at (nat_cmp number)) known)) 0 ≡ 0 = ap (λ (o : Option Datagram). unwrap_or (option_map as_open o) 0) free in
-        let now : open_in known_now ≡ open_in (insert_entry nat_cmp known number new) = ap open_in put in
-        let all = indexed.open_are in
-        omega (arith, sum, zero, now, all, more_open);
   }
     where
       numbered : (other : DatagramId) → lookup (is_at (id_cmp other)) numbers_now ≡ cond (is_at (id_cmp new.id) other) (Some number) (lookup (is_at (id_cmp other)) numbers)
@@ -437,13 +439,12 @@ module _ (numbers : List (DatagramId × ℕ)) (known : Known) (octets open_count
 
   -- without the one that was just added to the numbers
   pub indexed-back : (id : DatagramId) (number : ℕ) (put back : List (DatagramId × ℕ)) → of_id id known ≡ None → put ≡ insert_entry ghosts.cmp numbers id number
-      → back ≡ remove_entry (is_at (ghosts.cmp id)) put → IsStrictlySortedBy ghosts.cmp (keys_of back) → IsIndexed back known octets open_count
+      → back ≡ remove_entry (is_at (ghosts.cmp id)) put → IsStrictlySortedBy ghosts.cmp (keys_of back) → IsIndexed back known octets
   indexed-back id number put back none named undone ids = record {
     rising = indexed.rising;
     ids = subst (λ (k : DatagramId → DatagramId → Ordering). IsStrictlySortedBy k (keys_of back)) id_order ids;
     held = λ other m. subst (λ (o : Option ℕ). (o ≡ Some m) ↔ Holds known other m) (sym (same other)) (indexed.held other m);
     octets_are = indexed.octets_are;
-    open_are = indexed.open_are;
   }
     where
       one : List (DatagramId × ℕ)
@@ -461,12 +462,12 @@ module _ (numbers : List (DatagramId × ℕ)) (known : Known) (octets open_count
           by false at = refl
 
   -- without the oldest
-  pub indexed-pop : (number : ℕ) (oldest : Datagram) (others : Known) (numbers_now : List (DatagramId × ℕ)) (len one_open : ℕ) → known ≡ (number, oldest) ∷ others
+  pub indexed-pop : (number : ℕ) (oldest : Datagram) (others : Known) (numbers_now : List (DatagramId × ℕ)) (len : ℕ) → known ≡ (number, oldest) ∷ others
       → numbers_now ≡ remove_entry (is_at (ghosts.cmp oldest.id)) numbers → IsStrictlySortedBy ghosts.cmp (keys_of numbers_now) → IsStrictlySortedBy nat_cmp (keys_of others)
-      → len ≡ len_of oldest.pieces → one_open ≡ as_open oldest → IsIndexed numbers_now others (octets - len) (open_count - one_open)
-  indexed-pop number oldest others numbers_now len one_open is unnamed ids rising is_len is_open_so =
-      indexed-without oldest.id number oldest numbers_now others len one_open (by-id numbers oldest.id ∙ (indexed.held oldest.id number).1 (record { datagram = oldest; found = found; own = refl })) found unnamed removed ids
-      rising is_len is_open_so
+      → len ≡ len_of oldest.pieces → IsIndexed numbers_now others (octets - len)
+  indexed-pop number oldest others numbers_now len is unnamed ids rising is_len =
+      indexed-without oldest.id number oldest numbers_now others len (by-id numbers oldest.id ∙ (indexed.held oldest.id number).1 (record { datagram = oldest; found = found; own = refl })) found unnamed removed ids
+      rising is_len
     where
       found : lookup (is_at (nat_cmp number)) known ≡ Some oldest
       found = ap (lookup (is_at (nat_cmp number))) is ∙ head-found (number, oldest) others
@@ -483,13 +484,6 @@ module _ (numbers : List (DatagramId × ℕ)) (known : Known) (octets open_count
       let all = indexed.octets_are in
       omega (arith, sum, one, all)
 
-  pub open-of-found : (number : ℕ) (datagram : Datagram) → lookup (is_at (nat_cmp number)) known ≡ Some datagram → as_open datagram ≤ open_count
-  open-of-found number datagram found =
-      let sum = sum_by-remove_entry as_open (is_at (nat_cmp number)) known in
-      let one : unwrap_or (option_map as_open (lookup (is_at (nat_cmp number)) known)) 0 ≡ as_open datagram = ap (λ (o : Option Datagram). unwrap_or (option_map as_open o) 0) found in
-      let all = indexed.open_are in
-      omega (arith, sum, one, all)
-
   pub forgotten-unnamed : (id : DatagramId) → lookup (is_at (ghosts.cmp id)) numbers ≡ None → known ≡ forgotten id known
   forgotten-unnamed id none = ap (forgotten_with known) (sym (unknown-by id none))
 
@@ -497,17 +491,16 @@ module _ (numbers : List (DatagramId × ℕ)) (known : Known) (octets open_count
     pub forgotten-named : remove_entry (is_at (nat_cmp number)) known ≡ forgotten id known
     forgotten-named = ap (forgotten_with known) (sym (known-by id number datagram named found))
 
-    pub step-named : (fragment : Fragment) → fragment.id ≡ id → step_in datagram fragment ≡ step_of known fragment
-    step-named fragment own = ap (step_with fragment) (sym (ap (λ (i : DatagramId). of_id i known) own ∙ known-by id number datagram named found))
+    pub step-named : (fragment : Fragment) → fragment.id ≡ id → Some (step_in datagram fragment) ≡ step_of known fragment
+    step-named fragment own = ap (option_map (λ (one : ℕ × Datagram). step_in one.1 fragment)) (sym (ap (λ (i : DatagramId). of_id i known) own ∙ known-by id number datagram named found))
 
     pub changed-named : (fragment : Fragment) → fragment.id ≡ id → set_value (is_at (nat_cmp number)) known (stepped datagram fragment (step_in datagram fragment)) ≡ changed known fragment
     changed-named fragment own = ap (changed_with known fragment) (sym (ap (λ (i : DatagramId). of_id i known) own ∙ known-by id number datagram named found))
 
-  pub indexed-stepped : (number : ℕ) (old new : Datagram) (fragment : Fragment) (step : Step) (known_now : Known) (octets_now open_now : ℕ) → lookup (is_at (nat_cmp number)) known ≡ Some old
-      → new ≡ stepped old fragment step → known_now ≡ set_value (is_at (nat_cmp number)) known new → octets_now + len_of old.pieces ≡ octets + len_of new.pieces
-      → open_now + as_open old ≡ open_count + as_open new → IsIndexed numbers known_now octets_now open_now
-  indexed-stepped number old new fragment step known_now octets_now open_now found is put more more_open =
-      indexed-set number old new known_now octets_now open_now found (ap (λ (d : Datagram). d.id) is ∙ stepped-id old fragment step) put more more_open
+  pub indexed-stepped : (number : ℕ) (old new : Datagram) (fragment : Fragment) (step : Step) (known_now : Known) (octets_now : ℕ) → lookup (is_at (nat_cmp number)) known ≡ Some old
+      → new ≡ stepped old fragment step → known_now ≡ set_value (is_at (nat_cmp number)) known new → octets_now + len_of old.pieces ≡ octets + len_of new.pieces → IsIndexed numbers known_now octets_now
+  indexed-stepped number old new fragment step known_now octets_now found is put more =
+      indexed-set number old new known_now octets_now found (ap (λ (d : Datagram). d.id) is ∙ stepped-id old fragment step) put more
 
   -- the one of an identification after a step
   pub kept-named : (number : ℕ) (old new : Datagram) (fragment : Fragment) (step : Step) (known_now : Known) → of_id fragment.id known_now ≡ Some (number, new) → lookup (is_at (ghosts.cmp fragment.id)) numbers ≡ Some number
@@ -517,3 +510,12 @@ module _ (numbers : List (DatagramId × ℕ)) (known : Known) (octets open_count
       now
       ∙ ap (λ (d : Datagram). Some (number, d)) (is ∙ ap (stepped old fragment) told)
       ∙ sym (ap (option_map after) (known-by fragment.id number old named found))
+
+-- one that was just added is found by its identification
+pub found-with : (numbers : List (DatagramId × ℕ)) (known : Known) (octets : ℕ) → IsIndexed numbers known octets → (number : ℕ) (new : Datagram) (numbers_now : List (DatagramId × ℕ)) (known_now : Known) → of_id new.id known ≡ None
+    → lookup (is_at (nat_cmp number)) known ≡ None → numbers_now ≡ insert_entry ghosts.cmp numbers new.id number → known_now ≡ insert_entry nat_cmp known number new → of_id new.id known_now ≡ Some (number, new)
+found-with numbers known octets indexed number new numbers_now known_now none free named put =
+    let more = octets + len_of new.pieces in
+    let now = indexed-with numbers known octets indexed number new numbers_now known_now more none free named put refl in
+    known-held numbers_now known_now more now number new
+    (ap (lookup (is_at (nat_cmp number))) put ∙ lookup-insert nat_cmp_total number number new known ∙ ap (λ (b : Bool). cond b (Some new) (lookup (is_at (nat_cmp number)) known)) (self-at number))

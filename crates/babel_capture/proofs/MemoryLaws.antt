@@ -180,5 +180,5 @@ short-other before at rest fault (inr (started, some, told)) is = cc
 pub fault-other : (limit : Extent) (wanted : Wanted) (octets : List ℕ) (fault : Fault) → CaptureFault limit wanted octets fault → fault ≢ faults.Memory
 fault-other limit wanted octets fault (inl stops) = stops-other wanted (senders_listed wanted.are_listed stops.made) (passage_of stops.blocks) (context_behind (start limit) stops.blocks) (length (octets_of stops.blocks)) stops.rest fault
     stops.stops
-fault-other limit wanted octets fault (inr (inr lost)) = refused-other wanted (senders_listed wanted.are_listed lost.made) (missing_in (passage_of lost.blocks).known) fault lost.lost
+fault-other limit wanted octets fault (inr (inr lost)) = refused-other wanted (senders_listed wanted.are_listed lost.made) (missing_in (passage_of lost.blocks).known.unfinished) fault lost.lost
 fault-other limit wanted octets fault (inr (inl short)) = short-other (context_behind (start limit) short.blocks) (length (octets_of short.blocks)) short.rest fault short.short

@@ -427,7 +427,7 @@ module _ (limit : Extent) (wanted : Wanted) (octets : List ℕ) where
 
   abbrev ends_of : (fault : Fault) → EndsShort limit wanted octets fault → Ends limit wanted octets
   ends_of fault short =
-      let first = front_taken wanted (sightings_of short.blocks) (missing_in (passage_of short.blocks).known) short.made short.taken in
+      let first = front_taken wanted (sightings_of short.blocks) (missing_in (passage_of short.blocks).known.unfinished) short.made short.taken in
       record {
         blocks = short.blocks;
         rest = short.rest;
@@ -467,14 +467,14 @@ module _ (limit : Extent) (wanted : Wanted) (octets : List ℕ) where
   none_lost : (one : Ends limit wanted octets) (made : List Made) (fault : Fault) → AreTaken wanted (sightings_to_end one.blocks) made → EndsLost limit wanted octets fault → ⊥
   none_lost one made fault taken lost =
       let same = ends_one one (ends_lost fault lost) in
-      let at_end = missing_in (passage_of one.blocks).known in
+      let at_end = missing_in (passage_of one.blocks).known.unfinished in
       let parts = in_two wanted (sightings_of one.blocks) at_end made taken.are_made in
       let firsts : parts.first ≡ lost.made = made_one wanted (sightings_of one.blocks) parts.first lost.made parts.are_first
       (subst (λ (bs : List BlockAt). AreMade wanted (sightings_of bs) lost.made) same.0 lost.taken.are_made) in
       let listed = wanted.are_listed in
       refused_none wanted (more listed [] lost.made) at_end fault [] parts.later
-      (subst (λ (bs : List BlockAt). IsRefused wanted (more listed [] lost.made) (missing_in (passage_of bs).known) fault) same.0
-      (subst (λ (s : Senders). IsRefused wanted s (missing_in (passage_of lost.blocks).known) fault) (listed-more listed lost.made) lost.lost))
+      (subst (λ (bs : List BlockAt). IsRefused wanted (more listed [] lost.made) (missing_in (passage_of bs).known.unfinished) fault) same.0
+      (subst (λ (s : Senders). IsRefused wanted s (missing_in (passage_of lost.blocks).known.unfinished) fault) (listed-more listed lost.made) lost.lost))
       (subst (λ (s : List Sighting). AreMade wanted s parts.later) (sym (append-nil at_end)) parts.are_later)
       (subst (λ (m : List Made). length (more listed (more listed [] m) parts.later) ≤ 65536) firsts
       (subst (λ (s : Senders). length s ≤ 65536) (listed-more listed made ∙ ap (more listed []) parts.whole ∙ more-append listed [] parts.first parts.later) taken.few))
@@ -483,12 +483,12 @@ module _ (limit : Extent) (wanted : Wanted) (octets : List ℕ) where
   both_lost : (one other : Fault) → EndsLost limit wanted octets one → EndsLost limit wanted octets other → one ≡ other
   both_lost one other lost lost_too =
       let same = ends_one (ends_lost one lost) (ends_lost other lost_too) in
-      let at_end = missing_in (passage_of lost.blocks).known in
+      let at_end = missing_in (passage_of lost.blocks).known.unfinished in
       let made : lost_too.made ≡ lost.made = made_one wanted (sightings_of lost.blocks) lost_too.made lost.made
       (subst (λ (bs : List BlockAt). AreMade wanted (sightings_of bs) lost_too.made) same.0 lost_too.taken.are_made) lost.taken.are_made in
       refused_one wanted (senders_listed wanted.are_listed lost.made) no_passage (start limit) 0 at_end one other lost.lost
       (subst (λ (m : List Made). IsRefused wanted (senders_listed wanted.are_listed m) at_end other) made
-      (subst (λ (bs : List BlockAt). IsRefused wanted (senders_listed wanted.are_listed lost_too.made) (missing_in (passage_of bs).known) other) same.0 lost_too.lost))
+      (subst (λ (bs : List BlockAt). IsRefused wanted (senders_listed wanted.are_listed lost_too.made) (missing_in (passage_of bs).known.unfinished) other) same.0 lost_too.lost))
 
 short_one : (before : Before) (at : ℕ) (rest : List ℕ) (one other : Fault) → IsShortBy before at rest one → IsShortBy before at rest other → one ≡ other
 short_one before at rest one other (inl (not, is)) (inl (not_too, is_too)) = is ∙ sym is_too
@@ -512,7 +512,7 @@ fault_is_one limit wanted octets one other (inr (inr lost)) (inr (inr lost_too))
 abbrev read_ends : (limit : Extent) (octets : List ℕ) (gathering : Gathering) (cut : Option ℕ) → IsReadToCut limit octets gathering cut → Ends limit gathering.wanted octets
 read_ends limit octets gathering cut is =
     let blocks = is.is_read.blocks in
-    let first = front_taken gathering.wanted (sightings_of blocks) (missing_in (passage_of blocks).known) is.is_read.gathered.made is.is_read.gathered.taken in
+    let first = front_taken gathering.wanted (sightings_of blocks) (missing_in (passage_of blocks).known.unfinished) is.is_read.gathered.made is.is_read.gathered.taken in
     record {
       blocks = blocks;
       rest = is.rest;

@@ -10,6 +10,7 @@ use Rattle.babel_capture.specs.declared.datagram.Datagram.{Datagram}
 use Rattle.babel_capture.specs.declared.datagram.Step.{Step}
 use Rattle.babel_capture.specs.declared.datagram.Step.TheVariants as steps
 use Rattle.babel_capture.specs.declared.fault.Fault.{Fault}
+use Rattle.babel_capture.specs.declared.fragment.DatagramId.{DatagramId}
 use Rattle.babel_capture.specs.declared.fragment.Fragment.{Fragment as HeldFragment}
 use Rattle.babel_capture.specs.declared.seen.Seen.{Seen}
 use Rattle.babel_capture.specs.declared.seen.Seen.TheVariants as seens
@@ -17,7 +18,7 @@ use Rattle.babel_capture.specs.declared.wanted.Wanted.{Wanted}
 use Rattle.babel_capture.specs.Backing.{Backs}
 use Rattle.babel_capture.specs.Contents.{Captured}
 use Rattle.babel_capture.specs.Counts.{Made}
-use Rattle.babel_capture.specs.Fragments.{Known, begins, begun_in, changed_with, forgotten, forgotten_with, is_past, known_by, known_with, of_id, step_of}
+use Rattle.babel_capture.specs.Fragments.{Datagrams, Known, begins, begun_in, changed_among, changed_with, forgotten_among, forgotten_with, is_of_another, is_past, known_by, known_with, of_id, settled, settled_with, step_among}
 use Rattle.babel_capture.specs.Gathering.{AreLeft, Gathering, IsRefused, RefusesSight}
 use Rattle.babel_capture.specs.Passage.{Passage, Sighting, clock_after, given_up, known_after, missing_at, missing_in, passage_to, passed_at, seen_at, sight_at, sight_in, sighting_as, sightings_at, sightings_skipped, skipped_of}
 use Rattle.babel_capture.specs.Passing.{GivesUp, Passed, passage_of_passed, ticked}
@@ -30,7 +31,7 @@ use Rattle.babel_capture.proofs.BackingLaws.{frame_backed}
 use Rattle.babel_capture.proofs.GatherLaws.{gather-both, refused-behind, refused-front, some-both, some-front}
 use Rattle.babel_capture.proofs.GivingLaws.{gives-all}
 
--- ---- how many are known after a fragment
+-- ---- how many lack fragments after one
 
 removed-fewer : {K X : Type 0} (test : K → Bool) (es : List (K × X)) → length (remove_entry test es) ≤ length es
 removed-fewer test [] = omega arith
@@ -57,8 +58,22 @@ changed-same : (known : Known) (fragment : Fragment) (found : Option (ℕ × Dat
 changed-same known fragment None = refl
 changed-same known fragment (Some one) = length-set_value (is_at (nat_cmp one.0)) known _
 
-begun-longer : (known : Known) (number at clock : ℕ) (within : Bool) (fragment : Fragment) → length (begun_in known number at clock within fragment) ≤ length known + 1
-begun-longer known number at clock within fragment = one-longer number (begins at clock within fragment) known
+begun-longer : (known : Datagrams) (number at clock : ℕ) (within : Bool) (fragment : Fragment) → length (begun_in known number at clock within fragment).unfinished ≤ length known.unfinished + 1
+begun-longer known number at clock within fragment = by (is_of_another fragment)
+  where
+    one : Datagram
+    one = begins at clock within fragment
+
+    by : (b : Bool) → length (cond b (record known { others = insert_entry nat_cmp known.others number one }) (record known { unfinished = insert_entry nat_cmp known.unfinished number one })).unfinished ≤ length known.unfinished + 1
+    by true = omega arith
+    by false = one-longer number one known.unfinished
+
+settled-fewer : (id : DatagramId) (known : Datagrams) → length (settled id known).unfinished ≤ length known.unfinished
+settled-fewer id known = by (of_id id known.unfinished)
+  where
+    by : (one : Option (ℕ × Datagram)) → length (settled_with (forgotten_among id known) one).unfinished ≤ length known.unfinished
+    by None = forgotten-fewer known.unfinished (of_id id known.unfinished)
+    by (Some one) = forgotten-fewer known.unfinished (of_id id known.unfinished)
 
 -- where none is found, or where it is no step that tells of one
 pub step-none : (step : Step) (found : Option (ℕ × Datagram)) → found ≡ None → (missing_at step found ≡ []) × (sight_at step found ≡ sights.other)
@@ -83,32 +98,43 @@ missing-few steps.Added found = omega arith
 missing-few steps.Completes found = omega arith
 missing-few steps.Anew found = omega arith
 
-known-few : (step : Step) (found : Option (ℕ × Datagram)) (known : Known) (number at clock : ℕ) (within : Bool) (fragment : Fragment)
-    → length (missing_at step found) + length (known_by step known number at clock within fragment) ≤ length known + 1
-known-few steps.Anew found known number at clock within fragment =
-    let fewer = forgotten-fewer known (of_id fragment.id known) in
-    let longer = begun-longer (forgotten fragment.id known) number at clock within fragment in
-    omega (arith, fewer, longer)
-known-few steps.Ignored found known number at clock within fragment = (let same = changed-same known fragment (of_id fragment.id known) in omega (arith, same))
-known-few steps.Added found known number at clock within fragment = (let same = changed-same known fragment (of_id fragment.id known) in omega (arith, same))
-known-few steps.Completes found known number at clock within fragment = (let same = changed-same known fragment (of_id fragment.id known) in omega (arith, same))
-known-few steps.Overlaps found known number at clock within fragment =
-    let same = changed-same known fragment (of_id fragment.id known) in
-    let few = missing-few steps.Overlaps found in
-    omega (arith, same, few)
+known-few : (step : Step) (found : Option (ℕ × Datagram)) (known : Datagrams) (number at clock : ℕ) (within : Bool) (fragment : Fragment)
+    → length (missing_at step found) + length (known_by step known number at clock within fragment).unfinished ≤ length known.unfinished + 1
+known-few step found known number at clock within fragment = by step
+  where
+    same : length (changed_among known fragment).unfinished ≡ length known.unfinished
+    same = changed-same known.unfinished fragment (of_id fragment.id known.unfinished)
 
-pub known-length : (found : Option (ℕ × Datagram)) (known : Known) (number at clock : ℕ) (within : Bool) (fragment : Fragment)
-    → length (missing_at (step_of known fragment) found) + length (known_with known number at clock within fragment) ≤ length known + 1
-known-length found known number at clock within fragment = known-few (step_of known fragment) found known number at clock within fragment
+    fewer : length (settled fragment.id (changed_among known fragment)).unfinished ≤ length (changed_among known fragment).unfinished
+    fewer = settled-fewer fragment.id (changed_among known fragment)
 
-pub known-longer : (known : Known) (number at clock : ℕ) (within : Bool) (fragment : Fragment) → length (known_with known number at clock within fragment) ≤ length known + 1
+    by : (s : Step) → length (missing_at s found) + length (known_by s known number at clock within fragment).unfinished ≤ length known.unfinished + 1
+    by steps.Anew =
+        let forgot = forgotten-fewer known.unfinished (of_id fragment.id known.unfinished) in
+        let longer = begun-longer (forgotten_among fragment.id known) number at clock within fragment in
+        omega (arith, forgot, longer)
+    by steps.Ignored = omega (arith, same)
+    by steps.Added = omega (arith, same)
+    by steps.Completes = omega (arith, same, fewer)
+    by steps.Overlaps = (let few = missing-few steps.Overlaps found in omega (arith, same, fewer, few))
+
+pub known-length : (found : Option (ℕ × Datagram)) (known : Datagrams) (number at clock : ℕ) (within : Bool) (fragment : Fragment)
+    → length (missing_at (step_among known fragment) found) + length (known_with known number at clock within fragment).unfinished ≤ length known.unfinished + 1
+known-length found known number at clock within fragment = known-few (step_among known fragment) found known number at clock within fragment
+
+pub known-longer : (known : Datagrams) (number at clock : ℕ) (within : Bool) (fragment : Fragment) → length (known_with known number at clock within fragment).unfinished ≤ length known.unfinished + 1
 known-longer known number at clock within fragment = (let few = known-length None known number at clock within fragment in omega (arith, few))
 
 -- ---- a packet
 
+one_known : (one another : Datagrams) → one.unfinished ≡ another.unfinished → one.others ≡ another.others → one ≡ another
+one_known one another unfinished others =
+    let of : Known → Known → Datagrams = λ u o. record { unfinished = u; others = o } in
+    let same : of one.unfinished one.others ≡ of another.unfinished another.others = cc in same
+
 one_passage : (one another : Passage) → one.count ≡ another.count → one.clock ≡ another.clock → one.known ≡ another.known → one ≡ another
 one_passage one another count clock known =
-    let of : ℕ → ℕ → Known → Passage = λ n c k. record { count = n; clock = c; known = k } in
+    let of : ℕ → ℕ → Datagrams → Passage = λ n c k. record { count = n; clock = c; known = k } in
     let same : of one.count one.clock one.known ≡ of another.count another.clock another.known = cc in same
 
 -- what is no fragment is seen as it is
@@ -124,18 +150,19 @@ pub refused-one : (wanted : Wanted) (senders : Senders) (number at : ℕ) (packe
     → IsRefused wanted senders (sighting_as number at packet what ∷ []) fault
 refused-one wanted senders number at packet what fault (of, finds, refuses) = (of, finds, inl refuses)
 
-module _ (old mid : Passed) (at : ℕ) (packet : Captured) (one : List Made) (gives : GivesUp (ticked old packet) mid one) (none : is_past mid.clock mid.known ≡ false) where
-  all-given : GatherMore old.gathering mid.gathering (missing_in (given_up (clock_after (passage_of_passed old) packet) old.known)) one
-      × AreLeft old.gathering.wanted (missing_in (given_up (clock_after (passage_of_passed old) packet) old.known))
-      × ((passage_to (passage_of_passed old) packet).known ≡ mid.known)
+module _ (old mid : Passed) (at : ℕ) (packet : Captured) (one : List Made) (gives : GivesUp (ticked old packet) mid one) (none : is_past mid.clock mid.known.unfinished ≡ false) where
+  all-given : GatherMore old.gathering mid.gathering (missing_in (given_up (clock_after (passage_of_passed old) packet) old.known.unfinished)) one
+      × AreLeft old.gathering.wanted (missing_in (given_up (clock_after (passage_of_passed old) packet) old.known.unfinished))
+      × ((passage_to (passage_of_passed old) packet).known.unfinished ≡ mid.known.unfinished)
   all-given = gives-all (ticked old packet) mid one none gives
 
   to-mid : passage_to (passage_of_passed old) packet ≡ passage_of_passed mid
-  to-mid = one_passage (passage_to (passage_of_passed old) packet) (passage_of_passed mid) (sym gives.1.packets) (sym gives.1.clock) all-given.2
+  to-mid = one_passage (passage_to (passage_of_passed old) packet) (passage_of_passed mid) (sym gives.1.packets) (sym gives.1.clock)
+      (one_known (passage_to (passage_of_passed old) packet).known mid.known all-given.2 (sym gives.1.others))
 
   -- what is seen at it is all that is seen but for those that are missing
   abbrev front : List Sighting
-  front = missing_in (given_up (clock_after (passage_of_passed old) packet) old.known)
+  front = missing_in (given_up (clock_after (passage_of_passed old) packet) old.known.unfinished)
 
   pub all-seen : (sights : List Sighting) → sights ≡ seen_at (passage_of_passed mid) at packet (sight_in packet) → sightings_at (passage_of_passed old) at packet ≡ front ++ sights
   all-seen sights are =
@@ -173,12 +200,12 @@ fits-of packet fragment is =
 
 -- where one is refused that is given up, whatever is seen after it
 pub some-given : (old : Passed) (packet : Captured) (sights : List Sighting) (more : List Made)
-    → GatherSome old.gathering (missing_in (given_up (clock_after (passage_of_passed old) packet) old.known)) more
-    → GatherSome old.gathering (missing_in (given_up (clock_after (passage_of_passed old) packet) old.known) ++ sights) more
-some-given old packet sights more = some-front old.gathering (missing_in (given_up (clock_after (passage_of_passed old) packet) old.known)) sights more
+    → GatherSome old.gathering (missing_in (given_up (clock_after (passage_of_passed old) packet) old.known.unfinished)) more
+    → GatherSome old.gathering (missing_in (given_up (clock_after (passage_of_passed old) packet) old.known.unfinished) ++ sights) more
+some-given old packet sights more = some-front old.gathering (missing_in (given_up (clock_after (passage_of_passed old) packet) old.known.unfinished)) sights more
 
 pub refused-given : (old : Passed) (packet : Captured) (sights : List Sighting) (fault : Fault)
-    → IsRefused old.gathering.wanted old.gathering.senders (missing_in (given_up (clock_after (passage_of_passed old) packet) old.known)) fault
-    → IsRefused old.gathering.wanted old.gathering.senders (missing_in (given_up (clock_after (passage_of_passed old) packet) old.known) ++ sights) fault
+    → IsRefused old.gathering.wanted old.gathering.senders (missing_in (given_up (clock_after (passage_of_passed old) packet) old.known.unfinished)) fault
+    → IsRefused old.gathering.wanted old.gathering.senders (missing_in (given_up (clock_after (passage_of_passed old) packet) old.known.unfinished) ++ sights) fault
 refused-given old packet sights fault =
-    refused-front old.gathering.wanted old.gathering.senders (missing_in (given_up (clock_after (passage_of_passed old) packet) old.known)) sights fault
+    refused-front old.gathering.wanted old.gathering.senders (missing_in (given_up (clock_after (passage_of_passed old) packet) old.known.unfinished)) sights fault

@@ -1,5 +1,5 @@
 -- Fragments of one datagram, none of which overlap, are put together in whatever order they come.
-use Rattle.std.proofs.Common.{◌≡◌, ◌≤◌, ◌<◌, ◌+◌, ◌-◌, ℕ, ◌⊎◌, inl, inr, max, Bool, true, false, not, ◌||◌, ◌&&◌, ◌==◌, cond, Option, None, Some, List, [], ◌∷◌, ◌++◌, length, take, drop, refl, sym, ap, subst, ◌∙◌, arith}
+use Rattle.std.proofs.Common.{◌≡◌, ◌≤◌, ◌<◌, ◌+◌, ◌-◌, ℕ, ◌⊎◌, inl, inr, max, Bool, true, false, not, ◌||◌, ◌&&◌, ◌==◌, cond, Option, None, Some, List, [], ◌∷◌, ◌++◌, length, take, drop, refl, sym, ap, subst, ◌∙◌, arith, unwrap_or}
 use Rattle.std.specs.Prelude.{nat_lt, if◌then◌else◌, sum_by, is_some}
 use Rattle.std.specs.Cmp.{nat_cmp_is}
 use Rattle.std.specs.declared.cmp.Ordering.TheVariants.{Less, Greater}
@@ -22,7 +22,7 @@ use Rattle.babel_capture.specs.declared.datagram.Step.TheVariants as steps
 use Rattle.babel_capture.specs.declared.fragment.DatagramId.{DatagramId}
 use Rattle.babel_capture.specs.declared.fragment.UdpPlace.{UdpPlace}
 use Rattle.babel_capture.specs.declared.pieces.Meeting.TheVariants as meetings
-use Rattle.babel_capture.specs.Fragments.{begins, begun, ends_of, is_of_another, step_by, step_in, step_to_open, step_with, stepped, whole_by, whole_sight, with_fragment}
+use Rattle.babel_capture.specs.Fragments.{begins, begun, ends_of, is_of_another, step_by, step_in, settled_step_of, step_to_open, stepped, whole_by, whole_sight, with_fragment}
 use Rattle.babel_capture.specs.Passage.{Sighting, missing_at, sight_at, sighting_as}
 use Rattle.babel_capture.specs.LaidOut.{udp_octets}
 use Rattle.babel_capture.specs.Pieces.{Fragment, KeptPiece, KeptPieces, end_of, furthest, is_last, is_whole, joined, len_of, meeting, meeting_with, piece_of, share}
@@ -408,7 +408,8 @@ is_read_then headers babel udp at came ends_within first between last is_babel m
     let told : Step → ℕ × Datagram → List Sighting = λ s d. missing_at s (Some d) ++ sighting_as (before.count + 1) block packet (sight_at s (Some d)) ∷ [] in
     let by : Option (ℕ × Datagram) → List Sighting = λ o.
     let f : ℕ × Datagram → ℕ × Datagram = λ d. (d.0, stepped d.1 last (step_in d.1 last)) in
-    missing_at (step_with last o) (option_map f o) ++ sighting_as (before.count + 1) block packet (sight_at (step_with last o) (option_map f o)) ∷ [] in
+    let step : Step = unwrap_or (option_or (option_map (λ (d : ℕ × Datagram). step_in d.1 last) o) (settled_step_of before.known.others last)) steps.Anew in
+    missing_at step (option_map f o) ++ sighting_as (before.count + 1) block packet (sight_at step (option_map f o)) ∷ [] in
     let sight = whole.1 ∙ ap (λ (l : List ℕ). udp_sight first.id.origin.place (ends_of first.id) false l (length sent - udp.at)) (octets ∙ sym (append-nil (udp_octets babel)))
     ∙ ap (λ (n : ℕ). udp_sight first.id.origin.place (ends_of first.id) false (udp_octets babel ++ []) n) len
     ∙ udp_laid_out first.id.origin.place (ends_of first.id) babel [] (length (udp_octets babel)) is_babel may (omega arith) in

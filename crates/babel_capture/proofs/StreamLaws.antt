@@ -270,10 +270,10 @@ module _ (limit : Extent) (progress : Progress) (pending fed : List ℕ) (taken 
   partial-behind = subst (λ (n : ℕ). IsPartial (context_behind (start limit) blocks) n taken.rest) place_is
       (subst (λ (c : Before). IsPartial c progress.at taken.rest) taken.leads.context taken.partial)
 
-  missing-here : missing_in progress.known ≡ missing_in (passage_of blocks).known
-  missing-here = ap (λ (p : Passage). missing_in p.known) taken.leads.passage
+  missing-here : missing_in progress.known.unfinished ≡ missing_in (passage_of blocks).known.unfinished
+  missing-here = ap (λ (p : Passage). missing_in p.known.unfinished) taken.leads.passage
 
-  pub lost-here : (fault : Fault) → IsRefused progress.gathering.wanted progress.gathering.senders (missing_in progress.known) fault → EndsLost limit progress.gathering.wanted fed fault
+  pub lost-here : (fault : Fault) → IsRefused progress.gathering.wanted progress.gathering.senders (missing_in progress.known.unfinished) fault → EndsLost limit progress.gathering.wanted fed fault
   lost-here fault refuses = record {
     blocks = blocks;
     rest = taken.rest;
@@ -282,15 +282,15 @@ module _ (limit : Extent) (progress : Progress) (pending fed : List ℕ) (taken 
     are_blocks = taken.leads.are_blocks;
     taken = taken.leads.gathered.taken;
     partial = partial-behind;
-    lost = subst (λ (s : Senders). IsRefused progress.gathering.wanted s (missing_in (passage_of blocks).known) fault) taken.leads.gathered.senders
+    lost = subst (λ (s : Senders). IsRefused progress.gathering.wanted s (missing_in (passage_of blocks).known.unfinished) fault) taken.leads.gathered.senders
         (subst (λ (s : List Sighting). IsRefused progress.gathering.wanted progress.gathering.senders s fault) missing-here refuses);
   }
 
-  pub ends-lost : (fault : Fault) → IsRefused progress.gathering.wanted progress.gathering.senders (missing_in progress.known) fault → CaptureFault limit progress.gathering.wanted fed fault
+  pub ends-lost : (fault : Fault) → IsRefused progress.gathering.wanted progress.gathering.senders (missing_in progress.known.unfinished) fault → CaptureFault limit progress.gathering.wanted fed fault
   ends-lost fault refuses = inr (inr (lost-here fault refuses))
 
   -- where the datagrams that are known are taken, of which fragments are missing
-  module _ (new : Gathering) (more : List Made) (goes : GatherMore progress.gathering new (missing_in progress.known) more) where
+  module _ (new : Gathering) (more : List Made) (goes : GatherMore progress.gathering new (missing_in progress.known.unfinished) more) where
     at-end : (now : IsGathered (sightings_to_end blocks) new) × (now.made ≡ taken.leads.gathered.made ++ more)
     at-end = subst (λ (s : List Sighting). (now : IsGathered (sightings_of blocks ++ s) new) × (now.made ≡ taken.leads.gathered.made ++ more)) missing-here
         (goes (sightings_of blocks) taken.leads.gathered)
@@ -334,12 +334,12 @@ module _ (limit : Extent) (progress : Progress) (pending fed : List ℕ) (taken 
     )
 
 pub told-to-end : (progress : Progress) (pending : List ℕ) (new : Gathering) (cut : Option ℕ) → HasStarted progress.context → new.names ≡ progress.gathering.names
-    → ((pending ≡ []) × (cut ≡ None)) ⊎ ((pending ≢ []) × (cut ≡ Some progress.at)) → (more : List Made) → GatherMore progress.gathering new (missing_in progress.known) more
+    → ((pending ≡ []) × (cut ≡ None)) ⊎ ((pending ≢ []) × (cut ≡ Some progress.at)) → (more : List Made) → GatherMore progress.gathering new (missing_in progress.known.unfinished) more
     → EndMore progress pending new cut more
 told-to-end progress pending new cut started names which more goes limit fed taken = read-to-end limit progress pending fed taken new more goes cut started names which
 
 pub not-started : (progress : Progress) (pending : List ℕ) (new : Gathering) → ¬ HasStarted progress.context → new.wanted ≡ progress.gathering.wanted
-    → (more : List Made) → GatherMore progress.gathering new (missing_in progress.known) more → (limit : Extent) (fed : List ℕ) → HasTaken limit progress pending fed
+    → (more : List Made) → GatherMore progress.gathering new (missing_in progress.known.unfinished) more → (limit : Extent) (fed : List ℕ) → HasTaken limit progress pending fed
     → CaptureFault limit progress.gathering.wanted fed faults.NotCapture
 not-started progress pending new not same more goes limit fed taken = ends-short limit progress pending fed taken new more goes faults.NotCapture same (inl (not, refl))
 

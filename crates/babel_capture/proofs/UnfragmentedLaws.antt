@@ -3,15 +3,18 @@ use Rattle.std.proofs.Common.{◌≡◌, ◌+◌, ℕ, List, [], ◌∷◌, ◌+
 use Rattle.std.proofs.lemmas.List.{append-nil}
 use Rattle.babel_capture.specs.Blocks.{BlockAt, passage_after, passage_behind, sightings_behind, sightings_in, sightings_of}
 use Rattle.babel_capture.specs.Contents.{Captured, Content, file, section, describes, holds, skips, nothing}
-use Rattle.babel_capture.specs.Fragments.{Known, clock_at}
+use Rattle.babel_capture.specs.Fragments.{Datagrams, clock_at}
 use Rattle.babel_capture.specs.Passage.{Passage, Sighting, known_after, missing_in, seen_at, sight_in, sighting_as}
 use Rattle.babel_capture.specs.Sight.{Sight, other, too_short, fragmented, datagram}
 use Rattle.babel_capture.specs.Times.{time_in}
 use Rattle.babel_capture.specs.Unfragmented.{HasNoFragment, HaveNoFragments, IsUnfragmented, UnfragmentedIsOneByOne, one_by_one, one_by_one_in}
 
+abbrev nothing_known : Datagrams
+nothing_known = record { unfinished = []; others = [] }
+
 -- so many packets were passed up to then, and no datagram is known
 abbrev passage : ℕ → ℕ → Passage
-passage count clock = record { count = count; clock = clock; known = [] }
+passage count clock = record { count = count; clock = clock; known = nothing_known }
 
 seen-so : (before : Passage) (at : ℕ) (packet : Captured) (what : Sight) → IsUnfragmented what
     → (seen_at before at packet what ≡ sighting_as (before.count + 1) at packet what ∷ []) × (known_after before at packet.ends_within what ≡ before.known)
@@ -47,7 +50,7 @@ one count clock at (skips packet) is =
     record {
       later = moved;
       same = refl;
-      after = ap (λ (k : Known). record { count = count + 1; clock = moved; known = k }) seen.1;
+      after = ap (λ (k : Datagrams). record { count = count + 1; clock = moved; known = k }) seen.1;
     }
 one count clock at (holds packet) is =
     let moved = clock_at clock (time_in packet.moment) in
@@ -55,11 +58,11 @@ one count clock at (holds packet) is =
     record {
       later = moved;
       same = seen.0;
-      after = ap (λ (k : Known). record { count = count + 1; clock = moved; known = k }) seen.1;
+      after = ap (λ (k : Datagrams). record { count = count + 1; clock = moved; known = k }) seen.1;
     }
 
 each : (count clock : ℕ) (blocks : List BlockAt) → HaveNoFragments blocks
-    → (sightings_behind (passage count clock) blocks ≡ one_by_one count blocks) × ((passage_behind (passage count clock) blocks).known ≡ [])
+    → (sightings_behind (passage count clock) blocks ≡ one_by_one count blocks) × ((passage_behind (passage count clock) blocks).known ≡ nothing_known)
 each count clock [] are = (refl, refl)
 each count clock (block ∷ blocks) are =
     let first = one count clock block.at block.content are.0 in
@@ -73,4 +76,4 @@ each count clock (block ∷ blocks) are =
 pub unfragmented_is_one_by_one : UnfragmentedIsOneByOne
 unfragmented_is_one_by_one blocks are =
     let all = each 0 0 blocks are in
-    ap (λ (k : Known). sightings_of blocks ++ missing_in k) all.1 ∙ append-nil (sightings_of blocks) ∙ all.0
+    ap (λ (k : Datagrams). sightings_of blocks ++ missing_in k.unfinished) all.1 ∙ append-nil (sightings_of blocks) ∙ all.0

@@ -116,7 +116,7 @@ passage_behind before (block ∷ blocks) =
     passage_behind (passage_after before block.at block.content) blocks
 
 abbrev pub no_passage : Passage
-no_passage = record { count = 0; clock = 0; known = [] }
+no_passage = record { count = 0; clock = 0; known = record { unfinished = []; others = [] } }
 
 abbrev pub sightings_of : List BlockAt → List Sighting
 sightings_of blocks = sightings_behind no_passage blocks
@@ -126,4 +126,4 @@ passage_of blocks = passage_behind no_passage blocks
 
 -- and where nothing comes after them, fragments are missing of the datagrams that are known still
 abbrev pub sightings_to_end : List BlockAt → List Sighting
-sightings_to_end blocks = sightings_of blocks ++ missing_in (passage_of blocks).known
+sightings_to_end blocks = sightings_of blocks ++ missing_in (passage_of blocks).known.unfinished

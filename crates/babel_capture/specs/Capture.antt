@@ -67,7 +67,7 @@ pub record EndsLost (limit : Extent) (wanted : Wanted) (octets : List ℕ)
   pub taken : AreTaken wanted (sightings_of blocks) made
   pub partial : IsPartial (context_behind (start limit) blocks) (length (octets_of blocks)) rest
   pub lost : IsRefused wanted (senders_listed wanted.are_listed made)
-      (missing_in (passage_of blocks).known) fault
+      (missing_in (passage_of blocks).known.unfinished) fault
 
 -- the fault of octets that are no capture, or none that can be read
 abbrev pub CaptureFault : Extent → Wanted → List ℕ → Fault → Type 0

@@ -94,12 +94,17 @@ abbrev pub step_to_other : Fragment → Step
 step_to_other fragment = if is_some fragment.udp then steps.Anew else steps.Ignored
 
 -- and to one that was dropped: it is dropped with it
+abbrev pub step_to_settled : Datagram → Fragment → Standing → Step
+step_to_settled datagram fragment standings.Whole =
+    step_to_whole (meeting datagram.pieces fragment)
+step_to_settled datagram fragment standings.Other = step_to_other fragment
+step_to_settled datagram fragment standing = steps.Ignored
+
+-- and so to each
 abbrev pub step_by : Datagram → Fragment → Standing → Step
 step_by datagram fragment standings.Open =
     step_to_open datagram fragment (meeting datagram.pieces fragment)
-step_by datagram fragment standings.Whole = step_to_whole (meeting datagram.pieces fragment)
-step_by datagram fragment standings.Other = step_to_other fragment
-step_by datagram fragment standings.Dropped = steps.Ignored
+step_by datagram fragment standing = step_to_settled datagram fragment standing
 
 abbrev pub step_in : Datagram → Fragment → Step
 step_in datagram fragment = step_by datagram fragment datagram.standing
@@ -139,7 +144,12 @@ whole_by datagram None = sights.other
 abbrev pub whole_sight : Datagram → Sight
 whole_sight datagram = whole_by datagram datagram.udp
 
--- ---- all that are known
+-- whether fragments of it are missing
+abbrev pub is_open : Standing → Bool
+is_open standings.Open = true
+is_open standing = false
+
+-- ---- datagrams that are known
 
 -- each by the number of the packet that the first of its fragments to come came in, so that the
 -- oldest stands first
@@ -152,26 +162,11 @@ of_id id known = find (λ one. is_at (id_cmp id) one.1.id) known
 abbrev pub octets_in : Known → ℕ
 octets_in known = sum_by (λ datagram. len_of datagram.pieces) (values_of known)
 
--- how many of them lack fragments, of which each is one or none
-abbrev pub is_open : Standing → Bool
-is_open standings.Open = true
-is_open standing = false
+-- what a fragment is to the one of its identification, if that is known
+abbrev pub step_of : Known → Fragment → Option Step
+step_of known fragment = option_map (λ one. step_in one.1 fragment) (of_id fragment.id known)
 
-abbrev pub as_open : Datagram → ℕ
-as_open datagram = if is_open datagram.standing then 1 else 0
-
-abbrev pub open_in : Known → ℕ
-open_in known = sum_by as_open (values_of known)
-
--- what a fragment is to them
-abbrev pub step_with : Fragment → Option (ℕ × Datagram) → Step
-step_with fragment None = steps.Anew
-step_with fragment (Some one) = step_in one.1 fragment
-
-abbrev pub step_of : Known → Fragment → Step
-step_of known fragment = step_with fragment (of_id fragment.id known)
-
--- they are so after that, but for a datagram that it begins anew
+-- they are so after that
 abbrev pub changed_with : Known → Fragment → Option (ℕ × Datagram) → Known
 changed_with known fragment None = known
 changed_with known fragment (Some one) =
@@ -194,20 +189,68 @@ forgotten_with known (Some one) = remove_entry (is_at (nat_cmp one.0)) known
 abbrev pub forgotten : DatagramId → Known → Known
 forgotten id known = forgotten_with known (of_id id known)
 
--- a datagram begins anew with a fragment, in place of one of the same identification
-abbrev pub begun_in : Known → (number at came : ℕ) → (ends_within : Bool) → Fragment → Known
+-- ---- all of them
+
+-- those that lack fragments, and the others, which are whole, dropped or none of Babel's
+pub record Datagrams : Type 0 where
+  pub unfinished : Known
+  pub others : Known
+
+-- what a fragment is to one of the others
+abbrev pub settled_step_of : Known → Fragment → Option Step
+settled_step_of others fragment =
+    option_map (λ one. step_to_settled one.1 fragment one.1.standing) (of_id fragment.id others)
+
+-- and to all: where none of its identification is known, it begins one
+abbrev pub step_among : Datagrams → Fragment → Step
+step_among known fragment =
+    unwrap_or
+    (option_or (step_of known.unfinished fragment) (settled_step_of known.others fragment))
+    steps.Anew
+
+abbrev pub changed_among : Datagrams → Fragment → Datagrams
+changed_among known fragment =
+    record known { unfinished = changed known.unfinished fragment }
+
+abbrev pub forgotten_among : DatagramId → Datagrams → Datagrams
+forgotten_among id known = record {
+  unfinished = forgotten id known.unfinished;
+  others = forgotten id known.others;
+}
+
+-- one that lacks none, or was dropped, is one of the others
+abbrev pub settled_with : Datagrams → Option (ℕ × Datagram) → Datagrams
+settled_with known None = known
+settled_with known (Some one) =
+    record known { others = insert_entry nat_cmp known.others one.0 one.1 }
+
+abbrev pub settled : DatagramId → Datagrams → Datagrams
+settled id known = settled_with (forgotten_among id known) (of_id id known.unfinished)
+
+-- a datagram begins with a fragment: one that is none of Babel's is one of the others
+abbrev pub begun_in : Datagrams → (number at came : ℕ) → (ends_within : Bool) → Fragment
+    → Datagrams
 begun_in known number at came ends_within fragment =
-    insert_entry nat_cmp known number (begins at came ends_within fragment)
+    let one : Datagram = begins at came ends_within fragment in
+    if is_of_another fragment
+    then record known { others = insert_entry nat_cmp known.others number one }
+    else record known { unfinished = insert_entry nat_cmp known.unfinished number one }
 
-abbrev pub known_by : Step → Known → (number at came : ℕ) → (ends_within : Bool) → Fragment
-    → Known
+-- after a fragment: one that it begins takes the place of one of the same identification
+abbrev pub known_by : Step → Datagrams → (number at came : ℕ) → (ends_within : Bool) → Fragment
+    → Datagrams
 known_by steps.Anew known number at came ends_within fragment =
-    begun_in (forgotten fragment.id known) number at came ends_within fragment
-known_by other known number at came ends_within fragment = changed known fragment
+    begun_in (forgotten_among fragment.id known) number at came ends_within fragment
+known_by steps.Completes known number at came ends_within fragment =
+    settled fragment.id (changed_among known fragment)
+known_by steps.Overlaps known number at came ends_within fragment =
+    settled fragment.id (changed_among known fragment)
+known_by other known number at came ends_within fragment = changed_among known fragment
 
-abbrev pub known_with : Known → (number at came : ℕ) → (ends_within : Bool) → Fragment → Known
+abbrev pub known_with : Datagrams → (number at came : ℕ) → (ends_within : Bool) → Fragment
+    → Datagrams
 known_with known number at came ends_within fragment =
-    known_by (step_of known fragment) known number at came ends_within fragment
+    known_by (step_among known fragment) known number at came ends_within fragment
 
 -- ---- what is given up
 
@@ -216,20 +259,18 @@ known_with known number at came ends_within fragment =
 pub record Reassembly : Type 0 where
   pub clock : ℕ
   pub last : ℕ
-  pub known : Known
+  pub known : Datagrams
 
 -- RFC 8200, 4.5: more than 60 seconds passed after its first fragment to come
 abbrev pub is_old : (clock : ℕ) → Datagram → Bool
 is_old clock datagram = nat_lt 60000000000 (clock - datagram.came)
 
--- more than 65,536 lack fragments, or more than 65,536 others are known, or all are of more than
--- 16 MiB
+-- they are more than 65,536, or of more than 16 MiB
 abbrev pub are_too_many : Known → Bool
-are_too_many known =
-    nat_lt 65536 (open_in known)
-    || (nat_lt (open_in known + 65536) (length known) || nat_lt 16777216 (octets_in known))
+are_too_many known = nat_lt 65536 (length known) || nat_lt 16777216 (octets_in known)
 
--- the oldest one is given up: it is old, or they are too many
+-- the oldest of those that lack fragments, or of the others, is given up: it is old, or they are
+-- too many
 abbrev pub is_past : (clock : ℕ) → Known → Bool
 is_past clock [] = false
 is_past clock (oldest ∷ known) =

@@ -10,8 +10,9 @@ use Rattle.babel_capture.specs.declared.datagram.Step.TheVariants as steps
 use Rattle.babel_capture.specs.declared.link.Link.{Link}
 use Rattle.babel_capture.specs.declared.link.Link.TheVariants as links
 use Rattle.babel_capture.specs.Contents.{Captured}
-use Rattle.babel_capture.specs.Fragments.{Known, clock_at, is_open, is_past, known_with, lost_sight}
-use Rattle.babel_capture.specs.Fragments.{of_id_after, step_of, whole_sight}
+use Rattle.babel_capture.specs.Fragments.{Datagrams, Known, clock_at, is_open, is_past}
+use Rattle.babel_capture.specs.Fragments.{known_with, lost_sight, of_id_after, step_among}
+use Rattle.babel_capture.specs.Fragments.{whole_sight}
 use Rattle.babel_capture.specs.Frame.{frame_sight}
 use Rattle.babel_capture.specs.Pieces.{Fragment}
 use Rattle.babel_capture.specs.Sight.{Sight, other, fragmented, datagram, carries}
@@ -58,7 +59,9 @@ sighting_as number at packet what = record {
 
 -- ---- datagrams that come in fragments
 
--- the datagrams that are given up, the oldest first, and those that are not
+-- The datagrams that are given up, the oldest first, and those that are not, of those that lack
+-- fragments. Those and the others are given up each for themselves, so that no others give up one
+-- that lacks fragments.
 abbrev pub given_up : (clock : ℕ) → Known → Known
 given_up clock [] = []
 given_up clock (oldest ∷ known) =
@@ -68,6 +71,12 @@ abbrev pub left_known : (clock : ℕ) → Known → Known
 left_known clock [] = []
 left_known clock (oldest ∷ known) =
     if is_past clock (oldest ∷ known) then left_known clock known else oldest ∷ known
+
+abbrev pub left_among : (clock : ℕ) → Datagrams → Datagrams
+left_among clock known = record {
+  unfinished = left_known clock known.unfinished;
+  others = left_known clock known.others;
+}
 
 -- it counts if fragments of it are missing, where its 60 seconds end within the window
 abbrev pub is_lost : Datagram → Bool
@@ -103,14 +112,14 @@ missing_at step one = []
 pub record Passage : Type 0 where
   pub count : ℕ
   pub clock : ℕ
-  pub known : Known
+  pub known : Datagrams
 
 -- what is seen at the next packet, in the block at this offset, which is seen so: a fragment as the
 -- datagram that it completes
 abbrev pub fragment_sightings : Passage → ℕ → Captured → Fragment → List Sighting
 fragment_sightings before at packet fragment =
-    let step = step_of before.known fragment in
-    let found = of_id_after before.known fragment in
+    let step = step_among before.known fragment in
+    let found = of_id_after before.known.unfinished fragment in
     missing_at step found
     ++ sighting_as (before.count + 1) at packet (sight_at step found) ∷ []
 
@@ -119,7 +128,7 @@ seen_at before at packet (fragmented fragment) = fragment_sightings before at pa
 seen_at before at packet what = sighting_as (before.count + 1) at packet what ∷ []
 
 -- and the datagrams that are known after it
-abbrev pub known_after : Passage → ℕ → (ends_within : Bool) → Sight → Known
+abbrev pub known_after : Passage → ℕ → (ends_within : Bool) → Sight → Datagrams
 known_after before at ends_within (fragmented fragment) =
     known_with before.known (before.count + 1) at before.clock ends_within fragment
 known_after before at ends_within what = before.known
@@ -132,7 +141,7 @@ abbrev pub passage_to : Passage → Captured → Passage
 passage_to before packet = record {
   count = before.count;
   clock = clock_after before packet;
-  known = left_known (clock_after before packet) before.known;
+  known = left_among (clock_after before packet) before.known;
 }
 
 -- nothing is seen of one that is skipped
@@ -149,12 +158,12 @@ skipped_of number at packet = record {
 -- is one of its datagram whenever it came
 abbrev pub sightings_at : Passage → ℕ → Captured → List Sighting
 sightings_at before at packet =
-    missing_in (given_up (clock_after before packet) before.known)
+    missing_in (given_up (clock_after before packet) before.known.unfinished)
     ++ seen_at (passage_to before packet) at packet (sight_in packet)
 
 abbrev pub sightings_skipped : Passage → ℕ → Captured → List Sighting
 sightings_skipped before at packet =
-    missing_in (given_up (clock_after before packet) before.known)
+    missing_in (given_up (clock_after before packet) before.known.unfinished)
     ++ skipped_of (before.count + 1) at packet ∷ []
 
 abbrev pub passed_at : Passage → ℕ → Captured → Passage

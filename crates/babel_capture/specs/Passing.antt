@@ -2,7 +2,7 @@
 use Rattle.std.specs.Prelude.{◌≡◌, ℕ, List, ◌++◌}
 use Rattle.babel_capture.specs.Contents.{Captured}
 use Rattle.babel_capture.specs.Counts.{Made}
-use Rattle.babel_capture.specs.Fragments.{Known}
+use Rattle.babel_capture.specs.Fragments.{Datagrams}
 use Rattle.babel_capture.specs.Gathering.{AreLeft, Gathering}
 use Rattle.babel_capture.specs.Passage.{Passage, Sighting, clock_after, given_up, left_known}
 use Rattle.babel_capture.specs.Passage.{missing_in}
@@ -12,7 +12,7 @@ use Rattle.babel_capture.specs.Sinking.{GatherMore}
 pub record Passed : Type 0 where
   pub gathering : Gathering
   pub clock : ℕ
-  pub known : Known
+  pub known : Datagrams
 
 abbrev pub passage_of_passed : Passed → Passage
 passage_of_passed passed = record {
@@ -21,16 +21,22 @@ passage_of_passed passed = record {
   known = passed.known;
 }
 
--- once the time of this packet moved the clock
+-- once the time of this packet moved the clock, and gave up others than those that lack fragments
 abbrev pub ticked : Passed → Captured → Passed
 ticked passed packet =
-    record passed { clock = clock_after (passage_of_passed passed) packet }
+    let clock : ℕ = clock_after (passage_of_passed passed) packet in
+    record passed {
+      clock = clock;
+      known = record passed.known { others = left_known clock passed.known.others };
+    }
 
 -- these were given up, so that it goes from the one to the other
 pub record AreGivenUp (old new : Passed) (sightings : List Sighting) : Type 0 where
-  pub parts : missing_in (given_up old.clock old.known)
-      ≡ sightings ++ missing_in (given_up new.clock new.known)
-  pub left : left_known old.clock old.known ≡ left_known new.clock new.known
+  pub parts : missing_in (given_up old.clock old.known.unfinished)
+      ≡ sightings ++ missing_in (given_up new.clock new.known.unfinished)
+  pub left : left_known old.clock old.known.unfinished
+      ≡ left_known new.clock new.known.unfinished
+  pub others : new.known.others ≡ old.known.others
   pub clock : new.clock ≡ old.clock
   pub packets : new.gathering.report.packets ≡ old.gathering.report.packets
   pub senders : new.gathering.senders ≡ old.gathering.senders
@@ -45,7 +51,7 @@ GivesUp old new more =
 
 -- at the end of a capture all of them are
 pub record AreLast (old new : Passed) (sightings : List Sighting) : Type 0 where
-  pub parts : missing_in old.known ≡ sightings ++ missing_in new.known
+  pub parts : missing_in old.known.unfinished ≡ sightings ++ missing_in new.known.unfinished
   pub senders : new.gathering.senders ≡ old.gathering.senders
   pub names : new.gathering.names ≡ old.gathering.names
   pub wanted : new.gathering.wanted ≡ old.gathering.wanted

@@ -68,7 +68,8 @@ PutTogetherIsRead =
     (first : Fragment) (between : List Fragment) (last : Fragment)
     → IsBabel babel → may_send first.id.origin.sender ≡ true → udp.at ≡ length headers
     → AreAllParts (headers ++ udp_octets babel) udp (first ∷ (between ++ last ∷ []))
-    → (before : Passage) (number block : ℕ) (packet : Captured) → of_id last.id before.known
+    → (before : Passage) (number block : ℕ) (packet : Captured)
+    → of_id last.id before.known.unfinished
     ≡ Some (number, after_fragments (begins at came ends_within first) between)
     → seen_at before block packet (fragmented last) ≡ seen_at before block packet
     (datagram first.id.origin.place (ends_of first.id) (carries babel.payload))

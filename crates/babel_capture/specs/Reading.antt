@@ -12,7 +12,7 @@ use Rattle.babel_capture.specs.Blocks.{passage_of, sightings_in, sightings_of}
 use Rattle.babel_capture.specs.Contents.{Content, block_said}
 use Rattle.babel_capture.specs.Context.{Before}
 use Rattle.babel_capture.specs.Counts.{Made}
-use Rattle.babel_capture.specs.Fragments.{Known}
+use Rattle.babel_capture.specs.Fragments.{Datagrams}
 use Rattle.babel_capture.specs.Gathering.{AreTaken, BlockNeedsMemory, Gathering, IsGathered}
 use Rattle.babel_capture.specs.Gathering.{IsRefused}
 use Rattle.babel_capture.specs.Lengths.{block_len}
@@ -27,7 +27,7 @@ pub record Progress : Type 0 where
   pub context : Before
   pub gathering : Gathering
   pub clock : ℕ
-  pub known : Known
+  pub known : Datagrams
   pub at : ℕ
   pub passed : ℕ
 

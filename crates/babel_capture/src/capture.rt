@@ -208,7 +208,7 @@ impl Capture {
         ensures not_cut { self.old.fault ≡ None
             → IfErr result (λ fault. (fault ≡ Fault.NotCapture)
             ⊎ IsRefused self.old.progress.gathering.wanted self.old.progress.gathering.senders
-            (missing_in self.old.progress.known) fault) }
+            (missing_in self.old.progress.known.unfinished) fault) }
         ensures fault { IfErr result (λ fault. fault ≢ Fault.Memory → (fed : List ℕ)
             → HasRead self.old fed
             → CaptureFault self.old.limit self.old.progress.gathering.wanted fed fault) }
@@ -218,7 +218,8 @@ impl Capture {
         ensures sunk { IfOk result (λ cut. Sinks S.has sink.old sink.new (EndMore
             self.old.progress self.old.pending self.new.progress.gathering cut)) }
         ensures stopped { self.old.fault ≡ None → IfErr result (λ _. Sinks S.has sink.old sink.new
-            (GatherSome self.old.progress.gathering (missing_in self.old.progress.known))) }
+            (GatherSome self.old.progress.gathering
+            (missing_in self.old.progress.known.unfinished))) }
 
         // It takes no memory.
         ensures memory { IfErr result (λ fault. fault ≡ Fault.Memory
@@ -239,7 +240,7 @@ impl Capture {
         ensures not_cut { self.fault ≡ None
             → IfErr result (λ fault. (fault ≡ Fault.NotCapture)
             ⊎ IsRefused self.progress.gathering.wanted self.progress.gathering.senders
-            (missing_in self.progress.known) fault) }
+            (missing_in self.progress.known.unfinished) fault) }
         ensures fault { IfErr result (λ fault. fault ≢ Fault.Memory → (fed : List ℕ)
             → HasRead self fed
             → CaptureFault self.limit self.progress.gathering.wanted fed fault) }
@@ -247,7 +248,7 @@ impl Capture {
         ensures sunk { IfOk result (λ given. Sinks S.has sink.old sink.new (EndMore
             self.progress self.pending given.0 given.1)) }
         ensures stopped { self.fault ≡ None → IfErr result (λ _. Sinks S.has sink.old sink.new
-            (GatherSome self.progress.gathering (missing_in self.progress.known))) }
+            (GatherSome self.progress.gathering (missing_in self.progress.known.unfinished))) }
 
         // It takes no memory.
         ensures memory { IfErr result (λ fault. fault ≡ Fault.Memory

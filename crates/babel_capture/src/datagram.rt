@@ -1,7 +1,7 @@
 ghost use Rattle.std.specs.Prelude.{◌≡◌, ◌+◌, ◌^◌, ◌<◌, IfOk, OnErr, false};
 ghost use Rattle.std.specs.Map.{values_of};
-ghost use Rattle.babel_capture.specs.Fragments.{as_open, begins, is_of_another, is_open, step_in};
-ghost use Rattle.babel_capture.specs.Fragments.{step_to_other, step_to_whole};
+ghost use Rattle.babel_capture.specs.Fragments.{begins, is_of_another, is_open, step_in};
+ghost use Rattle.babel_capture.specs.Fragments.{step_to_other, step_to_settled, step_to_whole};
 ghost use Rattle.babel_capture.specs.Fragments.{lost_sight, stepped, whole_sight};
 ghost use Rattle.babel_capture.specs.Passage.{is_lost};
 ghost use Rattle.babel_capture.specs.Pieces.{fragment_of, joined, meeting};
@@ -63,7 +63,7 @@ pub(crate) enum Step {
 }
 
 /// Whether the fragment is the first one of a datagram that is not Babel's.
-fn is_of_another(fragment: &Fragment<'_>) -> bool
+pub(crate) fn is_of_another(fragment: &Fragment<'_>) -> bool
     ensures { result ≡ is_of_another (fragment_of fragment.now) }
 {
     fragment.offset == 0 && fragment.udp.is_none()
@@ -96,13 +96,6 @@ impl Datagram {
         ensures { result ≡ is_open self.now.standing }
     {
         matches!(self.standing, Standing::Open)
-    }
-
-    /// How many datagrams it is of which fragments are missing: one or none.
-    pub(crate) fn as_open(&self) -> usize
-        ensures { result ≡ as_open self.now }
-    {
-        usize::from(self.is_open())
     }
 
     /// Whether fragments of it are missing, and it counts within the window.
@@ -183,6 +176,19 @@ impl Datagram {
         )
     }
 
+    /// What a fragment is to it, where it lacks none or was dropped.
+    pub(crate) fn settled_step(&self, fragment: &Fragment<'_>) -> Step
+        requires { fragment.now.offset + fragment.now.len < 2 ^ 16 }
+        ensures { result ≡ step_to_settled self.now (fragment_of fragment.now)
+            self.now.standing }
+    {
+        match self.standing {
+            Standing::Whole => step_to_whole(self.pieces.meeting(fragment)),
+            Standing::Other => step_to_other(fragment),
+            Standing::Dropped | Standing::Open => Step::Ignored,
+        }
+    }
+
     /// Takes one fragment more of it.
     pub(crate) fn take(
         &mut self,
@@ -196,10 +202,8 @@ impl Datagram {
         ensures err { OnErr result (self.new ≡ self.old) }
     {
         match self.standing {
-            Standing::Dropped => Ok(Step::Ignored),
-            Standing::Other => Ok(step_to_other(fragment)),
-            Standing::Whole => Ok(step_to_whole(self.pieces.meeting(fragment))),
             Standing::Open => self.take_open(alloc, fragment),
+            _ => Ok(self.settled_step(fragment)),
         }
     }
 

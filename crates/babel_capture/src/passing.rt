@@ -49,7 +49,8 @@ impl Model for Passing {
 
     // Each datagram that is known, or of which fragments are missing, has a packet of its own.
     ghost invariant = { λ p. (p.fragments.last ≤ p.gathered.report.packets)
-        × (p.gathered.report.missing + length p.fragments.known ≤ p.gathered.report.packets) };
+        × (p.gathered.report.missing + length p.fragments.known.unfinished
+        ≤ p.gathered.report.packets) };
 }
 
 /// Tells of the packet in the block at this offset, which is a fragment of a datagram with this
@@ -70,23 +71,23 @@ fn take_step<S: Sink>(
     ensures packets { OnOk result
         (gathered.new.report.packets ≡ gathered.old.report.packets + 1) }
     ensures missing { OnOk result (gathered.new.report.missing ≡ gathered.old.report.missing
-        + length (missing_at step (of_id id.now fragments.now.known))) }
+        + length (missing_at step (of_id id.now fragments.now.known.others))) }
     ensures no_less { IfErr result
         (λ _. gathered.new.report.missing ≡ gathered.old.report.missing) }
     ensures no_fewer { gathered.old.report.packets ≤ gathered.new.report.packets }
     ensures report { gathered.new.report.packets ≤ gathered.old.report.packets + 1 }
     ensures ok { OnOk result (Sinks S.has sink.old sink.new (GatherMore gathered.old gathered.new
-        (missing_at step (of_id id.now fragments.now.known)
+        (missing_at step (of_id id.now fragments.now.known.others)
         ++ sighting_as (gathered.old.report.packets + 1) at (captured_of packet.now)
-        (sight_at step (of_id id.now fragments.now.known)) ∷ []))) }
+        (sight_at step (of_id id.now fragments.now.known.others)) ∷ []))) }
     ensures stopped { IfErr result (λ _. sink.new ≡ sink.old) }
     ensures err { IfErr result (λ fault. (fault ≡ Fault.Memory)
         ⊎ IsRefused gathered.old.wanted gathered.old.senders
-        (missing_at step (of_id id.now fragments.now.known)
+        (missing_at step (of_id id.now fragments.now.known.others)
         ++ sighting_as (gathered.old.report.packets + 1) at (captured_of packet.now)
-        (sight_at step (of_id id.now fragments.now.known)) ∷ []) fault) }
+        (sight_at step (of_id id.now fragments.now.known.others)) ∷ []) fault) }
 {
-    if let Some((number, datagram)) = fragments.find(id) {
+    if let Some((number, datagram)) = fragments.find_settled(id) {
         match step {
             Step::Completes => {
                 let octets = datagram.pieces.joined(alloc)?;
@@ -256,16 +257,18 @@ impl Passing {
         ensures gives { OnOk result (Sinks S.has sink.old sink.new
             (GivesUp (ticked self.old (captured_of packet.now)) self.new)) }
         ensures all { OnOk result
-            (is_past self.new.clock self.new.known ≡ false) }
+            (is_past self.new.clock self.new.known.unfinished ≡ false) }
+        ensures few { OnOk result (is_past self.new.clock self.new.known.others ≡ false) }
         ensures stopped { IfErr result (λ _. Sinks S.has sink.old sink.new (GatherSome
             self.old.gathering (missing_in (given_up (ticked self.old (captured_of
-            packet.now)).clock self.old.known)))) }
+            packet.now)).clock self.old.known.unfinished)))) }
         ensures err { IfErr result (λ fault. IsRefused self.old.gathering.wanted
             self.old.gathering.senders (missing_in (given_up (ticked self.old (captured_of
-            packet.now)).clock self.old.known)) fault) }
+            packet.now)).clock self.old.known.unfinished)) fault) }
         ensures memory { IfErr result (λ fault. fault ≢ Fault.Memory) }
     {
         self.fragments.tick(*time);
+        self.fragments.forget_others();
         self.give_up(sink)
     }
 
@@ -279,12 +282,12 @@ impl Passing {
             ≡ self.old.gathering.report.packets }
         ensures gives { OnOk result (Sinks S.has sink.old sink.new (GivesUp self.old self.new)) }
         ensures all { OnOk result
-            (is_past self.new.clock self.new.known ≡ false) }
+            (is_past self.new.clock self.new.known.unfinished ≡ false) }
         ensures stopped { IfErr result (λ _. Sinks S.has sink.old sink.new (GatherSome
-            self.old.gathering (missing_in (given_up self.old.clock self.old.known)))) }
+            self.old.gathering (missing_in (given_up self.old.clock self.old.known.unfinished)))) }
         ensures err { IfErr result (λ fault. IsRefused self.old.gathering.wanted
-            self.old.gathering.senders (missing_in (given_up self.old.clock self.old.known))
-            fault) }
+            self.old.gathering.senders (missing_in (given_up self.old.clock
+            self.old.known.unfinished)) fault) }
         ensures memory { IfErr result (λ fault. fault ≢ Fault.Memory) }
     {
         // At nearly all packets none is given up, and that is asked without a call.
@@ -303,13 +306,13 @@ impl Passing {
             ≡ self.old.gathering.report.packets }
         ensures gives { OnOk result (Sinks S.has sink.old sink.new (GivesUp self.old self.new)) }
         ensures none { IfOk result (λ gave. gave ≡ false
-            → is_past self.new.clock self.new.known ≡ false) }
+            → is_past self.new.clock self.new.known.unfinished ≡ false) }
         ensures fewer { IfOk result (λ gave. gave ≡ true
-            → length self.new.known < length self.old.known) }
+            → length self.new.known.unfinished < length self.old.known.unfinished) }
         ensures stopped { IfErr result (λ _. sink.new ≡ sink.old) }
         ensures err { IfErr result (λ fault. IsRefused self.old.gathering.wanted
-            self.old.gathering.senders (missing_in (given_up self.old.clock self.old.known))
-            fault) }
+            self.old.gathering.senders (missing_in (given_up self.old.clock
+            self.old.known.unfinished)) fault) }
         ensures memory { IfErr result (λ fault. fault ≢ Fault.Memory) }
     {
         let Some((number, datagram)) = self.fragments.give_up() else {
@@ -329,15 +332,16 @@ impl Passing {
         ensures names { self.new.gathering.names ≡ self.old.gathering.names }
         ensures packets { self.new.gathering.report.packets
             ≡ self.old.gathering.report.packets }
-        ensures none { OnOk result (self.new.known ≡ []) }
+        ensures none { OnOk result (self.new.known.unfinished ≡ []) }
         ensures senders { OnOk result
             (self.new.gathering.senders ≡ self.old.gathering.senders) }
         ensures ok { OnOk result (Sinks S.has sink.old sink.new
-            (GatherMore self.old.gathering self.new.gathering (missing_in self.old.known))) }
+            (GatherMore self.old.gathering self.new.gathering
+            (missing_in self.old.known.unfinished))) }
         ensures stopped { IfErr result (λ _. Sinks S.has sink.old sink.new
-            (GatherSome self.old.gathering (missing_in self.old.known))) }
+            (GatherSome self.old.gathering (missing_in self.old.known.unfinished))) }
         ensures err { IfErr result (λ fault. IsRefused self.old.gathering.wanted
-            self.old.gathering.senders (missing_in self.old.known) fault) }
+            self.old.gathering.senders (missing_in self.old.known.unfinished) fault) }
         ensures memory { IfErr result (λ fault. fault ≢ Fault.Memory) }
     {
         while self.give_up_last(sink)? {}
@@ -354,12 +358,12 @@ impl Passing {
             ≡ self.old.gathering.report.packets }
         ensures gives { OnOk result
             (Sinks S.has sink.old sink.new (GivesLast self.old self.new)) }
-        ensures none { IfOk result (λ gave. gave ≡ false → self.new.known ≡ []) }
+        ensures none { IfOk result (λ gave. gave ≡ false → self.new.known.unfinished ≡ []) }
         ensures fewer { IfOk result (λ gave. gave ≡ true
-            → length self.new.known < length self.old.known) }
+            → length self.new.known.unfinished < length self.old.known.unfinished) }
         ensures stopped { IfErr result (λ _. sink.new ≡ sink.old) }
         ensures err { IfErr result (λ fault. IsRefused self.old.gathering.wanted
-            self.old.gathering.senders (missing_in self.old.known) fault) }
+            self.old.gathering.senders (missing_in self.old.known.unfinished) fault) }
         ensures memory { IfErr result (λ fault. fault ≢ Fault.Memory) }
     {
         let Some((number, datagram)) = self.fragments.give_up_last() else {
@@ -381,7 +385,8 @@ impl Passing {
     ) -> Result<(), Fault>
         requires count { 2 * (self.old.gathering.report.packets + 1) < 2 ^ 64 }
         requires fits { fragment.now.offset + fragment.now.len < 2 ^ 16 }
-        requires room { is_past self.old.clock self.old.known ≡ false }
+        requires room { is_past self.old.clock self.old.known.unfinished ≡ false }
+        requires few { is_past self.old.clock self.old.known.others ≡ false }
         ensures wanted { self.new.gathering.wanted ≡ self.old.gathering.wanted }
         ensures names { self.new.gathering.names ≡ self.old.gathering.names }
         ensures packets { OnOk result (self.new.gathering.report.packets
@@ -439,7 +444,8 @@ impl Passing {
     ) -> Result<(), Fault>
         requires count { 2 * (self.old.gathering.report.packets + 1) < 2 ^ 64 }
         requires fits { fragment.now.offset + fragment.now.len < 2 ^ 16 }
-        requires room { is_past self.old.clock self.old.known ≡ false }
+        requires room { is_past self.old.clock self.old.known.unfinished ≡ false }
+        requires few { is_past self.old.clock self.old.known.others ≡ false }
         ensures wanted { self.new.gathering.wanted ≡ self.old.gathering.wanted }
         ensures names { self.new.gathering.names ≡ self.old.gathering.names }
         ensures packets { OnOk result (self.new.gathering.report.packets

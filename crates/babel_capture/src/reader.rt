@@ -199,11 +199,12 @@ impl Reader {
         ensures senders { OnOk result
             (self.new.gathering.senders ≡ self.old.gathering.senders) }
         ensures ok { OnOk result (Sinks S.has sink.old sink.new
-            (GatherMore self.old.gathering self.new.gathering (missing_in self.old.known))) }
+            (GatherMore self.old.gathering self.new.gathering
+            (missing_in self.old.known.unfinished))) }
         ensures stopped { IfErr result (λ _. Sinks S.has sink.old sink.new
-            (GatherSome self.old.gathering (missing_in self.old.known))) }
+            (GatherSome self.old.gathering (missing_in self.old.known.unfinished))) }
         ensures err { IfErr result (λ fault. IsRefused self.old.gathering.wanted
-            self.old.gathering.senders (missing_in self.old.known) fault) }
+            self.old.gathering.senders (missing_in self.old.known.unfinished) fault) }
         ensures memory { IfErr result (λ fault. fault ≢ Fault.Memory) }
     {
         self.passing.end(sink)

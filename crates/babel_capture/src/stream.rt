@@ -140,10 +140,10 @@ impl Stream {
         ensures ok { IfOk result (λ cut. Sinks S.has sink.old sink.new (EndMore self.old.reader
             self.old.pending.items self.new.reader.gathering cut)) }
         ensures stopped { IfErr result (λ _. Sinks S.has sink.old sink.new
-            (GatherSome self.old.reader.gathering (missing_in self.old.reader.known))) }
+            (GatherSome self.old.reader.gathering (missing_in self.old.reader.known.unfinished))) }
         ensures err { IfErr result (λ fault. (fault ≡ Fault.NotCapture)
             ⊎ IsRefused self.old.reader.gathering.wanted self.old.reader.gathering.senders
-            (missing_in self.old.reader.known) fault) }
+            (missing_in self.old.reader.known.unfinished) fault) }
         ensures fault { IfErr result (λ fault. (limit : Extent) (fed : List ℕ)
             → HasTaken limit self.old.reader self.old.pending.items fed
             → CaptureFault limit self.old.reader.gathering.wanted fed fault) }

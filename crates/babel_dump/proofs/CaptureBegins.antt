@@ -164,7 +164,7 @@ pub read_begins : (reading : CaptureReading) (wanted : Wanted) (octets : List �
     → (is : IsReadToCut (extent_of reading) octets gathering cut) → ReadBegins reading wanted octets is.is_read.gathered.made
 read_begins reading wanted octets gathering cut same is =
     let read = is.is_read in
-    let at_end = missing_in (passage_of read.blocks).known in
+    let at_end = missing_in (passage_of read.blocks).known.unfinished in
     let parts = made_in_two wanted (sightings_of read.blocks) at_end read.gathered.made
     (subst (λ (w : Wanted). AreMade w (sightings_to_end read.blocks) read.gathered.made) same read.gathered.taken.are_made) in
     record {
@@ -181,5 +181,5 @@ read_begins reading wanted octets gathering cut same is =
       };
       all = refl;
       partial = subst (λ (t : List ℕ). IsPartial (context_behind (start (extent_of reading)) read.blocks) (length t) is.rest) read.whole is.partial;
-      packets = ap packets_made parts.whole ∙ packets_on parts.first parts.later (uncounted_at_end wanted (passage_of read.blocks).known parts.later parts.are_later);
+      packets = ap packets_made parts.whole ∙ packets_on parts.first parts.later (uncounted_at_end wanted (passage_of read.blocks).known.unfinished parts.later parts.are_later);
     }

@@ -53,7 +53,7 @@ abbrev pub moment_by : Extent → Before → Timing → Option ℕ
 moment_by extent behind timing = if timing.has_untimed then None else moment_up_to extent.window behind.start timing.latest
 
 -- fragments that are missing at its end refuse it
-pub lost_of : (state : State) (fault : Fault) → state.fault ≡ None → IsRefused state.progress.gathering.wanted state.progress.gathering.senders (missing_in state.progress.known) fault
+pub lost_of : (state : State) (fault : Fault) → state.fault ≡ None → IsRefused state.progress.gathering.wanted state.progress.gathering.senders (missing_in state.progress.known.unfinished) fault
     → (fed : List ℕ) → HasRead state fed → EndsLost state.limit state.progress.gathering.wanted fed fault
 lost_of state fault none refuses fed read =
     lost-here state.limit state.progress state.pending fed (subst (λ (f : Option Fault). HasReadTo state f fed) none read) fault refuses

@@ -163,7 +163,7 @@ cut_refused events fed told old ended at is read wanted not_accepted = (
 -- it is none, or fragments are missing at its end
 pub whole_refused : (events : Events) (fed : List ℕ) (told : List (Telling Speaker)) (followed : Followed) (fault : Fault) → IsFollowed events fed told followed → fault ≢ capture_faults.Memory
     → (fault ≡ capture_faults.NotCapture)
-    ⊎ IsRefusedAtEnd followed.capture.progress.gathering.wanted followed.capture.progress.gathering.senders (missing_in followed.capture.progress.known) fault
+    ⊎ IsRefusedAtEnd followed.capture.progress.gathering.wanted followed.capture.progress.gathering.senders (missing_in followed.capture.progress.known.unfinished) fault
     → (fault ≢ capture_faults.Memory → (octets : List ℕ) → HasRead followed.capture octets
     → CaptureFault followed.capture.limit followed.capture.progress.gathering.wanted octets fault) → RefusesWhole events fed fault
 whole_refused events fed told followed fault is not_memory why refused = (
@@ -232,13 +232,13 @@ made_to_end events octets gathering cut made wanted is same =
     }
 
 some_to_end : (events : Events) (octets : List ℕ) (progress : Progress) (pending : List ℕ) (more : List Made) → progress.gathering.wanted ≡ followed_by events
-    → (was : HasTaken (followed_extent events) progress pending octets) → GatherSome progress.gathering (missing_in progress.known) more
+    → (was : HasTaken (followed_extent events) progress pending octets) → GatherSome progress.gathering (missing_in progress.known.unfinished) more
     → IsMadeToEnd (reading_by events) (followed_by events) octets (was.leads.gathered.made ++ more)
 some_to_end events octets progress pending more wanted was some =
     let blocks = was.leads.blocks in
     let seen = sightings_of blocks in
     let at_end = some seen was.leads.gathered in
-    let known : missing_in progress.known ≡ missing_in (passage_of blocks).known = ap (λ (p : Passage). missing_in p.known) was.leads.passage in
+    let known : missing_in progress.known.unfinished ≡ missing_in (passage_of blocks).known.unfinished = ap (λ (p : Passage). missing_in p.known.unfinished) was.leads.passage in
     record {
       blocks = blocks;
       rest = was.rest;
@@ -280,7 +280,7 @@ module _ (events : Events) (fed : List ℕ) (told : List (Telling Speaker)) (old
 
   pub record_at_end : {E : Type 0} (new : State) (result : Result (Option ℕ) E)
       → IfOk result (λ cut. Sinks Follows old.follower follower (EndMore old.capture.progress old.capture.pending new.progress.gathering cut))
-      → IfErr result (λ _. Sinks Follows old.follower follower (GatherSome old.capture.progress.gathering (missing_in old.capture.progress.known)))
+      → IfErr result (λ _. Sinks Follows old.follower follower (GatherSome old.capture.progress.gathering (missing_in old.capture.progress.known.unfinished)))
       → new.progress.gathering.wanted ≡ old.capture.progress.gathering.wanted → RefusesToEnd events fed (trouble_of stop)
   record_at_end new (Ok cut) sunk behind wanted =
       let read = sunk.are_read (followed_extent events) fed is.read in

@@ -36,8 +36,8 @@ same_made extent fed progress pending gathering cut wanted was is = by blocks
     blocks = blocks_one (start extent) 0 is.is_read.blocks was.leads.blocks is.rest was.rest is.is_read.are_blocks was.leads.are_blocks
         (ap (λ (t : List ℕ). t ++ is.rest) (sym is.is_read.whole) ∙ sym is.whole ∙ was.whole ∙ ap (λ (t : List ℕ). t ++ was.rest) was.leads.whole) partial_too partial
 
-    parts : MadeInTwo progress.gathering.wanted (sightings_of is.is_read.blocks) (missing_in (passage_of is.is_read.blocks).known) is.is_read.gathered.made
-    parts = made_in_two progress.gathering.wanted (sightings_of is.is_read.blocks) (missing_in (passage_of is.is_read.blocks).known) is.is_read.gathered.made
+    parts : MadeInTwo progress.gathering.wanted (sightings_of is.is_read.blocks) (missing_in (passage_of is.is_read.blocks).known.unfinished) is.is_read.gathered.made
+    parts = made_in_two progress.gathering.wanted (sightings_of is.is_read.blocks) (missing_in (passage_of is.is_read.blocks).known.unfinished) is.is_read.gathered.made
         (subst (λ (w : Wanted). AreMade w (sightings_to_end is.is_read.blocks) is.is_read.gathered.made) wanted is.is_read.gathered.taken.are_made)
 
     by : (is.is_read.blocks ≡ was.leads.blocks) × (is.rest ≡ was.rest) → IsSameRead extent fed progress pending gathering cut was is
@@ -47,5 +47,5 @@ same_made extent fed progress pending gathering cut wanted was is = by blocks
       made = parts.whole ∙ ap (λ (m : List Made). m ++ parts.later)
           (made_one progress.gathering.wanted (sightings_of is.is_read.blocks) parts.first was.leads.gathered.made parts.are_first
           (subst (λ (bs : List BlockAt). AreMade progress.gathering.wanted (sightings_of bs) was.leads.gathered.made) (sym same) was.leads.gathered.taken.are_made));
-      uncounted = uncounted_at_end progress.gathering.wanted (passage_of is.is_read.blocks).known parts.later parts.are_later;
+      uncounted = uncounted_at_end progress.gathering.wanted (passage_of is.is_read.blocks).known.unfinished parts.later parts.are_later;
     }

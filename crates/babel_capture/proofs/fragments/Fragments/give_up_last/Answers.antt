@@ -1,5 +1,6 @@
-use Rattle.babel_capture.proofs.FragmentLaws.{up-to-popped}
+use Rattle.babel_capture.proofs.FragmentLaws.{numbered-popped}
 use Rattle.babel_capture.proofs.fragments.Fragments.give_up_last.Goals as goal
 
 pub invariant_of-self : goal.invariant_of-self
-invariant_of-self c = up-to-popped c.self.inside.last c.self.inside.known c.pop.new.self c.pop.result c.pop.ensures.none c.pop.ensures.some c.self.invariant
+invariant_of-self c =
+    numbered-popped c.self.inside.last c.self.inside.unfinished c.self.inside.others c.self.invariant c.pop.new.self c.pop.result c.pop.ensures.none c.pop.ensures.some

@@ -14,14 +14,14 @@ returns-in_default c =
     let id = c.args.id.now in
     let none : lookup (is_at (ghosts.cmp id)) c.self.inside.numbers.entries ≡ None = sym c.get.ensures.value ∙ sym c.copied.ensures ∙ c.in_default.is in
     let nothing : Option (ℕ × Datagram) = None in
-    subst (λ (k : Known). nothing ≡ of_id id k) c.self.view_is (sym (unknown-by c.self.inside.numbers.entries c.self.inside.datagrams.entries c.self.inside.octets c.self.inside.open_count c.self.invariant id none))
+    subst (λ (k : Known). nothing ≡ of_id id k) c.self.view_is (sym (unknown-by c.self.inside.numbers.entries c.self.inside.datagrams.entries c.self.inside.octets c.self.invariant id none))
 
 pub unwrap-datagram-requires : goal.unwrap-datagram-requires
 unwrap-datagram-requires c =
     let id = c.args.id.now in
     let named : lookup (is_at (ghosts.cmp id)) c.self.inside.numbers.entries ≡ Some c.in-Some.number = sym c.get.ensures.value ∙ sym c.copied.ensures ∙ c.in-Some.is in
     some-lent c.get-2.result _ c.get-2.ensures.value
-    (held-by c.self.inside.numbers.entries c.self.inside.datagrams.entries c.self.inside.octets c.self.inside.open_count c.self.invariant id c.in-Some.number named)
+    (held-by c.self.inside.numbers.entries c.self.inside.datagrams.entries c.self.inside.octets c.self.invariant id c.in-Some.number named)
 
 pub returns : goal.returns
 returns c =
@@ -33,4 +33,4 @@ returns c =
     let found : lookup (is_at (nat_cmp number)) known ≡ Some datagram = search rules in
     let one : ℕ × Datagram = (number, datagram) in
     subst (λ (k : Known). Some one ≡ of_id id k) c.self.view_is
-    (sym (known-by c.self.inside.numbers.entries known c.self.inside.octets c.self.inside.open_count c.self.invariant id number datagram named found))
+    (sym (known-by c.self.inside.numbers.entries known c.self.inside.octets c.self.invariant id number datagram named found))

@@ -12,5 +12,5 @@ invariant_of-self-2 c =
     let oldest = c.in_ok-number.oldest in
     let is : c.self.inside.datagrams.entries ≡ (number, oldest) ∷ c.pop_first.new.self.entries = search rules in
     let unnamed : c.remove.new.self.entries ≡ remove_entry (is_at (ghosts.cmp oldest.id)) c.self.inside.numbers.entries = search rules in
-    indexed-pop c.self.inside.numbers.entries c.self.inside.datagrams.entries c.self.inside.octets c.self.inside.open_count c.self.invariant number oldest c.pop_first.new.self.entries c.remove.new.self.entries c.from.result c.as_open.result
-    is unnamed c.remove.ensures.ordered c.pop_first.ensures.ordered (c.from.ensures ∙ c.len.ensures) c.as_open.ensures
+    indexed-pop c.self.inside.numbers.entries c.self.inside.datagrams.entries c.self.inside.octets c.self.invariant number oldest c.pop_first.new.self.entries c.remove.new.self.entries c.from.result
+    is unnamed c.remove.ensures.ordered c.pop_first.ensures.ordered (c.from.ensures ∙ c.len.ensures)

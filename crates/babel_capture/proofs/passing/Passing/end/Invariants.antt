@@ -12,4 +12,4 @@ invariant-loop g l = record {
 }
 
 abbrev pub decreases-loop : goal.decreases-loop
-decreases-loop g l = length l.self.known
+decreases-loop g l = length l.self.known.unfinished

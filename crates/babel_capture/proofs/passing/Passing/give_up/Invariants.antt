@@ -12,4 +12,4 @@ invariant-loop-self g l = record {
 }
 
 abbrev pub decreases-loop-self : goal.decreases-loop-self
-decreases-loop-self g l = length l.self.known
+decreases-loop-self g l = length l.self.known.unfinished

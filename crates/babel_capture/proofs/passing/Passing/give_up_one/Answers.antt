@@ -31,7 +31,7 @@ returns-clause-gives g c =
           let is : is_lost one.1 ≡ true = sym c.is_lost.ensures ∙ w.if-is_lost.true in
           let are_left = subst (AreLeft old.gathering.wanted) (sym (missing-lost one is)) (w.in_ok-miss.ensures.taken, tt) in
           rw (w.sink-is, w.self-is) (subst (λ (v : Passed). Sinks g.S.Sink.has c.args.sink.now w.miss.new.sink (GivesUp v new)) c.self.view_is
-          (sinks-as g.S.Sink.has c.args.sink.now w.miss.new.sink _ (GivesUp old new) (λ more goes. gives-one old new one more some.0 some.1 some.2 w.miss.ensures.packets w.miss.ensures.senders w.miss.ensures.names
+          (sinks-as g.S.Sink.has c.args.sink.now w.miss.new.sink _ (GivesUp old new) (λ more goes. gives-one old new one more some.0 some.1 some.2 some.4 w.miss.ensures.packets w.miss.ensures.senders w.miss.ensures.names
           w.miss.ensures.wanted are_left (subst (λ (s : List Sighting). GatherMore old.gathering new.gathering s more) (sym (missing-lost one is)) goes))
           w.in_ok-miss.ensures.ok))
       | else-is_lost w ↦
@@ -40,6 +40,6 @@ returns-clause-gives g c =
           let are_left = subst (AreLeft old.gathering.wanted) (sym (missing-other one is)) tt in
           let none : List Made = [] in
           rw (w.sink-is, w.self-is) (subst (λ (v : Passed). Sinks g.S.Sink.has c.args.sink.now c.args.sink.now (GivesUp v new)) c.self.view_is
-          (sinks-none g.S.Sink.has c.args.sink.now (GivesUp old new) (gives-one old new one none some.0 some.1 some.2 refl refl refl refl are_left
+          (sinks-none g.S.Sink.has c.args.sink.now (GivesUp old new) (gives-one old new one none some.0 some.1 some.2 some.4 refl refl refl refl are_left
           (subst (λ (s : List Sighting). GatherMore old.gathering new.gathering s none) (sym (missing-other one is)) (no-more old.gathering new.gathering refl refl refl)))))
     ]

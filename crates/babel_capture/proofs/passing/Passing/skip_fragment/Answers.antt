@@ -10,7 +10,7 @@ invariant_of-self g c =
     let number = c.packets-number.result + 1 in
     let fragment = fragment_of c.args.fragment.now in
     let packets : c.packets-number.result ≡ c.self.inside.gathered.report.packets = c.packets-number.ensures ∙ ap (λ (r : Counts). r.packets) c.report.ensures in
-    let few : length c.take.new.self.known ≤ length old.known + 1 = rw c.in-Ok.ensures.known (known-longer old.known number c.args.at old.clock c.args.packet.now.ends_within fragment) in (
+    let few : length c.take.new.self.known.unfinished ≤ length old.known.unfinished + 1 = rw c.in-Ok.ensures.known (known-longer old.known number c.args.at old.clock c.args.packet.now.ends_within fragment) in (
       omega (arith, c.take.ensures.last, packets, c.skip.ensures.packets),
       omega (arith, few, c.self.invariant.1, c.skip.ensures.missing, c.skip.ensures.packets),
     )

@@ -7,7 +7,8 @@ use Rattle.babel_capture.specs.Counts.{Made}
 use Rattle.babel_capture.specs.Fragments.{is_past}
 use Rattle.babel_capture.specs.Passage.{Sighting, known_after, sight_in, sightings_skipped, skipped_of}
 use Rattle.babel_capture.specs.Passing.{GivesUp, Passed, passage_of_passed, ticked}
-use Rattle.babel_capture.specs.Sight.{sight_of}
+use Rattle.babel_capture.specs.Pieces.{fragment_of}
+use Rattle.babel_capture.specs.Sight.{fragmented, sight_of}
 use Rattle.babel_capture.specs.Sinking.{GatherSome, Sinks}
 use Rattle.babel_capture.specs.contracts.passing.Passing.{the_view}
 use Rattle.babel_capture.proofs.GatherLaws.{some-none}
@@ -61,13 +62,29 @@ returns-in-Fragment-clause-stopped g c =
     (some-all old mid c.args.at packet one gave none all skipped [] (all-skipped old mid c.args.at packet one gave none) (some-none mid.gathering skipped))) c.in_ok-pass_time.ensures.gives))
     c.skip_fragment.ensures.stopped
 
+pub returns-in-Fragment-clause-passage : goal.returns-in-Fragment-clause-passage
+returns-in-Fragment-clause-passage g c =
+    let old = c.args.self.now in
+    let mid = c.pass_time.new.self in
+    let new = c.skip_fragment.new.self in
+    let r = c.skip_fragment.result in
+    let packet = captured_of c.args.packet.now in
+    let gives = c.in_ok-pass_time.ensures.gives in
+    let none = c.in_ok-pass_time.ensures.all in
+    let sight : sight_in packet ≡ fragmented (fragment_of c.in-Fragment.fragment) = sym c.look-seen.ensures ∙ ap sight_of c.in-Fragment.is in
+    let e = c.skip_fragment.ensures in
+    let known = known_after (passage_of_passed mid) c.args.at packet.ends_within in
+    ok-both r (λ packets (both : (new.clock ≡ mid.clock) × (new.known ≡ known (fragmented (fragment_of c.in-Fragment.fragment)))).
+    passage-all old mid c.args.at packet gives.more gives.are_read none new packets both.0 (both.1 ∙ ap known (sym sight)))
+    e.packets (ok-both r (λ clock is. (clock, is)) e.clock e.known)
+
 pub returns : goal.returns
 returns g c =
     let old = c.args.self.now in
     let mid = the_view c.self.inside in
     let packet = captured_of c.args.packet.now in
     let gives = subst (λ (v : Passed). Sinks g.S.Sink.has c.args.sink.now c.pass_time.new.sink (GivesUp (ticked old packet) v)) (sym c.self.view_is) c.in_ok-pass_time.ensures.gives in
-    let none = subst (λ (v : Passed). is_past v.clock v.known ≡ false) (sym c.self.view_is) c.in_ok-pass_time.ensures.all in
+    let none = subst (λ (v : Passed). is_past v.clock v.known.unfinished ≡ false) (sym c.self.view_is) c.in_ok-pass_time.ensures.all in
     let is = gives.are_read.1 in
     let others = seen-other (passage_of_passed mid) c.args.at packet c.look-seen.result c.in_default.not-Fragment in
     let skipped : List Sighting = skipped_of (mid.gathering.report.packets + 1) c.args.at packet ∷ [] in

@@ -88,6 +88,22 @@ returns-in-Fragment-clause-err g c =
     IfErr-weaker c.take_fragment.result _ _ (λ fault told. else-by (λ refuses. refused-all old mid c.args.at packet gives.more gives.are_read none (sightings_at (passage_of_passed old) c.args.at packet) sights fault
     (all-seen old mid c.args.at packet gives.more gives.are_read none sights are) refuses) told) c.take_fragment.ensures.err
 
+pub returns-in-Fragment-clause-passage : goal.returns-in-Fragment-clause-passage
+returns-in-Fragment-clause-passage g c =
+    let old = c.args.self.now in
+    let mid = c.pass_time.new.self in
+    let new = c.take_fragment.new.self in
+    let r = c.take_fragment.result in
+    let packet = captured_of c.args.packet.now in
+    let gives = c.in_ok-pass_time.ensures.gives in
+    let none = c.in_ok-pass_time.ensures.all in
+    let sight : sight_in packet ≡ fragmented (fragment_of c.in-Fragment.fragment) = sym c.look-seen.ensures ∙ ap sight_of c.in-Fragment.is in
+    let e = c.take_fragment.ensures in
+    let known = known_after (passage_of_passed mid) c.args.at packet.ends_within in
+    ok-both r (λ packets (both : (new.clock ≡ mid.clock) × (new.known ≡ known (fragmented (fragment_of c.in-Fragment.fragment)))).
+    passage-all old mid c.args.at packet gives.more gives.are_read none new packets both.0 (both.1 ∙ ap known (sym sight)))
+    e.packets (ok-both r (λ clock is. (clock, is)) e.clock e.known)
+
 pub returns : goal.returns
 returns g c =
     let old = c.args.self.now in
@@ -95,7 +111,7 @@ returns g c =
     let packet = captured_of c.args.packet.now in
     let seen = sight_of c.look-seen.result in
     let gives = subst (λ (v : Passed). Sinks g.S.Sink.has c.args.sink.now c.pass_time.new.sink (GivesUp (ticked old packet) v)) (sym c.self.view_is) c.in_ok-pass_time.ensures.gives in
-    let none = subst (λ (v : Passed). is_past v.clock v.known ≡ false) (sym c.self.view_is) c.in_ok-pass_time.ensures.all in
+    let none = subst (λ (v : Passed). is_past v.clock v.known.unfinished ≡ false) (sym c.self.view_is) c.in_ok-pass_time.ensures.all in
     let is = gives.are_read.1 in
     let others = seen-other (passage_of_passed mid) c.args.at packet c.look-seen.result c.in_default.not-Fragment in
     let sights : List Sighting = sighting_as (mid.gathering.report.packets + 1) c.args.at packet seen ∷ [] in

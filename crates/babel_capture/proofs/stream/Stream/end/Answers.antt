@@ -13,7 +13,7 @@ use Rattle.babel_capture.proofs.stream.Stream.end.Goals as goal
 pub returns-then-not-has_started-clause-stopped : goal.returns-then-not-has_started-clause-stopped
 returns-then-not-has_started-clause-stopped g c =
     sinks-as g.S.Sink.has c.args.sink.now c.end.new.sink _ _
-    (λ more goes. some-all c.args.self.now.reader.gathering c.end.new.self.gathering (missing_in c.args.self.now.reader.known) more c.end.ensures.wanted goes) c.in_ok-end.ensures.ok
+    (λ more goes. some-all c.args.self.now.reader.gathering c.end.new.self.gathering (missing_in c.args.self.now.reader.known.unfinished) more c.end.ensures.wanted goes) c.in_ok-end.ensures.ok
 
 pub returns-then-not-has_started-clause-fault : goal.returns-then-not-has_started-clause-fault
 returns-then-not-has_started-clause-fault g c =
