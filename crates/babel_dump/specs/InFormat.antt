@@ -8,7 +8,10 @@ use Rattle.babel_tlv.specs.Pair.{Pair}
 use Rattle.babel_tlv.specs.Route.{RouteKey}
 use Rattle.babel_tlv.specs.Views.{keeps_all}
 use Rattle.babel_table.specs.Counts.{Counts}
+use Rattle.babel_table.specs.RowFor.{row_at}
 use Rattle.babel_table.specs.Rows.{Routes}
+use Rattle.babel_table.specs.TableRows.{family_rows}
+use Rattle.babel_table.specs.declared.row_place.RowPlace.{RowPlace}
 use Rattle.babel_canon.specs.declared.verdict.Verdict.{Verdict}
 use Rattle.babel_canon.specs.declared.every_difference.Difference.{Difference}
 use Rattle.babel_dump.specs.JsonText.{count_json, counts_json, difference_json}
@@ -77,6 +80,17 @@ pair_in format with_prefix table pair =
 -- a line for each pair of addresses
 abbrev pub each_in : Format → (with_prefix : Bool) → Routes → List AddrPair → List ℕ
 each_in format with_prefix table pairs = flat_map (pair_in format with_prefix table) pairs
+
+-- the line by the row that stands at this place among those of the family, and one for each
+abbrev pub placed_line_in : Format → (with_prefix : Bool) → Routes → AddrPair × RowPlace → List ℕ
+placed_line_in format with_prefix table (pair, place) =
+    answer_line_in format with_prefix pair.dst pair.src
+    (row_at (family_rows pair.dst.family table.rows) place)
+
+abbrev pub placed_in :
+    Format → (with_prefix : Bool) → Routes → List (AddrPair × RowPlace) → List ℕ
+placed_in format with_prefix table placed =
+    flat_map (placed_line_in format with_prefix table) placed
 
 abbrev pub verdict_in : Format → View → Verdict → List ℕ
 verdict_in (formats.Text style) view verdict = verdict_text style view verdict

@@ -1,13 +1,13 @@
 -- What a run writes of what it found. These are this project's own.
 use Rattle.std.specs.Prelude.{ℕ, ◌≡◌, ◌⊎◌, List, [], ◌++◌, Result, Ok, Err, IfOk, IfErr}
 use Rattle.std.specs.Result.{IsErrAnd}
-use Rattle.std.specs.List.{flat_map}
+use Rattle.std.specs.List.{flat_map, zip}
 use Rattle.babel_dump.specs.CaptureText.{senders_in}
 use Rattle.babel_dump.specs.Changes.{changes_of}
 use Rattle.babel_dump.specs.Command.{IsOfMemory}
 use Rattle.babel_dump.specs.DiffText.{change_text}
 use Rattle.babel_dump.specs.Filter.{kept_rows}
-use Rattle.babel_dump.specs.InFormat.{difference_in, each_in, pairs_in}
+use Rattle.babel_dump.specs.InFormat.{difference_in, pairs_in, placed_in}
 use Rattle.babel_dump.specs.Run.{Output}
 use Rattle.babel_dump.specs.Names.{style_of}
 use Rattle.babel_dump.specs.Slices.{WroteText}
@@ -31,7 +31,8 @@ diff_lines style diff =
 abbrev pub lines_of : Format → Rows → List ℕ
 lines_of format (rows.Table filter view table) = pairs_in format view (kept_rows filter table.rows)
 lines_of format (rows.Pairs filter view pairs) = pairs_in format view (kept_rows filter pairs)
-lines_of format (rows.Answers with_prefix pairs table) = each_in format with_prefix table pairs.items
+lines_of format (rows.Answers with_prefix answers) =
+    placed_in format with_prefix answers.table (zip answers.asked.items answers.places.items)
 lines_of format (rows.Differences view differences) =
     flat_map (difference_in format view) (changes_of differences)
 lines_of format (rows.Diff diff) = diff_lines (style_of format) diff

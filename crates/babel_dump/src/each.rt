@@ -1,4 +1,6 @@
 ghost use Rattle.std.specs.Prelude.{◌≡◌, IfOk, map};
+ghost use Rattle.std.specs.List.{AllZip};
+ghost use Rattle.babel_table.specs.RowFor.{IsPlaceFor};
 ghost use Rattle.babel_dump.specs.Device.{HasRoomToCount};
 ghost use Rattle.babel_dump.specs.Each.{GavePairsOf, LooksUpEach, RefusesPairs};
 ghost use Rattle.babel_dump.specs.Given.{read_from};
@@ -8,6 +10,7 @@ ghost use Rattle.babel_dump.specs.RunText.{pair_status};
 ghost use Rattle.babel_dump.specs.declared.format.Format.{Format};
 
 use crate::addr_pair::AddrPair;
+use crate::answers::Answers;
 use crate::asked_pairs::asked_pairs;
 use crate::byte_in::ByteIn;
 use crate::format::Format;
@@ -18,7 +21,7 @@ use crate::reading::Reading;
 use crate::run_fault::RunFault;
 use crate::slices::{Found, Rows};
 use crate::statuses::status_of_all;
-use babel_table::Table;
+use babel_table::{RowPlace, Table};
 use std::alloc::{AllocError, Global};
 
 /// Reads the pairs that a text asks for, of no more octets than a dump may have.
@@ -48,20 +51,35 @@ pub(crate) fn found_answers(
     ensures statuses { IfOk result
         (λ found. found.1.items ≡ map (pair_status table) asked.items) }
 {
-    let statuses = pair_statuses(alloc, &table, &asked)?;
+    let (places, statuses) = look_up(alloc, &table, &asked)?;
     let outcome = Outcome::of_dump(status_of_all(&statuses), *table.report());
-    let rows = Rows::Answers(with_prefix, asked, table);
+    let answers = Answers {
+        asked,
+        places,
+        table,
+    };
+    let rows = Rows::Answers(with_prefix, answers);
     Ok((Found::rows(rows, Vec::new(alloc), outcome), statuses))
 }
 
-/// The status of what a table answers for each of these pairs.
-fn pair_statuses(alloc: Global, table: &Table, asked: &[AddrPair]) -> Result<Vec<u8>, AllocError>
-    ensures { IfOk result
-        (λ statuses. statuses.items ≡ map (pair_status table.now) asked.now) }
+/// Where the row stands by which a table answers for each of these pairs, and the status of each.
+fn look_up(
+    alloc: Global,
+    table: &Table,
+    asked: &[AddrPair],
+) -> Result<(Vec<RowPlace>, Vec<u8>), AllocError>
+    ensures places { IfOk result (λ found. AllZip
+        (λ pair place. IsPlaceFor table.now.rows pair.dst pair.src place)
+        asked.now found.0.items) }
+    ensures statuses { IfOk result
+        (λ found. found.1.items ≡ map (pair_status table.now) asked.now) }
 {
+    let mut places = Vec::with_capacity(alloc, asked.len())?;
     let mut statuses = Vec::with_capacity(alloc, asked.len())?;
     for pair in asked {
-        statuses.push(lookup_status(&table.best(&pair.dst, &pair.src)))?;
+        let place = table.best_place(&pair.dst, &pair.src);
+        places.push(place)?;
+        statuses.push(lookup_status(&table.row_at(pair.dst.family(), place)))?;
     }
-    Ok(statuses)
+    Ok((places, statuses))
 }

@@ -3,20 +3,20 @@
 //! before the first octet is written.
 ghost use Rattle.std.specs.Prelude.{◌≡◌, ◌∷◌, ◌++◌, ◌-◌, ◌^◌, ◌<◌, ◌≤◌, [], OnOk};
 ghost use Rattle.std.specs.Prelude.{vec_capacity};
-ghost use Rattle.std.specs.List.{flat_map};
+ghost use Rattle.std.specs.List.{flat_map, zip};
 ghost use Rattle.babel_dump.specs.CaptureText.{escape, sender_in, senders_in, with_times};
 ghost use Rattle.babel_dump.specs.Changes.{changes_of};
 ghost use Rattle.babel_dump.specs.NameText.{escaped};
 ghost use Rattle.babel_dump.specs.Device.{HasRoomToWrite};
 ghost use Rattle.babel_dump.specs.Filter.{kept_rows};
-ghost use Rattle.babel_dump.specs.InFormat.{difference_in, each_in, pairs_in};
+ghost use Rattle.babel_dump.specs.InFormat.{difference_in, pairs_in, placed_in};
 ghost use Rattle.babel_dump.specs.Run.{output};
 ghost use Rattle.babel_dump.specs.SlicedRows.{Finished, found_text, lines_of};
 ghost use Rattle.babel_dump.specs.Slices.{HasRoom, WroteFront, WroteText};
 ghost use Rattle.babel_dump.specs.declared.format.Format.{Format};
 
 use crate::absence::Absence;
-use crate::addr_pair::AddrPair;
+use crate::answers::Answers;
 use crate::aside::Aside;
 use crate::byte_out::ByteOut;
 use crate::capture_notes::CaptureNotes;
@@ -46,8 +46,8 @@ pub(crate) enum Rows {
     Table(Filter, View, Table),
     /// The pairs that a filter keeps, as a view shows them.
     Pairs(Filter, View, CanonicalPairs),
-    /// What a table answers for each of these pairs, with the row that answers or without.
-    Answers(bool, Vec<AddrPair>, Table),
+    /// What a table answers for each of some pairs, with the row that answers or without.
+    Answers(bool, Answers),
     /// Differences, as a view shows them.
     Differences(View, Changes),
     /// What two dumps hold differently, as people read it.
@@ -155,8 +155,8 @@ fn write_rows<W: ByteOut>(
         Rows::Pairs(filter, view, pairs) => {
             write_pairs(writer, format, filter, view, pairs, buffer)
         }
-        Rows::Answers(with_prefix, asked, table) => {
-            write_answers(writer, format, with_prefix, &asked, &table, buffer)
+        Rows::Answers(with_prefix, answers) => {
+            write_answers(writer, format, with_prefix, &answers, buffer)
         }
         Rows::Differences(view, changes) => {
             write_differences(writer, format, view, &changes, buffer)
@@ -240,27 +240,27 @@ fn write_pairs<W: ByteOut>(
     pairs.put(&mut lines)
 }
 
-/// Writes what a table answers for each of these pairs, but for the last of the lines, which the
+/// Writes what a table answers for each of some pairs, but for the last of the lines, which the
 /// buffer has.
 fn write_answers<W: ByteOut>(
     writer: &mut W,
     format: &Format,
     with_prefix: bool,
-    asked: &[AddrPair],
-    table: &Table,
+    answers: &Answers,
     buffer: &mut Vec<u8>,
 ) -> Result<(), WriteFailed>
     requires few_failures { (W.state writer.old).failures < 2 ^ 64 - 1 }
     requires empty { buffer.old.items ≡ [] }
     requires room { 2048 ≤ vec_capacity buffer.old }
     ensures { WroteFront (output (W.state writer.old) (W.state writer.new))
-        (each_in format.now with_prefix table.now asked.now) buffer.new.items result }
+        (placed_in format.now with_prefix answers.now.table
+        (zip answers.now.asked.items answers.now.places.items)) buffer.new.items result }
 {
-    for pair in asked {
+    for (pair, place) in answers.asked.iter().zip(&answers.places) {
         make_room(writer, buffer)?;
         let answered = Answered {
             pair: *pair,
-            row: table.best(&pair.dst, &pair.src),
+            row: answers.table.row_at(pair.dst.family(), *place),
             with_prefix,
         };
         push_answer(buffer, format, &answered);
